@@ -14,6 +14,8 @@ from concurrent.futures import ProcessPoolExecutor, ThreadPoolExecutor
 TOP = os.path.dirname(os.path.dirname(os.path.abspath(__file__)))
 sys.path.insert(0, os.path.join(TOP, "bindings", "python"))
 
+from passing import raises
+
 import blobcrash
 from blobcrash import Failed, Library, LostWork, NotDeterministic, PowerLoss, Program, StorageError, Store, Unexplorable, explore, seeds
 
@@ -22,15 +24,6 @@ PREFIX = ["write 0 1 1 2 prefix"]
 
 class Skipped(Exception):
     """A test needs a package that is missing."""
-
-
-def raises(error, call, *arguments, **named):
-    """The error that a call raises, which is one of this kind."""
-    try:
-        result = call(*arguments, **named)
-    except error as raised:
-        return raised
-    raise AssertionError(f"{error} isn't raised, and the result is {result!r}")
 
 
 def content(store):

@@ -4,6 +4,15 @@ import os
 import traceback
 
 
+def raises(error, call, *arguments, **named):
+    """The error that a call raises, which is one of this kind."""
+    try:
+        result = call(*arguments, **named)
+    except error as raised:
+        return raised
+    raise AssertionError(f"{error} isn't raised, and the result is {result!r}")
+
+
 def run_tests(names, chosen):
     """Runs the functions of a module that begin with `test_`, or the chosen ones, prints `N passed, M failed`, and returns a status."""
     own = os.path.basename(names["__file__"])

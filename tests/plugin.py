@@ -64,6 +64,29 @@ class Ran:
         return [line for line in script if not line.startswith(("words", "config", "seed", "# choose"))]
 
 
+def test_files():
+    ran = Ran("""
+@pytest.mark.blobcrash_files(seeds=8, profile="xfs")
+def test_forgets(blobcrash_files):
+    for count in range(blobcrash_files.choose(3) + 1):
+        blobcrash_files.open(f"/{count}", "xb").close()
+    blobcrash_files.restart()
+    assert blobcrash_files.exists("/0")
+
+@pytest.mark.blobcrash_files(seeds=8)
+def test_syncs(blobcrash_files):
+    blobcrash_files.open("/0", "xb").close()
+    blobcrash_files.fsync_directory("/")
+    blobcrash_files.restart()
+    assert blobcrash_files.exists("/0")
+""")
+    assert ran.counted("passed") >= 8 and 0 < ran.counted("failed") < 8 and ran.status == 1, ran.text
+    assert len(ran.scripts) == ran.counted("failed") + 1, ran.scripts.keys()
+    script = ran.short()
+    assert script[:2] == ["profile xfs", "create /0 is 0"] and "crash" in script, script
+    assert "a smaller run that fails, of 3 calls" in ran.text, ran.text
+
+
 LOST = ["open p 62", "write 0 0 78", "crash", "close 0", "reopen", "open p 62"]
 
 

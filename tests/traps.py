@@ -13,19 +13,12 @@ import traceback
 TOP = os.path.dirname(os.path.dirname(os.path.abspath(__file__)))
 sys.path.insert(0, os.path.join(TOP, "bindings", "python"))
 
+from passing import raises
+
 import blobcrash
 from blobcrash import BadLine, Injected, Interrupted, Library, NeedsSeed, NoHandle, Program, ProgramEnded, StaleHandle, Store, WrongThread
 
 BY = Program if sys.argv[1:] == ["pipe"] else Library
-
-
-def raises(error, call, *arguments, **named):
-    """The error that a call raises, which is one of this kind."""
-    try:
-        result = call(*arguments, **named)
-    except error as raised:
-        return raised
-    raise AssertionError(f"{error} isn't raised, and the result is {result!r}")
 
 
 def printed(script):

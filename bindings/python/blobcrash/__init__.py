@@ -17,6 +17,8 @@ refuses raises the error that is named like its reply: `error BlobMissing p 62` 
 argument that isn't one raises `TypeError` or `ValueError`, and nothing is sent. `store.script` is a script that makes the same calls
 again. Its lines and replies are those of docs/FORMATS.md. A store belongs to one thread.
 
+`Files(seed=7, profile="ext4")` is a file system that crashes, with the calls of `os` and the library (docs/FILES.md).
+
 To use the package without installing it, copy this folder: it needs nothing but Python 3.8 or later.
 """
 
@@ -53,13 +55,18 @@ from .errors import (
 )
 from .exploration import Explored, explore
 from .failures import Failed, TooLong
+from .file_calls import Kept
+from .file_follow import ExploredFiles
+from .file_library import FilesLibrary
+from .file_system import Files, FileStatus
 from .files import BlobFile
 from .follow import ExploredStore, NotDeterministic, Unexplorable
 from .foreign import TOP, library
 from .judging import acknowledgement, judge
 from .layers import Library, Program, Reply, explain, program, run
+from .open_file import OpenFile
 from .power import PowerLoss
-from .seeding import Seeded, SeededStore, seeds
+from .seeding import Seeded, SeededFiles, SeededStore, seeds
 from .shrinking import shrink
 from .spread import LostWork
 from .store import Store
@@ -79,12 +86,17 @@ __all__ = [
     "Closed",
     "EmptyRange",
     "Explored",
+    "ExploredFiles",
     "ExploredStore",
     "Failed",
     "Fault",
+    "FileStatus",
+    "Files",
+    "FilesLibrary",
     "GenerationsExhausted",
     "Injected",
     "Interrupted",
+    "Kept",
     "Library",
     "LibraryMissing",
     "LostWork",
@@ -94,6 +106,7 @@ __all__ = [
     "NotDeterministic",
     "NotMade",
     "OffsetOverflow",
+    "OpenFile",
     "PartitionMissing",
     "PartitionNameInvalid",
     "PowerLoss",
@@ -102,6 +115,7 @@ __all__ = [
     "ReadFailed",
     "Reply",
     "Seeded",
+    "SeededFiles",
     "SeededStore",
     "StaleHandle",
     "StorageError",

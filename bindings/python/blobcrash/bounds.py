@@ -3,8 +3,10 @@
 from __future__ import annotations
 
 from time import monotonic
-from typing import Optional
+from typing import Any, Optional
 
+from .file_calls import FileCall
+from .file_system import Files
 from .store import Store
 
 # How many calls, and how many choices, an explored run has at most if no other limit is given.
@@ -44,8 +46,8 @@ class Bounds:
         raise RunEnded
 
 
-class BoundedStore(Store):
-    """A store that counts its calls, and those that it refuses."""
+class Bounded:
+    """What counts its calls. It stands before the class that makes them."""
 
     _bounds: Bounds
 
@@ -53,6 +55,18 @@ class BoundedStore(Store):
         """Counts a call. A store of a run that has ended says so, whatever its bounds were."""
         self._check()
         self._bounds.count()
+
+
+class BoundedFiles(Bounded, Files):
+    """Files that count their calls."""
+
+    def _call(self, asked: FileCall, path: Any = None, is_shown: bool = True, to: Any = None) -> Any:
+        self._count()
+        return super()._call(asked, path, is_shown, to)
+
+
+class BoundedStore(Bounded, Store):
+    """A store that counts its calls, and those that it refuses."""
 
     def _call(self, line: bytes, partition: Optional[str] = None) -> bytes:
         self._count()

@@ -24,13 +24,17 @@ from typing import Any, Callable, Dict, Iterable, List, NamedTuple, Optional, Tu
 from .bodies import check_body, check_result
 from .bounds import CALLS_PER_RUN, FIRST_RUN, Bounds, RunEnded
 from .failures import Failed, TooLong, reason_of, reporter
+from .file_calls import FileCall
+from .file_follow import ExploredFiles
+from .file_library import files_way
+from .file_settings import file_setting_tokens, files_of, refuse_of_stores
 from .follow import ExploredStore, MoreWords, NotDeterministic, Run, refuse_sizes
 from .grammar import MAX, image_line, number, setting_tokens
 from .layers import Library, line_of
 from .paths import Choice, next_path, path_of, rest_from, text_of
 from .power import PowerLoss
 
-Body = Callable[[ExploredStore], Any]
+Body = Callable[..., Any]
 # How many words a run is given at first after those of its path. If it takes more, it is made again.
 _ROOM = 64
 # A longer line of a report is cut.
@@ -70,6 +74,14 @@ class Tree(NamedTuple):
     power_losses: int
     allow_stale: bool
     calls_per_run: int
+    # The profile of its files. Without one it is of stores.
+    files: Optional[str] = None
+
+    def store(self, run: Run) -> Any:
+        """The store, or the files, of a run."""
+        if self.files is not None:
+            return ExploredFiles(run, self.settings, self.files, self.by)
+        return ExploredStore(run, self.settings, self.images, self.by, self.allow_stale)
 
 
 class Times(NamedTuple):
@@ -91,6 +103,7 @@ class Part(NamedTuple):
 def explore(
     body: Body,
     *,
+    files: Union[None, bool, str] = None,
     settings: Iterable[str] = (),
     images: Iterable[Tuple[str, bytes, bytes]] = (),
     power_losses: int = 0,
@@ -110,6 +123,8 @@ def explore(
     at which calls the power fails, at most that many times a run; the body then catches `PowerLoss`, and lets the store crash and reopen.
     With a `seed` the draws are those of the seed, and only the others are chosen.
 
+    With `files`, the name of a profile or `True` for ext4, the body is called with `Files`, of which `settings` are then.
+
     `settings`, `images`, `by` and `allow_stale` are those of `Store`. `runs` and `seconds` are limits. Without a limit all runs are made,
     however many there are. After `seconds` a run that is under way is ended at its next call, and is left in `rest`; without an executor
     the first run is given a second at least. A run may have `calls_per_run` calls, and as many draws and choices. `under` names subtrees
@@ -127,11 +142,15 @@ def explore(
     if isinstance(settings, str):
         raise TypeError("settings are a list of texts")
     losses, most_calls = number(power_losses, "a number of power losses"), number(calls_per_run, "a number of calls")
-    tree = Tree(body, tuple(settings), tuple(images), by, seed, losses, bool(allow_stale), most_calls)
+    profile = files_of(files)
+    if profile is not None:
+        by = files_way(by)
+        refuse_of_stores(images, allow_stale)
+    tree = Tree(body, tuple(settings), tuple(images), by, seed, losses, bool(allow_stale), most_calls, profile)
     if seed is not None:
         number(seed, "a seed")
     for setting in tree.settings:
-        refuse_sizes(setting_tokens(setting))
+        refuse_sizes(setting_tokens(setting) if profile is None else file_setting_tokens(setting))
     for image in tree.images:
         image_line(*image)
     if seed is None and not hasattr(by, "words_left"):
@@ -140,7 +159,7 @@ def explore(
     subtrees = [text_of(path_of(path)) for path in ([under] if isinstance(under, str) else under)]
     now = time.monotonic()
     until = now + seconds_of(seconds)
-    show = reporter(report)
+    show = reporter(report, profile is not None)
     try:
         if executor is None:
             part = visit(tree, subtrees, most, Times(until, max(until, now + FIRST_RUN), until))
@@ -225,13 +244,13 @@ class _Visitor:
             self._tally(outcome)
         return run
 
-    def _attempt(self, path: List[Choice], until: float = float("inf")) -> Tuple[Run, ExploredStore, Any, Optional[BaseException]]:
+    def _attempt(self, path: List[Choice], until: float = float("inf")) -> Tuple[Run, Any, Any, Optional[BaseException]]:
         """Calls the body, again with more words if it takes all of them. Returns what it returned or raised."""
         tree = self._tree
         while True:
             bounds = Bounds(tree.calls_per_run, until)
             run = Run(path, self._room, tree.power_losses, tree.seed, bounds)
-            store = ExploredStore(run, tree.settings, tree.images, tree.by, tree.allow_stale)
+            store = tree.store(run)
             outcome: Any = None
             error: Optional[BaseException] = None
             _running.is_on = True
@@ -285,9 +304,15 @@ def _compare(before: Run, run: Run) -> None:
 
 def _different(was: Any, now: Any) -> Tuple[str, str]:
     """Two calls as lines, each cut to its start and to what is around the first character at which they differ."""
-    first, second = (call.decode(errors="backslashreplace") if isinstance(call, bytes) else line_of(*call) for call in (was, now))
+    first, second = _line(was), _line(now)
     at = next((k for k, (one, other) in enumerate(zip(first, second)) if one != other), min(len(first), len(second)))
     return _cut(first, at), _cut(second, at)
+
+
+def _line(call: Any) -> str:
+    if isinstance(call, bytes):
+        return call.decode(errors="backslashreplace")
+    return str(call) if isinstance(call, FileCall) else line_of(*call)
 
 
 def _cut(line: str, at: int) -> str:

@@ -16,7 +16,7 @@ _MOST_CHARACTERS = 2000
 class Failed(AssertionError):
     """A run of a body failed. `__cause__` is what it raised.
 
-    `script` are the lines that make the same calls again, to run or to explain. `path` names the run: `explore(body, under=[path])`
+    `script` are the lines that make the same calls again, to run or to explain; of files, lines to read. `path` names the run: `explore(body, under=[path])`
     makes it again. Of a run by a seed it is `seed N`. `reason` is what the body raised, as a text. `stopped` is a text if `shrink` returns
     it and stopped at a limit: there may be a smaller run.
     """
@@ -24,7 +24,8 @@ class Failed(AssertionError):
     def __init__(self, path: str, script: List[str], reason: str, run: int, stopped: str = "") -> None:
         self.path, self.script, self.reason, self.run, self.stopped = path, script, reason, run, stopped
         lines = [f"run {run} failed: {reason}", *([stopped] if stopped else []), *_named(path)]
-        super().__init__("\n".join([*lines, "its script, to explain with `blobcrash explain`:", *_shown(script)]))
+        heading = "its calls:" if _is_of_files(script) else "its script, to explain with `blobcrash explain`:"
+        super().__init__("\n".join([*lines, heading, *_shown(script)]))
 
     def __reduce__(self) -> Any:
         return Failed, (self.path, self.script, self.reason, self.run, self.stopped)
@@ -56,6 +57,11 @@ def _named(path: str) -> List[str]:
         path = f"{path[: _MOST_CHARACTERS // 2]} .. {path[-_MOST_CHARACTERS // 2 :]} ({left} more characters, all in `path`)"
     name = path if path.startswith("words") else f"path: {path or 'no choices'}"
     return [f"its {name}", *([f"    {legend}"] if legend else [])]
+
+
+def _is_of_files(script: List[str]) -> bool:
+    """Whether lines are those of files, which begin with a profile, after words or a seed."""
+    return any(line.startswith("profile ") for line in script[:3])
 
 
 def _shown(script: List[str]) -> List[str]:
@@ -102,9 +108,12 @@ def page_writer(wanted_by: str) -> Callable[[str, List[str], str], None]:
     return write
 
 
-def reporter(path: Optional[str]) -> Callable[[Failed], None]:
-    """Returns a function that writes the page of a failure to a file. Raises `ImportError` if pages can't be made."""
+def reporter(path: Optional[str], is_of_files: bool = False) -> Callable[[Failed], None]:
+    """Returns a function that writes the page of a failure to a file. Raises `ImportError` if pages can't be made, and `ValueError` for
+    files, of which there is none."""
     if path is None:
         return lambda failed: None
+    if is_of_files:
+        raise ValueError("a page shows a store: there is no `report` of files")
     write = page_writer("report")
     return lambda failed: write(path, failed.script, f"{failed.path or 'no choices'}: {failed.reason}")

@@ -5,7 +5,7 @@ from __future__ import annotations
 from typing import Any, Iterable, List, Optional, Tuple
 
 from .bounds import BoundedStore, Bounds
-from .grammar import MAX, number, setting_tokens
+from .grammar import MAX, number_of_branches, setting_tokens
 from .layers import Library
 from .paths import CHOICE, DRAW, POWER, TRUE, WORDS, Choice
 from .power import Supply
@@ -145,7 +145,35 @@ class _Followed:
             self._run.count(self._left())
 
 
-class ExploredStore(BoundedStore):
+class OnPath:
+    """What the stores and the files of explored runs share. It stands before the class that makes the calls."""
+
+    _run: Run
+
+    @property
+    def script(self) -> List[str]:
+        """The lines of all calls, and notes. The words are those of the draws so far."""
+        lines = super().script
+        if self._run.seed is None and hasattr(self, "_layer"):
+            drawn = " ".join("max" if word == MAX else str(word) for word in self._run.draws())
+            lines[:1] = [f"words {drawn}"] if drawn else []
+        return lines
+
+    def choose(self, branches: int) -> int:
+        """Returns a number below `branches`. Every one is tried, together with the outcomes of the draws."""
+        branches = number_of_branches(branches)
+        self._count()
+        branch = self._run.choose(CHOICE, branches) if branches > 1 else 0
+        self.note(f"choose({branches}) is {branch}")
+        return branch
+
+    def _unusable(self) -> Exception:
+        if self._closed:
+            return ValueError("the store's run has ended: each run of the body is given a store of its own")
+        return super()._unusable()
+
+
+class ExploredStore(OnPath, BoundedStore):
     """The store of one run."""
 
     def __init__(
@@ -162,25 +190,6 @@ class ExploredStore(BoundedStore):
         else:
             super().__init__(run.seed, settings=settings, images=images, by=way, allow_stale=allow_stale)
 
-    @property
-    def script(self) -> List[str]:
-        """The lines of all calls, and notes: a script that makes the same calls again. Its words are those of the draws so far."""
-        lines = super().script
-        if self._run.seed is None and hasattr(self, "_layer"):
-            drawn = " ".join("max" if word == MAX else str(word) for word in self._run.draws())
-            lines[:1] = [f"words {drawn}"] if drawn else []
-        return lines
-
-    def choose(self, branches: int) -> int:
-        """Returns a number below `branches`. Every one is tried, together with the outcomes of the draws."""
-        branches = number(branches, "a number of branches", 10**9 - 1)
-        if branches == 0:
-            raise ValueError("there is nothing to choose from: a number of branches is at least 1")
-        self._count()
-        branch = self._run.choose(CHOICE, branches) if branches > 1 else 0
-        self.note(f"choose({branches}) is {branch}")
-        return branch
-
     def push_words(self, words: Iterable[int]) -> None:
         """Raises `ValueError`: the words of a run are those of its path."""
         raise ValueError("the words of an explored run are given by its path")
@@ -193,8 +202,3 @@ class ExploredStore(BoundedStore):
         if line.lstrip(" ").startswith("config"):
             refuse_sizes([token for token in line.split(" ") if token])
         return super()._ask(line, partition)
-
-    def _unusable(self) -> Exception:
-        if self._closed:
-            return ValueError("the store's run has ended: each run of the body is given a store of its own")
-        return super()._unusable()

@@ -29,6 +29,14 @@ def number(value: int, what: str, last: int = MAX) -> int:
     return value
 
 
+def number_of_branches(value: int) -> int:
+    """An argument of a `choose`. Raises as `number` does."""
+    branches = number(value, "a number of branches", 10**9 - 1)
+    if branches == 0:
+        raise ValueError("there is nothing to choose from: a number of branches is at least 1")
+    return branches
+
+
 def data_of(value: bytes, what: str) -> bytes:
     """An argument that is bytes, or a buffer of some. Raises `TypeError`."""
     if type(value) is bytes:

@@ -4,6 +4,8 @@
     def test_recovers(blobcrash):
         ...
 
+A test that takes `blobcrash_files` gets `Files`, with the arguments of the mark `blobcrash_files`.
+
 The store has `seed` and `choose`, as that of `seeds`. The seed is in the test's name. If a test fails, its script is written to a file.
 The first failing seed of a test is shrunk: the test is called again with fewer and smaller choices, and a smaller run that fails is
 written to a second file. The report has the files' paths and a picture of the crashes. With `--blobcrash-report FOLDER` it also has the
@@ -21,8 +23,10 @@ import pytest
 from .failures import page_writer
 from .grammar import number
 from .pytest_report import show
-from .seeding import SeededStore
+from .seeding import SeededFiles, SeededStore
 
+# The fixtures, each with what a test gets. The mark with its arguments has the same name.
+_FIXTURES = {"blobcrash": SeededStore, "blobcrash_files": SeededFiles}
 _SEEDS = 20
 _SECONDS = 10.0
 
@@ -60,7 +64,8 @@ def pytest_addoption(parser: Any) -> None:
 
 
 def pytest_configure(config: Any) -> None:
-    config.addinivalue_line("markers", "blobcrash(seeds=N, **arguments): how many seeds a test runs with, and the arguments of its store")
+    for name, what in (("blobcrash", "store"), ("blobcrash_files", "files")):
+        config.addinivalue_line("markers", f"{name}(seeds=N, **arguments): how many seeds a test runs with, and the arguments of its {what}")
     if config.getoption("--blobcrash-report") is not None:
         try:
             page_writer("--blobcrash-report")
@@ -68,16 +73,16 @@ def pytest_configure(config: Any) -> None:
             raise pytest.UsageError(str(error)) from None
 
 
-def _arguments(node: Any) -> dict:
-    marker = node.get_closest_marker("blobcrash")
+def _arguments(node: Any, fixture: str) -> dict:
+    marker = node.get_closest_marker(fixture)
     if marker is not None and marker.args:
-        raise pytest.UsageError(f"{node.nodeid}: the arguments of the mark `blobcrash` have names, as `seeds=50`")
+        raise pytest.UsageError(f"{node.nodeid}: the arguments of the mark `{fixture}` have names, as `seeds=50`")
     return dict(marker.kwargs) if marker else {}
 
 
-def _seeds_of(node: Any) -> Sequence[int]:
+def _seeds_of(node: Any, fixture: str) -> Sequence[int]:
     """The seeds of a test: those of the command line, or as many as it says, or as the mark says."""
-    option, arguments = node.config.getoption, _arguments(node)
+    option, arguments = node.config.getoption, _arguments(node, fixture)
     if option("--blobcrash-seed"):
         return list(dict.fromkeys(option("--blobcrash-seed")))
     if option("--blobcrash-seeds") is not None:
@@ -92,26 +97,38 @@ def _seeds_of(node: Any) -> Sequence[int]:
 
 
 def pytest_generate_tests(metafunc: Any) -> None:
-    if "blobcrash" in metafunc.fixturenames:
-        seeds = _seeds_of(metafunc.definition)
-        metafunc.parametrize("blobcrash", seeds, indirect=True, ids=[f"seed={seed}" for seed in seeds])
+    for fixture in _FIXTURES:
+        if fixture in metafunc.fixturenames:
+            seeds = _seeds_of(metafunc.definition, fixture)
+            metafunc.parametrize(fixture, seeds, indirect=True, ids=[f"seed={seed}" for seed in seeds])
+
+
+def _opened(request: Any, fixture: str) -> Iterator[Any]:
+    """What a fixture gives to a test."""
+    arguments = _arguments(request.node, fixture)
+    arguments.pop("seeds", None)
+    with _FIXTURES[fixture](getattr(request, "param", 0), **arguments) as store:
+        request.node._blobcrash = fixture, store
+        yield store
 
 
 @pytest.fixture
 def blobcrash(request: Any) -> Iterator[SeededStore]:
     """A store, with the seed of the test."""
-    arguments = _arguments(request.node)
-    arguments.pop("seeds", None)
-    with SeededStore(getattr(request, "param", 0), **arguments) as store:
-        request.node._blobcrash = store
-        yield store
+    yield from _opened(request, "blobcrash")
+
+
+@pytest.fixture
+def blobcrash_files(request: Any) -> Iterator[SeededFiles]:
+    """Files, with the seed of the test."""
+    yield from _opened(request, "blobcrash_files")
 
 
 @pytest.hookimpl(hookwrapper=True)
 def pytest_runtest_makereport(item: Any, call: Any) -> Iterator[None]:
     outcome = yield
     report = outcome.get_result()
-    store = getattr(item, "_blobcrash", None)
-    if store is not None and call.when in ("setup", "call") and report.failed:
-        lines: List[str] = show(item, call, store, _arguments(item))
+    fixture, store = getattr(item, "_blobcrash", (None, None))
+    if fixture is not None and call.when in ("setup", "call") and report.failed:
+        lines: List[str] = show(item, call, fixture, store, _arguments(item, fixture))
         report.sections.append(("blobcrash", "\n".join(lines)))

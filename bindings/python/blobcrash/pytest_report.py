@@ -13,11 +13,11 @@ import pytest
 
 from .bounds import RunEnded
 from .failures import Failed, page_writer, reason_of
+from .file_system import Files
 from .follow import MoreWords
 from .foreign import library
 from .layers import explain
 from .power import PowerLoss
-from .seeding import SeededStore
 from .shrinking import shrink
 
 # A longer picture is cut here: all of it can be drawn from the script.
@@ -32,22 +32,24 @@ _tried: Set[Any] = set()
 _PASSES_ON = (KeyboardInterrupt, GeneratorExit, MoreWords, RunEnded, PowerLoss, pytest.exit.Exception)
 
 
-def show(item: Any, call: Any, store: SeededStore, arguments: dict) -> List[str]:
-    """The lines of the report of a failure. What can't be written or drawn is a line of it."""
+def show(item: Any, call: Any, fixture: str, store: Any, arguments: dict) -> List[str]:
+    """The lines of the report of a failure. What can't be written or drawn is a line of it. Of files there is no page and no picture."""
     reason = call.excinfo.exconly().split("\n")[0] if call.excinfo is not None else "failed"
     script, lines = store.script, []
     lines.append(_written(item, ".script", script, "the script of this failure"))
-    smaller = _shrunk(item, call, store, arguments, lines) if call.when == "call" else None
+    smaller = _shrunk(item, call, fixture, store, arguments, lines) if call.when == "call" else None
     if smaller is not None:
         script = smaller.script
         lines.append(_written(item, ".short.script", script, f"a smaller run that fails, of {_calls(script)} calls"))
+    if isinstance(store, Files):
+        return lines
     if item.config.getoption("--blobcrash-report") is not None:
         lines.append(_page(item, store.script, reason))
     return lines + _picture(script)
 
 
 def _calls(script: List[str]) -> int:
-    return sum(not line.startswith(("#", "words ", "seed ", "image ", "config ")) for line in script)
+    return sum(not line.startswith(("#", "words ", "seed ", "image ", "config ", "profile ", "keep ", "space ")) for line in script)
 
 
 def _path(item: Any, option: str, ending: str) -> str:
@@ -92,22 +94,24 @@ def _picture(script: List[str]) -> List[str]:
     return lines if len(lines) <= MOST_LINES else [*lines[:MOST_LINES], ".."]
 
 
-def _shrunk(item: Any, call: Any, store: SeededStore, arguments: dict, lines: List[str]) -> Optional[Failed]:
+def _shrunk(item: Any, call: Any, fixture: str, store: Any, arguments: dict, lines: List[str]) -> Optional[Failed]:
     """A smaller run that fails in the same way. `None` if none is looked for; a line says why, if one might be expected."""
     seconds = item.config.getoption("--blobcrash-shrink")
     test = (item.parent.nodeid, getattr(item, "originalname", None) or item.name)
     if seconds == 0 or call.excinfo is None or test in _tried:
         return None
     _tried.add(test)
-    why = _unshrinkable(item, arguments)
+    why = _unshrinkable(item, fixture, arguments)
     if why is not None:
         lines.append(f"no smaller run is looked for: {why}")
         return None
     given = {name: arguments[name] for name in ("settings", "images", "allow_stale") if name in arguments}
+    if isinstance(store, Files):
+        given["files"] = arguments.get("profile", True)
     failed = Failed(f"seed {store.seed}", store.script, _reason_of(call.excinfo.value), 1)
     try:
         with contextlib.redirect_stdout(io.StringIO()), contextlib.redirect_stderr(io.StringIO()):
-            found = shrink(_body_of(item, store.seed), failed, runs=_RUNS, seconds=seconds, **given)
+            found = shrink(_body_of(item, fixture, store.seed), failed, runs=_RUNS, seconds=seconds, **given)
     except Exception as error:
         lines.append(f"no smaller run is found: {type(error).__name__}: {error}")
         return None
@@ -116,15 +120,15 @@ def _shrunk(item: Any, call: Any, store: SeededStore, arguments: dict, lines: Li
     return found
 
 
-def _unshrinkable(item: Any, arguments: dict) -> Optional[str]:
+def _unshrinkable(item: Any, fixture: str, arguments: dict) -> Optional[str]:
     """Why a test can't be called again with another store, or `None`."""
     info = getattr(item, "_fixtureinfo", None)
-    if info is None or not callable(getattr(item, "obj", None)) or "blobcrash" not in info.argnames:
-        return "the test doesn't take `blobcrash` itself"
-    users = _users_of("blobcrash", info.name2fixturedefs) - {"blobcrash"}
+    if info is None or not callable(getattr(item, "obj", None)) or fixture not in info.argnames:
+        return f"the test doesn't take `{fixture}` itself"
+    users = _users_of(fixture, info.name2fixturedefs) - {fixture}
     if users:
         return f"the fixture `{sorted(users)[0]}` uses the store too"
-    others = sorted(set(arguments) - {"seeds", "settings", "images", "allow_stale", "by"})
+    others = sorted(set(arguments) - {"seeds", "settings", "images", "allow_stale", "by", "profile"})
     if others:
         return f"its mark has `{others[0]}`"
     return None
@@ -140,14 +144,14 @@ def _users_of(name: str, definitions: dict) -> Set[str]:
         users |= more
 
 
-def _body_of(item: Any, seed: int) -> Callable[[Any], None]:
+def _body_of(item: Any, fixture: str, seed: int) -> Callable[[Any], None]:
     """The test as a body: its other fixtures have the values of its first run, and so has `seed`."""
     values = {name: item.funcargs[name] for name in item._fixtureinfo.argnames}
 
     def body(store: Any) -> Any:
         store.seed = seed
         try:
-            return item.obj(**{**values, "blobcrash": store})
+            return item.obj(**{**values, fixture: store})
         except _PASSES_ON:
             raise
         except pytest.skip.Exception:

@@ -7,10 +7,12 @@ import time
 from typing import Any, Callable, Iterable, List, NamedTuple, Optional, Tuple, Union
 
 from .bodies import check_body, check_result
-from .bounds import FIRST_RUN, BoundedStore, Bounds, RunEnded
+from .bounds import FIRST_RUN, BoundedFiles, BoundedStore, Bounds, RunEnded
 from .exploration import seconds_of
 from .failures import Failed, reason_of, reporter
-from .grammar import number
+from .file_settings import files_of
+from .file_system import Files
+from .grammar import number, number_of_branches
 from .power import PowerLoss
 from .store import Store
 
@@ -18,8 +20,8 @@ from .store import Store
 _CHUNK = 16
 
 
-class SeededStore(Store):
-    """The store of a run by a seed, which is `seed`."""
+class BySeed:
+    """What the stores and the files of runs by seeds share. It stands before the class that makes the calls."""
 
     def __init__(self, seed: int, **arguments: Any) -> None:
         super().__init__(seed, **arguments)
@@ -28,17 +30,23 @@ class SeededStore(Store):
 
     def choose(self, branches: int) -> int:
         """Returns a number below `branches`, by the seed. `explore` tries every one."""
-        branches = number(branches, "a number of branches", 10**9 - 1)
-        if branches == 0:
-            raise ValueError("there is nothing to choose from: a number of branches is at least 1")
+        branches = number_of_branches(branches)
         self._check()
         branch = self._random.randrange(branches)
         self.note(f"choose({branches}) is {branch}")
         return branch
 
 
-class _TimedStore(BoundedStore, SeededStore):
-    """The store of a run that is ended when its time is over."""
+class SeededStore(BySeed, Store):
+    """The store of a run by a seed, which is `seed`."""
+
+
+class SeededFiles(BySeed, Files):
+    """The files of a run by a seed, which is `seed`."""
+
+
+class _Timed(BySeed):
+    """A run that is ended when its time is over."""
 
     def __init__(self, seed: int, until: float, **arguments: Any) -> None:
         self._bounds = Bounds(until=until)
@@ -47,6 +55,14 @@ class _TimedStore(BoundedStore, SeededStore):
     def choose(self, branches: int) -> int:
         self._count()
         return super().choose(branches)
+
+
+class _TimedStore(_Timed, BoundedStore, SeededStore):
+    """The store of such a run."""
+
+
+class _TimedFiles(_Timed, BoundedFiles, SeededFiles):
+    """The files of such a run."""
 
 
 class Seeded(NamedTuple):
@@ -59,24 +75,27 @@ class Seeded(NamedTuple):
 class _Runs(NamedTuple):
     """A body, and the arguments of its stores."""
 
-    body: Callable[[SeededStore], Any]
+    body: Callable[..., Any]
     arguments: dict
+    files: Optional[str] = None
 
 
 def seeds(
-    body: Callable[[SeededStore], Any],
+    body: Callable[..., Any],
     which: Union[int, Iterable[int]],
     *,
+    files: Union[None, bool, str] = None,
     seconds: Optional[float] = None,
     executor: Any = None,
     report: Optional[str] = None,
     **arguments: Any,
 ) -> Seeded:
-    """Calls `body` with a new store for each seed: for the first `which` ones, or for each of `which`.
+    """Calls `body` with a new store for each seed: for the first `which` ones, or for each of `which`. With `files`, the name of a
+    profile or `True`, it is called with `Files`.
 
     After `seconds` no further run begins, and one that is under way is ended at its next call: its seed is one of `rest`. Without an
     executor the first run is given a second at least. With an `executor` of `concurrent.futures` the seeds are spread over its workers.
-    `arguments` are those of `Store`.
+    `arguments` are those of `Store`, or of `Files`.
 
     Raises `Failed`, with a script, if the body raises: for the first such seed, or by an executor for one of them. `report` is a file
     for a page that shows it. `TypeError` for a body that hasn't run when it returns: a generator or a coroutine.
@@ -93,8 +112,9 @@ def seeds(
     every = [number(seed, "a seed") for seed in which]
     now = time.monotonic()
     until = now + seconds_of(seconds)
-    show = reporter(report)
-    runs = _Runs(body, arguments)
+    profile = files_of(files)
+    show = reporter(report, profile is not None)
+    runs = _Runs(body, arguments, profile)
     try:
         if executor is None:
             return Seeded(*_visit(runs, every, 0, until, max(until, now + FIRST_RUN)))
@@ -124,14 +144,15 @@ def _visit(runs: _Runs, every: List[int], before: int, until: float, first_until
     return len(every), ()
 
 
-def _store(runs: _Runs, seed: int, until: float) -> SeededStore:
+def _store(runs: _Runs, seed: int, until: float) -> Any:
+    arguments = runs.arguments if runs.files is None else {"profile": runs.files, **runs.arguments}
     if until == float("inf"):
-        return SeededStore(seed, **runs.arguments)
-    return _TimedStore(seed, until, **runs.arguments)
+        return (SeededStore if runs.files is None else SeededFiles)(seed, **arguments)
+    return (_TimedStore if runs.files is None else _TimedFiles)(seed, until, **arguments)
 
 
-def _is_late(store: SeededStore) -> bool:
-    return isinstance(store, _TimedStore) and store._bounds.is_late
+def _is_late(store: Any) -> bool:
+    return isinstance(store, _Timed) and store._bounds.is_late
 
 
 def _visit_with(executor: Any, runs: _Runs, every: List[int], until: float) -> Tuple[int, Tuple[int, ...]]:

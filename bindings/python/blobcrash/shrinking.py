@@ -19,6 +19,9 @@ from .bodies import check_body, check_result
 from .bounds import Bounds, RunEnded
 from .exploration import Body, seconds_of
 from .failures import Failed, reason_of
+from .file_follow import ExploredFiles
+from .file_settings import files_of, refuse_of_stores
+from .file_system import Files
 from .follow import ExploredStore, MoreWords, Run
 from .generator import words_of
 from .grammar import MAX, number
@@ -65,6 +68,7 @@ def shrink(
     body: Body,
     failed: Union[Failed, str],
     *,
+    files: Union[None, bool, str] = None,
     settings: Iterable[str] = (),
     images: Iterable[Tuple[str, bytes, bytes]] = (),
     runs: int = 2000,
@@ -74,10 +78,10 @@ def shrink(
 ) -> Failed:
     """Runs `body` again with fewer and smaller choices, and returns the failure of the smallest run found.
 
-    `failed` is raised by `explore` without a seed, or by `seeds`, or it is its `path`. The other arguments are those of that call. A run is
-    smaller if it makes fewer calls; then if it has fewer power losses, smaller results of `store.choose`, fewer draws, and fewer of them
-    true. It has to raise an error of the same type. `runs` and `seconds` limit the search; if it stopped at one of them, `stopped` of the
-    result says so.
+    `failed` is raised by `explore` without a seed, or by `seeds`, or it is its `path`. The other arguments are those of that call, also
+    `files`. A run is smaller if it makes fewer calls; then if it has fewer power losses, smaller results of `store.choose`, fewer draws,
+    and fewer of them true. It has to raise an error of the same type. `runs` and `seconds` limit the search; if it stopped at one of them,
+    `stopped` of the result says so.
 
     Raises `ValueError` if the run of `failed` doesn't fail again, and for `by=Program`, before any run.
     """
@@ -86,8 +90,13 @@ def shrink(
         raise ValueError("`shrink` counts the draws of its runs, which only `by=Library` can")
     settings, images = tuple(settings), tuple(images)
     path = failed if isinstance(failed, str) else failed.path
+    profile = files_of(files)
+    if profile is not None:
+        refuse_of_stores(images, allow_stale)
 
-    def store(run: Run) -> ExploredStore:
+    def store(run: Run) -> Any:
+        if profile is not None:
+            return _ReplayedFiles(run, settings, profile, by)
         return _ReplayedStore(run, settings, images, by, allow_stale)
 
     until = time.monotonic() + seconds_of(seconds)
@@ -169,8 +178,15 @@ class _ReplayedStore(ExploredStore):
         return Store._ask(self, line, partition)
 
 
+class _ReplayedFiles(ExploredFiles):
+    """The files of such a run."""
+
+    def _setting_line(self, setting: str) -> str:
+        return Files._setting_line(self, setting)
+
+
 class _Search:
-    def __init__(self, body: Body, store: Callable[[Run], ExploredStore], most: int, until: float) -> None:
+    def __init__(self, body: Body, store: Callable[[Run], Any], most: int, until: float) -> None:
         self._body, self._store, self._most, self._until = body, store, most, until
         self._reason: Optional[str] = None
         self._room = 64

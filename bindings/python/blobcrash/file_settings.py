@@ -1,0 +1,63 @@
+"""Profiles and settings of files."""
+
+from __future__ import annotations
+
+from typing import Any, Iterable, List, Optional, Tuple
+
+from .errors import BadLine
+from .grammar import needs_draws, setting_tokens, text_of
+from .shapes import MAX
+
+PROFILES = ("ext4", "xfs", "btrfs", "posix")
+
+
+def profile_of(profile: Any) -> str:
+    """The name of a profile. Raises `TypeError` or `ValueError`."""
+    profile = text_of(profile, "a profile")
+    if profile not in PROFILES:
+        raise ValueError(f"{profile!r} is no profile: it is one of {', '.join(PROFILES)}")
+    return profile
+
+
+def files_of(files: Any) -> Optional[str]:
+    """The profile that the argument `files` of a search asks for: `True` is ext4. `None` if the search is of stores."""
+    if files is None or files is False:
+        return None
+    return PROFILES[0] if files is True else profile_of(files)
+
+
+def refuse_of_stores(images: Iterable[Any], allow_stale: Any) -> None:
+    """Raises `TypeError` for arguments that files don't have."""
+    if tuple(images) or allow_stale:
+        raise TypeError("`images` and `allow_stale` are arguments of stores, and not of files")
+
+
+def file_setting_tokens(setting: str) -> List[str]:
+    """The tokens of the line of a setting: `keep N D`, `space BYTES FILES`, or one of a store, which becomes a `config` line.
+
+    Raises `BadLine` if it is none.
+    """
+    words = text_of(setting, "a setting").split(" ")
+    words = [word for word in words if word]
+    if words[:1] == ["keep"]:
+        _numbers(setting, words)
+        if int(words[2]) == 0 or int(words[1]) > int(words[2]):
+            raise BadLine(f"bad setting: {setting!r}: a rate is a fraction from 0 to 1")
+        return words
+    if words[:1] == ["space"]:
+        _numbers(setting, words)
+        return words
+    return setting_tokens(setting)
+
+
+def file_setting_line(setting: str) -> Tuple[str, bool]:
+    """The line of a setting, and whether it needs draws. Raises `BadLine` if it is none."""
+    tokens = file_setting_tokens(setting)
+    if tokens[0] == "keep":
+        return " ".join(tokens), 0 < int(tokens[1]) < int(tokens[2])
+    return " ".join(tokens), tokens[0] == "config" and needs_draws(tokens)
+
+
+def _numbers(setting: str, words: List[str]) -> None:
+    if len(words) != 3 or not all(word.isascii() and word.isdigit() and int(word) <= MAX for word in words[1:]):
+        raise BadLine(f"bad setting: {setting!r}: `{words[0]}` takes two numbers from 0 to 2^64 - 1")

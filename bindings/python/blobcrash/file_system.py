@@ -1,0 +1,361 @@
+"""Files with names, directories, renames and their syncs: docs/FILES.md."""
+
+from __future__ import annotations
+
+import os
+from threading import get_ident
+from typing import Any, Callable, Dict, Iterable, List, NamedTuple, Optional, Tuple, Union
+
+from .errors import BadLine, Interrupted, NeedsSeed, NotMade, WrongThread
+from .file_calls import FileCall, Kept, reply_text
+from .file_errors import error_of
+from .file_library import files_way
+from .file_power import FileSupply
+from .file_settings import file_setting_line, profile_of
+from .foreign_files import EXCHANGES, IS_DIRECTORY, REFUSES, REPLACES, Refusal
+from .grammar import comment_lines, number, text_of
+from .open_file import OpenFile, plain_mode
+from .power import PowerLoss, Supply
+
+Path = Union[str, bytes, "os.PathLike[Any]"]
+# The refusals by which a path has no file.
+_MISSING = frozenset(("NotFound", "NotDirectory", "InvalidName", "NameTooLong"))
+
+
+class FileStatus(NamedTuple):
+    """What `stat` returns: the size in bytes, 0 for a directory; `kind`, which is `file` or `directory`; and the inode's number."""
+
+    size: int
+    kind: str
+    inode: int
+
+
+class Files:
+    """A file system of its own, in memory. A crash keeps only some of the bytes and of the changes of names that nothing made durable.
+
+    `seed`, a number below 2^64, decides what fails and what a crash keeps. `words` are the first words of the generator, in place of the
+    seed's; after the last one it goes on with the seed, or without one with zeros, for which every draw is true. `profile` is `ext4`,
+    `xfs`, `btrfs` or `posix`. `settings` are those of `configure`, from the start. `by` is the way to the layer: `FilesLibrary`.
+
+    The calls have the names of `os`. A path is a `str`, `bytes` or an `os.PathLike`, of names behind slashes, from the root on; `.` and
+    `..` are no names. A refused call raises the `OSError` that `os` would raise, whose `refusal` names why; an injected fault is
+    `Injected`, with EIO.
+
+    Raises `NeedsSeed` if a setting needs random draws and there is neither a seed nor a word, and `ValueError` or `TypeError` for an
+    argument that is none.
+    """
+
+    def __init__(
+        self,
+        seed: Optional[int] = None,
+        *,
+        profile: str = "ext4",
+        words: Iterable[int] = (),
+        settings: Iterable[str] = (),
+        by: Any = None,
+    ) -> None:
+        if isinstance(settings, str):
+            raise TypeError("settings are a list of texts")
+        self._words = [number(word, "a word") for word in words]
+        lines = [] if seed is None else [f"seed {number(seed, 'a seed')}"]
+        self._has_draws = bool(self._words) or seed is not None
+        lines.append(f"profile {profile_of(profile)}")
+        # Whether a crash draws for edits: by the rate 1/2, if no setting says another one.
+        self._draws_edits = True
+        lines += [self._setting_line(setting) for setting in settings]
+        # The script: a line or a note as its text, and a call with what its line says of the reply.
+        self._lines: List[Union[str, Tuple[FileCall, str]]] = list(lines)
+        # The files that were opened and not closed, by their descriptors.
+        self._opened: Dict[int, OpenFile] = {}
+        # Descriptors by inodes, to ask for sizes. They stay open, since a close may make bytes durable.
+        self._sized: Dict[int, int] = {}
+        self._thread = get_ident()
+        # Whether a call can't be made: one is under way, or was cut short, or the files are closed.
+        self._busy = False
+        self._closed = False
+        self._cause: Optional[BaseException] = None
+        self._layer = files_way(by)("\n".join([*self._words_line(), *lines, ""]).encode())
+
+    def __enter__(self) -> Files:
+        return self
+
+    def __exit__(self, *_: object) -> None:
+        self.close()
+
+    def close(self) -> None:
+        """Ends the file system. Calls of it and of its files then raise `ValueError`."""
+        if get_ident() != self._thread:
+            raise self._unusable()
+        self._busy = self._closed = True
+        self._opened.clear()
+        self._layer.close()
+
+    @property
+    def script(self) -> List[str]:
+        """The lines of all calls, and notes, to read: each with the descriptor that it opened, or the name of its refusal."""
+        lines = self._words_line()
+        for line in self._lines:
+            if isinstance(line, str):
+                lines.append(line)
+            else:
+                lines.append(f"{line[0]}{line[1]}")
+        return lines
+
+    def _words_line(self) -> List[str]:
+        return ["words " + " ".join(map(str, self._words))] if self._words else []
+
+    def note(self, text: str) -> None:
+        """Adds a comment to the script, a line for each of the text's."""
+        self._lines += comment_lines(text_of(text, "a note"))
+
+    def open(self, path: Path, mode: str = "rb") -> OpenFile:
+        """Opens a file, by a mode of `open` with a `b`, as an unbuffered file object.
+
+        Raises `FileNotFoundError`, `FileExistsError` for `x`, `IsADirectoryError`, `NotADirectoryError`.
+        """
+        plain = plain_mode(mode)
+        name = _bytes_of(path)
+        word = "open"
+        if plain[0] == "x" or (plain[0] in "wa" and not self._has(name)):
+            word = "create"
+        elif plain[0] == "w":
+            word = "open_truncated"
+        descriptor = self._call(FileCall(word, path=name), path).number
+        opened = self._opened[descriptor] = OpenFile(self, descriptor, path, mode)
+        return opened
+
+    def rename(self, old: Path, new: Path, *, replaces: bool = True) -> None:
+        """Moves a file or a directory, in one step. It replaces a file, or an empty directory, that has the new name.
+
+        Without `replaces` that raises `FileExistsError`.
+        """
+        self._on_two("rename", old, new, REPLACES if replaces else REFUSES)
+
+    def replace(self, old: Path, new: Path) -> None:
+        """Does what `rename` does."""
+        self.rename(old, new)
+
+    def exchange(self, one: Path, other: Path) -> None:
+        """Exchanges two names, in one step. Both have to be there."""
+        self._on_two("rename", one, other, EXCHANGES)
+
+    def link(self, old: Path, new: Path) -> None:
+        """Gives a file a second name."""
+        self._on_two("link", old, new)
+
+    def unlink(self, path: Path) -> None:
+        """Removes a name of a file. An open file stays readable."""
+        self._on("unlink", path)
+
+    def remove(self, path: Path) -> None:
+        """Does what `unlink` does."""
+        self.unlink(path)
+
+    def mkdir(self, path: Path) -> None:
+        """Makes a directory."""
+        self._on("mkdir", path)
+
+    def makedirs(self, path: Path, exist_ok: bool = False) -> None:
+        """Makes a directory and those above it that are missing."""
+        names = [name for name in _bytes_of(path).split(b"/") if name]
+        for count in range(1, len(names)):
+            above = b"/" + b"/".join(names[:count])
+            if not self._has(above):
+                self._call(FileCall("mkdir", path=above), path)
+        if not (exist_ok and self._is_directory(_bytes_of(path))):
+            self.mkdir(path)
+
+    def rmdir(self, path: Path) -> None:
+        """Removes an empty directory."""
+        self._on("rmdir", path)
+
+    def listdir(self, path: Path = "/") -> List[Any]:
+        """Returns the names in a directory, sorted by their bytes: as `bytes` if the path is one, else as `str`."""
+        names = self._on("listdir", path)
+        if isinstance(os.fspath(path), bytes):
+            return names
+        return [name.decode("utf-8", "surrogateescape") for name in names]
+
+    def exists(self, path: Path) -> bool:
+        """Returns whether a path leads to a file or a directory."""
+        return self._has(_bytes_of(path))
+
+    def stat(self, path: Path) -> FileStatus:
+        """Returns the size, the kind and the inode of a file or a directory."""
+        name = _bytes_of(path)
+        if not name.strip(b"/"):
+            return FileStatus(0, "directory", 1)
+        found = self._call(FileCall("find", path=name), path, False)
+        if found.kind == IS_DIRECTORY:
+            return FileStatus(0, "directory", found.number)
+        if found.number not in self._sized:
+            self._sized[found.number] = self._call(FileCall("open_inode", found.number), path, False).number
+        size = self._call(FileCall("size", self._sized[found.number]), path, False).size
+        return FileStatus(size, "file", found.number)
+
+    def truncate(self, path: Path, size: int) -> None:
+        """Truncates or extends a file."""
+        size = number(size, "a size")
+        with self.open(path, "r+b") as file:
+            file.truncate(size)
+
+    def fsync(self, file: OpenFile) -> None:
+        """Makes a file's bytes and size durable, and the names that the profile says."""
+        self._on_file("fsync", file)
+
+    def fdatasync(self, file: OpenFile) -> None:
+        """Makes a file's bytes and size durable, and names as `fsync` does if the size has changed or one of its names."""
+        self._on_file("fdatasync", file)
+
+    def fsync_directory(self, path: Path) -> None:
+        """Makes the changes of a directory's names durable, and more if the profile says so."""
+        self._on("fsync_directory", path)
+
+    def sync(self) -> None:
+        """Makes the bytes of all files and all names durable."""
+        self._call(FileCall("sync"))
+
+    def settle(self) -> None:
+        """Makes everything durable without a draw: the state before a test. No power is lost here."""
+        self._call(FileCall("settle"))
+
+    def crash(self) -> Kept:
+        """Loses what isn't durable, except what the draws keep, and recovers. Returns what was kept. All open files are stale."""
+        if self._draws_edits and not self._has_draws:
+            raise NeedsSeed("a crash draws which edits it keeps: give the files a seed, `Files(seed=7)`, words, or the setting `keep 1 1`")
+        kept = self._call(FileCall("crash"))
+        self._lines += kept.lines()
+        self._opened.clear()
+        self._sized.clear()
+        return kept
+
+    def restart(self) -> Kept:
+        """Crashes, and closes every open file, as the end of a process does. Returns what was kept."""
+        opened = list(self._opened.values())
+        kept = self.crash()
+        for file in opened:
+            file._end()
+        return kept
+
+    def crash_after(self, calls: int) -> None:
+        """Turns the power off after `calls` more calls that may change what a crash leaves.
+
+        These are all but opens and closes of what is there, reads and look-ups. From then on every call raises `PowerLoss`, except
+        `configure`, until the next crash, as by `restart`.
+        """
+        calls = number(calls, "a number of calls")
+        self._check()
+        if not isinstance(self._layer, Supply):
+            self._layer = FileSupply(self._layer)
+        self._layer.cut_after(calls)
+
+    def recover(self, step: Callable[..., Any], *arguments: Any) -> Any:
+        """Restarts, calls `step` and returns what that returns. Does both again if the power fails meanwhile."""
+        while True:
+            self.restart()
+            try:
+                return step(*arguments)
+            except PowerLoss:
+                pass
+
+    def configure(self, setting: str) -> None:
+        """Makes a setting: a rate as of `Store.configure`, of calls on files; `keep N D`, how often a crash keeps an edit of names that
+        nothing settled, 1/2 at first; or `space BYTES FILES`, how many bytes and files there may be.
+
+        Raises `BadLine` if it is none, and `NeedsSeed` if it needs random draws and there is neither a seed nor a word.
+        """
+        self._call(FileCall("configure", path=self._setting_line(setting).encode()))
+
+    def _setting_line(self, setting: str) -> str:
+        line, needs_draws = file_setting_line(setting)
+        if needs_draws and not self._has_draws:
+            raise NeedsSeed(f"`{setting}` needs random draws: give the files a seed, `Files(seed=7)`, or the words of its generator")
+        if line.startswith("keep "):
+            self._draws_edits = needs_draws
+        return line
+
+    def _on(self, word: str, path: Path) -> Any:
+        return self._call(FileCall(word, path=_bytes_of(path)), path)
+
+    def _on_two(self, word: str, path: Path, to: Path, how: int = 0) -> None:
+        self._call(FileCall(word, first=how, path=_bytes_of(path), to=_bytes_of(to)), path, True, to)
+
+    def _on_file(self, word: str, file: OpenFile) -> None:
+        if not isinstance(file, OpenFile) or file._files is not self:
+            raise TypeError(f"{word} takes a file that these files have opened")
+        file._check_open()
+        file._ask(word)
+
+    def _has(self, name: bytes) -> bool:
+        return not name.strip(b"/") or self._found(name) is not None
+
+    def _is_directory(self, name: bytes) -> bool:
+        found = self._found(name)
+        return not name.strip(b"/") or (found is not None and found.kind == IS_DIRECTORY)
+
+    def _found(self, name: bytes) -> Any:
+        """What a path leads to, or `None`. It makes no draw, and isn't in the script."""
+        try:
+            return self._call(FileCall("find", path=name), None, False)
+        except OSError as error:
+            if getattr(error, "refusal", None) in _MISSING:
+                return None
+            raise
+
+    def _close(self, descriptor: int, path: Path) -> None:
+        """Closes a file, unless it is stale or no call can be made."""
+        opened = self._opened.pop(descriptor, None)
+        if opened is None or self._busy:
+            return
+        try:
+            self._call(FileCall("close", descriptor), path)
+        except PowerLoss as error:
+            if error.is_first:
+                raise
+
+    def _check(self) -> None:
+        if self._busy or get_ident() != self._thread:
+            raise self._unusable()
+
+    def _unusable(self) -> Exception:
+        if get_ident() != self._thread:
+            return WrongThread("files belong to the thread that made them")
+        if self._closed:
+            return ValueError("the files are closed")
+        error = Interrupted("an earlier call was cut short, so its reply is lost: the files can't be used any more")
+        error.__cause__ = self._cause
+        return error
+
+    def _call(self, asked: FileCall, path: Any = None, is_shown: bool = True, to: Any = None) -> Any:
+        """Makes a call, and returns its reply. Raises the error of a refusal, which names the paths."""
+        if self._busy or get_ident() != self._thread:
+            raise self._unusable()
+        self._busy = True
+        try:
+            reply = self._layer.call(asked)
+        except BaseException as error:
+            self._ended(asked, error, is_shown)
+            raise
+        self._busy = False
+        if is_shown:
+            self._lines.append((asked, reply_text(asked, reply)))
+        if isinstance(reply, Refusal):
+            raise error_of(reply, path, to)
+        return reply
+
+    def _ended(self, asked: FileCall, error: BaseException, is_shown: bool) -> None:
+        """Notes a call that has no reply. One that may have been made ends the files."""
+        if isinstance(error, PowerLoss):
+            self._lines += ["# power loss"] if error.is_first else []
+            self._busy = False
+        elif isinstance(error, (BadLine, NotMade)):
+            self._busy = False
+        elif is_shown:
+            self._lines.append((asked, ""))
+        self._cause = error
+
+
+def _bytes_of(path: Path) -> bytes:
+    """A path as bytes. Raises `TypeError`."""
+    path = os.fspath(path)
+    return path if type(path) is bytes else path.encode("utf-8", "surrogateescape") if isinstance(path, str) else bytes(path)

@@ -1,0 +1,144 @@
+"""Classic bugs of programs that write files: each is found by `explore` within a second, and the program without it passes in every
+profile, with all runs made. A failed fsync that is tried again isn't among them: a sync that fails and drops its bytes isn't built. The
+last line is `N passed, M failed`. With the name of a test only that one is run."""
+
+import functools
+import os
+import sys
+import time
+import zlib
+
+TOP = os.path.dirname(os.path.dirname(os.path.abspath(__file__)))
+sys.path.insert(0, os.path.join(TOP, "bindings", "python"))
+
+from passing import run_tests
+
+from blobcrash import Failed, PowerLoss, explore
+
+PROFILES = ("ext4", "xfs", "btrfs", "posix")
+SETTINGS = ["write 0 1 1 2 sectors 4"]
+MOST_SECONDS = 1.0
+
+
+class Settings:
+    """A value in a file, which is replaced by a rename."""
+
+    def __init__(self, files, forgets=""):
+        self.files, self.forgets = files, forgets
+
+    def save(self, value):
+        with self.files.open("/new", "wb") as file:
+            file.write(value)
+            if self.forgets != "file":
+                self.files.fsync(file)
+        self.files.rename("/new", "/settings")
+        if self.forgets != "directory":
+            self.files.fsync_directory("/")
+
+    def load(self):
+        with self.files.open("/settings") as file:
+            return file.read()
+
+
+def saves(files, forgets=""):
+    """After a crash the value is the last one that was saved, or the one that was being saved. The first one is saved without a bug."""
+    may = [None]
+    try:
+        for settings, value in ((Settings(files), b"first"), (Settings(files, forgets), b"second")):
+            may = [may[-1], value]
+            settings.save(value)
+            may = [value]
+    except PowerLoss:
+        pass
+    files.restart()
+    found = Settings(files).load() if files.exists("/settings") else None
+    assert found in may, f"{found} is found, and not {may[-1]}"
+
+
+class Log:
+    """Records in a file that only grows: each has its length in a byte, four bytes of a checksum, and its bytes."""
+
+    def __init__(self, files, checks=True):
+        self.files, self.checks = files, checks
+        if not files.exists("/log"):
+            with files.open("/log", "xb") as file:
+                files.fsync(file)
+            files.fsync_directory("/")
+
+    def append(self, record):
+        with self.files.open("/log", "ab") as file:
+            file.write(bytes([len(record)]) + zlib.crc32(record).to_bytes(4, "big") + record)
+            self.files.fsync(file)
+
+    def records(self):
+        with self.files.open("/log") as file:
+            content = file.read()
+        found = []
+        while content:
+            end = 5 + content[0]
+            record, sum_ = content[5:end], content[1:5]
+            if len(content) < end or content[0] == 0 or (self.checks and zlib.crc32(record).to_bytes(4, "big") != sum_):
+                break
+            found.append(record)
+            content = content[end:]
+        return found
+
+
+def appends(files, checks=True):
+    """After a crash the log has each record that was appended, and at most the one that was being appended."""
+    tried, acknowledged = [], []
+    try:
+        log = Log(files, checks)
+        for record in (b"seven..", b"letters"):
+            tried.append(record)
+            log.append(record)
+            acknowledged.append(record)
+    except PowerLoss:
+        pass
+    found = files.recover(lambda: Log(files, checks).records())
+    assert found in (acknowledged, tried), f"{found} are found, and not {tried}"
+
+
+def explored(body, profile, **flags):
+    """Explores a body with a power loss at each call. Returns the failure, or `None`."""
+    began = time.perf_counter()
+    try:
+        visited = explore(functools.partial(body, **flags), files=profile, settings=SETTINGS, power_losses=1)
+        assert str(visited).endswith("runs, all of them"), visited
+        return None
+    except Failed as failed:
+        return failed
+    finally:
+        took = time.perf_counter() - began
+        assert took < MOST_SECONDS, f"{body.__name__} took {took:.2f} seconds ({profile})"
+
+
+def finds(body, profiles, text, **flags):
+    """Checks that a bug is found in these profiles, and in no other."""
+    for profile in PROFILES:
+        failed = explored(body, profile, **flags)
+        assert (failed is not None) == (profile in profiles), f"{profile}: {failed}"
+        assert failed is None or text in failed.reason, failed
+
+
+def test_no_sync_before_a_rename():
+    # In ext4 a rename over a file makes the new bytes durable.
+    finds(saves, ("xfs", "btrfs", "posix"), "is found, and not b'second'", forgets="file")
+
+
+def test_no_sync_of_the_directory():
+    finds(saves, PROFILES, "and not b'", forgets="directory")
+
+
+def test_an_append_without_a_checksum():
+    # In ext4 an append has no holes, so that the length says enough.
+    finds(appends, ("xfs", "btrfs", "posix"), "letters", checks=False)
+
+
+def test_without_bugs():
+    finds(saves, (), "")
+    finds(appends, (), "")
+
+
+if __name__ == "__main__":
+    sys.exit(run_tests(globals(), sys.argv[1:]))

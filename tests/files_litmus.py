@@ -1,0 +1,250 @@
+"""The litmus programs of docs/FILES.md: in each profile `explore` finds exactly the outcomes of the page's table, which are worked out by
+hand from its rules. What was seen on real file systems lies in their profiles' sets, except what OUTSIDE says. The last line is
+`N passed, M failed`."""
+
+import os
+import re
+import sys
+import time
+
+TOP = os.path.dirname(os.path.dirname(os.path.abspath(__file__)))
+sys.path.insert(0, os.path.join(TOP, "bindings", "python"))
+
+from blobcrash import Injected, explore
+
+SECTOR = 512
+SETTINGS = ["write 0 1 1 2 sectors 512"]
+PROFILES = ("ext4", "xfs", "btrfs", "posix")
+# How long an exploration may take, in seconds. A busy machine is slower.
+MOST_SECONDS = 1.0
+
+# What Linux 6.18 left on an image of 4 KB blocks that was copied right after the calls, or after background writeback: a letter is a
+# block. The columns are the program, what is durable before, the files looked at, ext4 (also without delayed allocation), XFS, btrfs.
+SEEN = """
+append BB to f | f = AA | f | AA | AA | AA
+append BB to f, o = X, fsync o | f = AA | f | AA AABB | AA AABB AA0B | AA
+t = BB, rename t f | f = AA | f | AA | AA | AA
+t = BB, rename t f, o = X, fsync o | f = AA | f | BB | empty | AA
+t = BB, rename t f, o = X, fsync o | | f | empty BB | empty | none
+rewrite f BB | f = AA | f | | AA | AA
+rewrite f BB, o = X, fsync o | f = AA | f | BB | BB | AA
+t = BB, link t f, unlink t, o = X, fsync o | | f | empty BB | empty | none
+mkdir s, s/f = BB, fsync s/f | | s/f | BB | BB | BB
+create f, mkdir q, q/o = X, fsync q/o | | f | empty | empty | none
+create f, fsync d | mkdir d | f | empty | none | none
+create f, write B to g, fdatasync g | g = AA | f | none | none | none
+create f, write B to g, fsync g | g = AA | f | empty | none | none
+unlink f | f = AA | f | AA | AA | AA
+unlink f, o = X, fsync o | f = AA | f | none | none | AA
+rename f g, fsync g | f = AA | f, g | none/AA | none/AA | none/AA
+write B to f | f = AA | f | AA BA | AA BA | AA
+write B to f, o = X, fsync o | f = AA | f | AA | AA | AA
+truncate f to A, o = X, fsync o | f = AA | f | A | A | AA
+truncate f to AA00, o = X, fsync o | f = AA | f | AA00 | AA00 | AA00
+write B to f, fsync f, append BB to f | f = AA | f | BA | BA | BA
+"""
+
+# What was seen and no crash of the profile leaves: an append of which only the end had been written back, and a rewrite after O_TRUNC
+# whose close made nothing durable.
+OUTSIDE = """
+append BB to f, o = X, fsync o | f = AA | f | AA0B | |
+rewrite f BB | f = AA | f | AA | |
+"""
+
+
+def parted(text, by):
+    """The parts of a text, without spaces around them; none of an empty one."""
+    return [part.strip() for part in text.split(by)] if text.strip() else []
+
+
+def bytes_of(letters):
+    """The bytes of letters: a sector each, `0` a sector of zeros."""
+    return b"".join((b"\0" if letter == "0" else letter.encode()) * SECTOR for letter in letters)
+
+
+def letters_of(content):
+    """The letters of a file's bytes."""
+    sectors = [content[at : at + SECTOR] for at in range(0, len(content), SECTOR)]
+    assert all(sector == sector[:1] * SECTOR for sector in sectors), "a sector is torn"
+    return "".join("0" if sector[:1] == b"\0" else chr(sector[0]) for sector in sectors)
+
+
+def put(files, path, mode, letters):
+    with files.open(path, mode) as file:
+        file.write(bytes_of(letters))
+
+
+def truncate(files, path, letters):
+    """Truncates a file to as many sectors as these letters are."""
+    with files.open(path, "r+b") as file:
+        file.truncate(SECTOR * len(letters))
+
+
+def sync(files, path, data=False):
+    if files.stat(path).kind == "directory":
+        return files.fsync_directory(path)
+    with files.open(path, "rb") as file:
+        return files.fdatasync(file) if data else files.fsync(file)
+
+
+STEPS = (
+    (r"(\S+) = (\w+)", lambda files, path, letters: put(files, path, "xb", letters)),
+    (r"append (\w+) to (\S+)", lambda files, letters, path: put(files, path, "ab", letters)),
+    (r"write (\w+) to (\S+)", lambda files, letters, path: put(files, path, "r+b", letters)),
+    (r"rewrite (\S+) (\w+)", lambda files, path, letters: put(files, path, "wb", letters)),
+    (r"truncate (\S+) to (\w+)", truncate),
+    (r"create (\S+)", lambda files, path: put(files, path, "xb", "")),
+    (r"mkdir (\S+)", lambda files, path: files.mkdir(path)),
+    (r"rename (\S+) (\S+)", lambda files, old, new: files.rename(old, new)),
+    (r"exchange (\S+) (\S+)", lambda files, one, other: files.exchange(one, other)),
+    (r"link (\S+) (\S+)", lambda files, old, new: files.link(old, new)),
+    (r"unlink (\S+)", lambda files, path: files.unlink(path)),
+    (r"fsync (\S+)", sync),
+    (r"fdatasync (\S+)", lambda files, path: sync(files, path, data=True)),
+)
+
+
+def step(files, text):
+    """Makes the calls of a step."""
+    for form, act in STEPS:
+        found = re.fullmatch(form, text)
+        if found:
+            return act(files, *found.groups())
+    raise ValueError(f"{text!r} is no step")
+
+
+def look(files, path):
+    """What is found of a file."""
+    if not files.exists(path):
+        return "none"
+    with files.open(path, "rb") as file:
+        return letters_of(file.read()) or "empty"
+
+
+class Litmus:
+    """A program as a body of `explore`, which returns what is found of its files after a crash."""
+
+    def __init__(self, program, before, looks_at):
+        self.before, self.program, self.looks_at = (parted(text, ",") for text in (before, program, looks_at))
+
+    def __call__(self, files):
+        # Nothing is drawn before the program. Its own truncations are the ones that may survive.
+        files.configure("keep 1 1")
+        for text in self.before:
+            step(files, text)
+        files.settle()
+        files.configure("keep 1 2")
+        try:
+            for text in self.program:
+                step(files, text)
+        except Injected:
+            return None
+        files.restart()
+        return "/".join(look(files, path) for path in self.looks_at)
+
+    def outcomes(self, profile):
+        """The outcomes in a profile, each of them found."""
+        resizes = ["resize 1 2 0 1"] if any(text.startswith(("truncate", "rewrite")) for text in self.program) else []
+        began = time.perf_counter()
+        explored = explore(self, files=profile, settings=SETTINGS + resizes)
+        assert explored.complete
+        took = time.perf_counter() - began
+        return set(explored.outcomes), explored.runs, took
+
+
+def rows_of(text):
+    return [[cell.strip() for cell in row.split("|")] for row in text.strip().split("\n")]
+
+
+def page_rows():
+    """The rows of the page's table."""
+    with open(os.path.join(TOP, "docs", "FILES.md"), encoding="utf-8") as file:
+        section = file.read().split("\n## Litmus programs\n")[1].split("\n## ")[0]
+    lines = [line.strip()[1:-1] for line in section.split("\n") if line.startswith("| ")]
+    return rows_of("\n".join(lines))[1:]
+
+
+def wanted(cell, ext4):
+    """The outcomes of a cell."""
+    words = cell.split()
+    if words == ["as", "ext4"]:
+        return ext4
+    return ext4 | set(words[1:]) if words[0] == "and" else set(words)
+
+
+class Count:
+    def __init__(self):
+        self.passed = self.failed = 0
+
+    def tell(self, holds, what):
+        self.passed, self.failed = self.passed + bool(holds), self.failed + (not holds)
+        if not holds:
+            print(f"files_litmus.py: FAILED: {what}")
+
+
+def compare_page(count):
+    """Compares the page's table."""
+    slowest = 0.0
+    rows = page_rows()
+    count.tell(len(rows) == 22 and all(len(row) == 7 for row in rows), f"the page's table has 22 rows of 7 cells: {len(rows)}")
+    for program, before, looks_at, *cells in rows:
+        ext4 = set(cells[0].split())
+        for profile, cell in zip(PROFILES, cells):
+            found, runs, took = Litmus(program, before, looks_at).outcomes(profile)
+            expected = wanted(cell, ext4)
+            what = f"{program} ({profile}): wanted {sorted(expected)}, found {sorted(found)} in {runs} runs"
+            count.tell(found == expected, what)
+            slowest = max(slowest, took)
+    count.tell(slowest < MOST_SECONDS, f"an exploration took {slowest:.2f} seconds")
+    return slowest
+
+
+def compare_seen(count):
+    """Compares what real file systems left."""
+    for table, is_inside in ((SEEN, True), (OUTSIDE, False)):
+        for program, before, looks_at, *cells in rows_of(table):
+            for profile, cell in zip(PROFILES, cells):
+                if cell:
+                    found, runs, _ = Litmus(program, before, looks_at).outcomes(profile)
+                    seen = set(cell.split())
+                    what = f"{program} ({profile}): {sorted(seen)} was seen, found {sorted(found)} in {runs} runs"
+                    count.tell(seen <= found if is_inside else not seen & found, what)
+
+
+def cut_and_append(files):
+    """Truncates a file within a block, and appends to it there."""
+    put(files, "f", "xb", "A" * 8)
+    files.settle()
+    with files.open("f", "r+b") as file:
+        try:
+            file.truncate(100)
+        except Injected:
+            return None
+        file.seek(100)
+        file.write(b"C" * 100)
+    files.restart()
+    with files.open("f") as file:
+        return file.read()
+
+
+def compare_block(count):
+    """ext4 and XFS left the old length, with the new bytes and then zeros, after background writeback. No crash of a profile does."""
+    ends = b"A" * 100 + b"C" * 100
+    old = ends + b"A" * (8 * SECTOR - 200)
+    wanted = {ends, ends[:100], old, b"A" * (8 * SECTOR)}
+    for profile in PROFILES:
+        found = set(explore(cut_and_append, files=profile, settings=[*SETTINGS, "resize 1 2 0 1"]).outcomes)
+        count.tell(found == wanted, f"a truncation and an append in a block ({profile}): {[len(content) for content in found]}")
+
+
+def main():
+    count = Count()
+    compare_page(count)
+    compare_seen(count)
+    compare_block(count)
+    print(f"{count.passed} passed, {count.failed} failed")
+    return int(count.failed > 0)
+
+
+if __name__ == "__main__":
+    sys.exit(main())

@@ -1,0 +1,298 @@
+"""The rules of docs/FILES.md in Python, as a way for `Files` in place of the library: names, bytes, syncs, and what a crash leaves."""
+
+import os
+import sys
+from typing import NamedTuple
+
+TOP = os.path.dirname(os.path.dirname(os.path.abspath(__file__)))
+sys.path.insert(0, os.path.join(TOP, "bindings", "python"))
+
+from files_model_names import ROOT, Names, Refused, apply
+
+from blobcrash.file_calls import Found, Kept, refusal_of
+from blobcrash.foreign_files import IS_DIRECTORY, IS_FILE, REFUSALS
+
+STATUSES = {refusal.name: status for status, refusal in REFUSALS.items()}
+NEVER, ALWAYS = (0, 1), (1, 1)
+
+
+class Profile(NamedTuple):
+    """A column of the page's table of profiles."""
+
+    keeps_a_prefix: bool
+    settles: str
+    cuts: bool
+    flushes: bool
+
+
+PROFILES = {
+    "ext4": Profile(True, "all", True, True),
+    "xfs": Profile(True, "up to its last", False, False),
+    "btrfs": Profile(True, "its names", False, False),
+    "posix": Profile(False, "its own", False, False),
+}
+
+
+class File:
+    """A file: what it has, what is durable, and what a crash draws for."""
+
+    def __init__(self):
+        self.live, self.durable, self.pending = b"", b"", []
+        self.synced = self.grown = 0
+        self.is_changed = self.is_truncated = False
+
+    def flush(self):
+        """Makes its bytes durable."""
+        self.durable, self.pending, self.synced, self.is_truncated = self.live, [], len(self.live), False
+
+
+def resized(data, length):
+    return data[:length] + bytes(max(0, length - len(data)))
+
+
+def written(data, offset, added):
+    """Data with bytes at an offset, and zeros in a gap before them."""
+    return resized(data, max(len(data), offset))[:offset] + added + data[offset + len(added) :] if added else data
+
+
+class Model(Names):
+    """Files by the rules. Of the settings it takes those of writes in sectors, of resizes, and `keep`."""
+
+    def __init__(self, preamble):
+        super().__init__()
+        self.words, self.taken = [], 0
+        self.resizes, self.retention, self.sector = None, NEVER, 1
+        for line in preamble.decode().split("\n"):
+            self.set(line.split())
+        self.files, self.opened, self.next_open = {}, {}, 0
+        # The names that are durable without any edit, and the numbers of the edits since then that are settled.
+        self.base, self.settled = {}, set()
+
+    def set(self, tokens):
+        if tokens[:1] == ["words"]:
+            self.words = [int(word) for word in tokens[1:]]
+        elif tokens[:1] == ["profile"]:
+            self.profile = PROFILES[tokens[1]]
+        elif tokens[:1] == ["keep"]:
+            self.keep = (int(tokens[1]), int(tokens[2]))
+        elif tokens[:2] == ["config", "resize"]:
+            self.resizes = (int(tokens[2]), int(tokens[3]))
+        elif tokens[:2] == ["config", "write"]:
+            self.retention, self.sector = (int(tokens[4]), int(tokens[5])), int(tokens[7])
+        elif tokens:
+            raise ValueError(tokens)
+
+    def call(self, asked):
+        try:
+            reply = getattr(self, asked.word)(asked)
+        except Refused as refused:
+            return refusal_of(STATUSES[str(refused)])
+        return Found(0, 0, 0) if reply is None else reply
+
+    def close(self, asked=None):
+        """Closes a file, or at the end the model."""
+        if asked is not None:
+            file = self.files[self.inode_of(asked)]
+            if self.profile.flushes and file.is_truncated:
+                file.flush()
+            self.opened.pop(asked.number)
+
+    def words_left(self):
+        left = self.words[self.taken :]
+        while left and left[-1] == 0:
+            left.pop()
+        return len(left)
+
+    def draw(self, rate):
+        """Whether a draw of a rate is true. It takes a word unless only one outcome is possible."""
+        first, of = rate
+        if 0 < first < of:
+            word = self.words[self.taken] if self.taken < len(self.words) else 0
+            self.taken += 1
+            return word * of < first * 2**64
+        return first >= of
+
+    # Bytes.
+
+    def replace_bytes(self, inode):
+        """Comes before a file replaces another one."""
+        if self.profile.flushes:
+            self.files[inode].flush()
+
+    def create(self, asked):
+        inode, _ = self.new(asked.path, IS_FILE)
+        self.files[inode] = File()
+        return self.opening(inode)
+
+    def open(self, asked):
+        inode, kind = self.binding_of(self.place_of(asked.path))
+        if kind == IS_DIRECTORY:
+            raise Refused("IsDirectory")
+        return self.opening(inode)
+
+    def open_truncated(self, asked):
+        found = self.open(asked)
+        file = self.files[self.opened[found.number]]
+        self.resize(file, 0)
+        file.is_truncated = True
+        return found
+
+    def open_inode(self, asked):
+        return self.opening(asked.number)
+
+    def opening(self, inode):
+        number = self.next_open
+        self.next_open += 1
+        self.opened[number] = inode
+        return Found(0, number, 0)
+
+    def inode_of(self, asked):
+        if asked.number not in self.opened:
+            raise Refused("Stale")
+        return self.opened[asked.number]
+
+    def size(self, asked):
+        return Found(0, 0, len(self.files[self.inode_of(asked)].live))
+
+    def read(self, asked):
+        return self.files[self.inode_of(asked)].live[asked.first : asked.first + asked.last]
+
+    def write(self, asked):
+        file = self.files[self.inode_of(asked)]
+        before = len(file.live)
+        file.live, file.is_changed = written(file.live, asked.first, asked.path), True
+        if len(file.live) > before:
+            file.grown = self.next_edit
+        if asked.path and self.retention[0]:
+            file.pending.append((asked.first, asked.path, self.retention))
+
+    def truncate(self, asked):
+        self.resize(self.files[self.inode_of(asked)], asked.first)
+
+    def resize(self, file, length):
+        """Resizes a file. Whether that survives is drawn by the call."""
+        file.is_changed, file.grown = True, self.next_edit
+        if self.resizes is not None:
+            if self.draw(self.resizes):
+                raise Refused("Injected")
+            if self.draw(self.resizes):
+                file.pending.append((length, None, ALWAYS))
+        file.live = resized(file.live, length)
+
+    # Syncs.
+
+    def settle_where(self, holds):
+        self.settled |= {edit.number for edit in self.edits if holds(edit)}
+
+    def unsettled(self):
+        return [edit for edit in self.edits if edit.number not in self.settled]
+
+    def after_last(self, inode):
+        """The number after that of the last unsettled edit that is about an inode, or in a directory."""
+        return max((edit.number + 1 for edit in self.unsettled() if inode in edit.inodes + edit.directories), default=0)
+
+    def settle_names(self, inode):
+        """Settles the edits of an inode's names and, upward, of the directories that have them."""
+        for edit in self.unsettled():
+            if inode in edit.inodes and edit.number not in self.settled:
+                self.settled.add(edit.number)
+                for directory in edit.directories:
+                    self.settle_names(directory)
+
+    def fsync(self, asked, data=False):
+        inode = self.inode_of(asked)
+        file = self.files[inode]
+        was_changed, is_resized = file.is_changed, file.synced != len(file.live)
+        file.flush()
+        file.is_changed = data and was_changed and not is_resized
+        if self.profile.settles == "all" and ((is_resized if data else was_changed) or self.after_last(inode)):
+            self.settle_where(lambda edit: True)
+        elif self.profile.settles == "up to its last":
+            end = max(self.after_last(inode), file.grown)
+            self.settle_where(lambda edit: edit.number < end)
+        elif self.profile.settles == "its names":
+            self.settle_names(inode)
+
+    def fdatasync(self, asked):
+        self.fsync(asked, data=True)
+
+    def fsync_directory(self, asked):
+        directory = self.directory_of(asked.path)
+        if self.profile.settles == "all":
+            self.settle_where(lambda edit: True)
+        elif self.profile.settles == "up to its last":
+            end = self.after_last(directory)
+            self.settle_where(lambda edit: edit.number < end)
+        else:
+            if self.profile.settles == "its names":
+                self.settle_names(directory)
+            self.settle_where(lambda edit: directory in edit.directories)
+
+    def sync(self, asked):
+        for file in self.files.values():
+            file.flush()
+            file.is_changed = False
+        self.settle_where(lambda edit: True)
+
+    settle = sync
+
+    def configure(self, asked):
+        self.set(asked.path.decode().split())
+
+    # The crash.
+
+    def crash(self, asked):
+        kept = self.kept_names()
+        for file in self.files.values():
+            self.crash_bytes(file)
+        self.names, self.directories = reached(self.base)
+        self.base = dict(self.names)
+        self.files = {inode: file for inode, file in self.files.items() if (inode, IS_FILE) in self.names.values()}
+        self.edits, self.opened = [], {}
+        return Kept([], kept)
+
+    def kept_names(self):
+        """Applies the edits that are kept to the durable names. Returns of each unsettled one whether it was."""
+        kept, is_lost = [], False
+        for edit in self.edits:
+            is_settled = edit.number in self.settled
+            is_kept = is_settled or (self.draw(edit.rate) and not is_lost)
+            if is_kept:
+                apply(self.base, edit.changes)
+            is_lost |= not is_kept and self.profile.keeps_a_prefix
+            kept += [] if is_settled else [is_kept]
+        return kept
+
+    def crash_bytes(self, file):
+        """Leaves the durable bytes of a file with what is kept of its writes, and cuts it if the profile does."""
+        data = file.durable
+        for offset, added, rate in file.pending:
+            if added is None:
+                data = resized(data, offset)
+                continue
+            for at in range(offset - offset % self.sector, offset + len(added), self.sector):
+                start, end = max(at, offset), min(at + self.sector, offset + len(added))
+                if self.draw(rate):
+                    data = written(data, start, added[start - offset : end - offset])
+        if self.profile.cuts and len(data) > file.synced:
+            end = file.synced
+            while end < min(len(data), len(file.live)) and data[end] == file.live[end]:
+                end += 1
+            data = data[:end]
+        file.live = data
+        file.flush()
+        file.is_changed, file.grown = False, 0
+
+
+def reached(names):
+    """The names that the root reaches, and each directory with the one that has it. No directory has two names."""
+    found, above, left = {}, {ROOT: ROOT}, [ROOT]
+    while left:
+        directory = left.pop()
+        for entry, (inode, kind) in sorted(names.items()):
+            if entry[0] == directory and not (kind == IS_DIRECTORY and inode in above):
+                found[entry] = (inode, kind)
+                if kind == IS_DIRECTORY:
+                    above[inode] = directory
+                    left.append(inode)
+    return found, above
