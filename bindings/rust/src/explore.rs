@@ -64,7 +64,7 @@ pub enum ExploreError<E> {
     },
     /// The body made other choices than before on the same path.
     NotDeterministic,
-    /// A store can't be opened or not be explored: its builder has a seed or words, or a partial resize.
+    /// A store, or files, can't be opened or not be explored: the builder has a seed or words, or a partial resize.
     Store(Error),
 }
 
@@ -100,7 +100,7 @@ impl<E: fmt::Display> fmt::Display for ExploreError<E> {
 
 impl<E: fmt::Debug + fmt::Display> std::error::Error for ExploreError<E> {}
 
-/// An exploration, which calls a body with a new store for each combination of outcomes, depth first.
+/// An exploration, which calls a body with a new store, or new [`files`](crate::files), for each combination of outcomes, depth first.
 /// These are chosen in every way: whether each draw of a rate between 0 and 1 is true, each [`Run::choose`], and at which calls the power
 /// fails.
 ///
@@ -158,7 +158,8 @@ impl<B: Explorable> Exploration<B> {
     /// Lets the power fail at most this many times in a run, at each call that may change what a crash leaves: opens, writes, resizes,
     /// syncs, removals and admissions. This call and all later ones then return [`Error::PowerLoss`] until the store has crashed and
     /// reopened, as by [`Store::restart`](crate::Store::restart) and [`Store::recover`](crate::Store::recover).
-    /// [`Store::is_power_off`](crate::Store::is_power_off) reports it.
+    /// [`Store::is_power_off`](crate::Store::is_power_off) reports it. For files these are the calls of
+    /// [`Files::crash_after`](crate::files::Files::crash_after), and the power is off until they have crashed.
     ///
     /// ```
     /// # use blobcrash::{Error, Exploration, Store};

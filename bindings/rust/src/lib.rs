@@ -29,6 +29,7 @@
 //! The layer itself is proved; this crate, which only calls it, is tested. Threads may share a [`Store`]: each call takes its lock.
 //!
 //! - [`storage`] and [`asynchronous`] have the traits of the ported crate, for code that is written for any storage.
+//! - [`files`] has a file system with names, directories and renames, by the rules of ext4, XFS, btrfs or POSIX alone.
 //! - [`explore`] and [`Exploration`] call a test once for each outcome of its draws, choices and power losses; [`seeds`] calls it once for
 //!   each seed.
 //! - [`header`] makes and resolves header regions.
@@ -45,6 +46,7 @@ mod debt_calls;
 mod durable;
 mod error;
 mod explore;
+pub mod files;
 mod foreign;
 mod fork;
 mod handle;

@@ -1,4 +1,4 @@
-//! What may stop the calls of a run: its power, and the choices of an exploration.
+//! What may stop the calls of a run: its power, and the choices of an exploration. Stores and files have the same.
 use crate::Error;
 use crate::choices::{Choices, Kind, too_long};
 use crate::power::{Effect, Power};
@@ -12,7 +12,7 @@ pub trait Recorded {
     fn note(&mut self, text: &str);
 }
 
-/// What has limits: a store.
+/// What has limits: a store or files.
 pub trait Limited {
     /// Calls `act` with the limits and the session, under the lock.
     #[doc(hidden)]

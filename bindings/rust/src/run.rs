@@ -5,15 +5,16 @@ use crate::{Error, Store};
 use std::ops::Deref;
 
 /// What an exploration opens anew for each run. It is implemented by the builders of this crate alone: [`Builder`](crate::Builder) for
-/// a [`Store`].
+/// a [`Store`], and [`files::Builder`](crate::files::Builder) for [`files::Files`](crate::files::Files).
 ///
 /// ```
+/// use blobcrash::files::Files;
 /// use blobcrash::{Error, Explorable, Store, explore};
 ///
 /// fn runs(builder: &impl Explorable) -> u64 {
 ///     explore(builder, 10, |run| Ok::<_, Error>(run.choose(3))).unwrap().runs
 /// }
-/// assert_eq!(runs(&Store::builder()), 3);
+/// assert_eq!(runs(&Store::builder()) + runs(&Files::builder()), 6);
 /// ```
 pub trait Explorable: Clone {
     /// What a run has.
@@ -28,7 +29,7 @@ pub trait Explorable: Clone {
     fn seeded(&self, seed: u64) -> Result<Self::Opened, Error>;
 }
 
-/// The store of one run. It has the methods of [`Store`].
+/// The store, or the files, of one run. It has the methods of [`Store`] or of [`files::Files`](crate::files::Files).
 ///
 /// ```
 /// # use blobcrash::{Error, Run, Store, explore};

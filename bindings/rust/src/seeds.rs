@@ -3,7 +3,7 @@ use crate::{Explorable, ExploreError, Explored, Run};
 use std::collections::BTreeMap;
 use std::ops::Range;
 
-/// Calls `body` with a new store for each seed. The seed decides every draw and every [`Run::choose`].
+/// Calls `body` with a new store, or new [`files`](crate::files), for each seed. The seed decides every draw and every [`Run::choose`].
 ///
 /// Errors:
 /// - `Failed` for the first seed with which the body returns an error. Its script has the seed.
