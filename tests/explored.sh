@@ -1,5 +1,6 @@
 #!/bin/sh
-# Tests of explorations of code: in C (bindings/c/explore.c, and a log with power losses in explore_log.c), in Python (tests/explore_bodies.py, explore_bounds.py), and the log of examples/log.py over
+# Tests of explorations of code: in C (bindings/c/explore.c, a log with power losses in explore_log.c, and programs on files in
+# explore_files.c), in Python (tests/explore_bodies.py, explore_bounds.py), and the log of examples/log.py over
 # every outcome of small runs, with planted bugs (tests/explore_log.py). The last line is `N passed, M failed`.
 set -u
 
@@ -105,6 +106,14 @@ for sanitize in '' '-g -fsanitize=address,undefined'; do
     explore_log "$work/explore_log" head-first "$work/script"
     [ "$status" -eq 1 ] && grep -q 'acknowledged is lost' "$work/out" && grep -qx '# power loss' "$work/script"
     tell $? "explore_log.c $sanitize: it is found with a power loss"
+    # Files: bugs that lose data, and the same programs without them.
+    # shellcheck disable=SC2086
+    if "$compiler" -std=c11 -Wall -Wextra -Werror -pedantic -O2 $sanitize -I"$top/bindings/c" -o "$work/explore_files" \
+        "$top/bindings/c/explore_files.c" "$top/out/libblobcrash.a" >"$work/out" 2>&1; then
+        add "$work/explore_files"
+    else
+        tell 1 "explore_files.c $sanitize"
+    fi
 done
 python=$(with_distributed)
 export PYTHONDONTWRITEBYTECODE=1

@@ -36,6 +36,7 @@ include/blobcrash/blobcrash_calls.h
 include/blobcrash/blobcrash_files.h
 include/blobcrash/blobcrash_lines.h
 include/blobcrash/explore.h
+include/blobcrash/explore_files.h
 include/blobcrash/fork.h
 include/blobcrash/power.h
 lib/libblobcrash.a

@@ -14,7 +14,8 @@
  *     }
  *     blobcrash_free_paths(&paths);
  *
- * Power losses, and the script of a run: blobcrash_explored_call and blobcrash_repeat_run. explore_log.c has an example of both.
+ * Power losses, and the script of a run: blobcrash_explored_call and blobcrash_repeat_run. explore_log.c has an example of both. Files
+ * (blobcrash_files.h) are explored by explore_files.h.
  *
  * A loop that retries until it succeeds never ends when every try fails; bound it. The first run has such a path. So a run has a limit:
  * `paths.calls_per_run` explored calls (power.h), and as many choices. Past it no draw of an explored call is true and the power stays on,
@@ -75,6 +76,7 @@ struct blobcrash_paths {
     unsigned losses;        /* how often the power failed */
     bool is_off;            /* the power is off */
     bool has_crashed;       /* and the store has crashed since */
+    bool has_truncated;     /* of files: an open has truncated one since the last crash */
     bool differs;           /* a choice is of another kind than that of the path */
     bool has_no_memory;
     bool is_running;
@@ -109,24 +111,9 @@ static inline size_t blobcrash_words_of(const struct blobcrash_paths *paths, cha
     return len;
 }
 
-/* Prepares the fields of a run that is under way, and prints the lines before its calls. */
-static inline void blobcrash_begin_run(struct blobcrash_paths *paths, const char *words, size_t words_len, const char *settings) {
-    paths->taken = paths->drawn = 0;
-    paths->losses = 0;
-    paths->is_off = paths->has_crashed = paths->differs = paths->has_no_memory = paths->is_long = false;
-    paths->is_running = true;
-    paths->calls = 0;
-    paths->given = 2 * paths->room;
-    for (size_t i = 0; i < paths->len; i++) paths->given += paths->path[i] <= BLOBCRASH_FALSE;
-    if (paths->script != NULL) {
-        if (words_len > 5) fprintf(paths->script, "%.*s\n", (int)words_len, words);
-        fputs(settings, paths->script);
-    }
-}
-
-/* Goes on to the path of the next run, or begins with the first one, and opens its session: its words, and then the lines of `settings`,
- * each of which ends with a line feed. RUN, END, BAD_SETTINGS, or NO_MEMORY, after which it may be called again. */
-static inline int blobcrash_next_run(struct blobcrash_paths *paths, struct blobcrash_session *session, const char *settings) {
+/* Goes on to the path of the next run, or begins with the first one. Returns its preamble: its words, and then the settings. RUN, END or
+ * NO_MEMORY. */
+static inline int blobcrash_next_path(struct blobcrash_paths *paths, const char *settings, char **preamble, size_t *preamble_len) {
     if (paths->has_ended) {
         while (paths->len > 0 && (paths->path[paths->len - 1] & 1) != 0) paths->len--;
         paths->is_over = paths->len == 0;
@@ -136,18 +123,47 @@ static inline int blobcrash_next_run(struct blobcrash_paths *paths, struct blobc
     if (paths->is_over) return BLOBCRASH_EXPLORE_END;
     if (paths->room == 0) paths->room = 64;
     size_t words = blobcrash_words_of(paths, NULL, 0), rest = strlen(settings), len = words + 6 * paths->room + 1 + rest;
-    char *preamble = malloc(len);
-    if (preamble == NULL) return BLOBCRASH_EXPLORE_NO_MEMORY;
-    char *end = preamble + blobcrash_words_of(paths, preamble, len);
+    char *text = malloc(len);
+    if (text == NULL) return BLOBCRASH_EXPLORE_NO_MEMORY;
+    char *end = text + blobcrash_words_of(paths, text, len);
     for (size_t i = 0; i < paths->room; i++, end += 2) memcpy(end, " 0", 2);
     for (size_t i = 0; i < paths->room; i++, end += 4) memcpy(end, " max", 4);
     *end = '\n';
     memcpy(end + 1, settings, rest);
-    struct blobcrash_script_ran ran = blobcrash_open(session, (const uint8_t *)preamble, len);
-    if (ran.status == BLOBCRASH_DONE) blobcrash_begin_run(paths, preamble, words, settings);
+    *preamble = text;
+    *preamble_len = len;
+    return BLOBCRASH_EXPLORE_RUN;
+}
+
+/* Prepares the fields of a run that is under way, if its preamble was opened, and prints the lines before its calls. Frees the preamble. */
+static inline int blobcrash_begin_run(struct blobcrash_paths *paths, uint32_t opened, char *preamble, const char *settings) {
+    size_t words = blobcrash_words_of(paths, NULL, 0);
+    if (opened == BLOBCRASH_DONE && paths->script != NULL) {
+        if (words > 5) fprintf(paths->script, "%.*s\n", (int)words, preamble);
+        fputs(settings, paths->script);
+    }
     free(preamble);
-    if (ran.status == BLOBCRASH_DONE) return BLOBCRASH_EXPLORE_RUN;
-    return ran.status == BLOBCRASH_NO_MEMORY ? BLOBCRASH_EXPLORE_NO_MEMORY : BLOBCRASH_EXPLORE_BAD_SETTINGS;
+    if (opened == BLOBCRASH_NO_MEMORY) return BLOBCRASH_EXPLORE_NO_MEMORY;
+    if (opened != BLOBCRASH_DONE) return BLOBCRASH_EXPLORE_BAD_SETTINGS;
+    paths->taken = paths->drawn = 0;
+    paths->losses = 0;
+    paths->is_off = paths->has_crashed = paths->has_truncated = false;
+    paths->differs = paths->has_no_memory = paths->is_long = false;
+    paths->is_running = true;
+    paths->calls = 0;
+    paths->given = 2 * paths->room;
+    for (size_t i = 0; i < paths->len; i++) paths->given += paths->path[i] <= BLOBCRASH_FALSE;
+    return BLOBCRASH_EXPLORE_RUN;
+}
+
+/* Goes on to the path of the next run, or begins with the first one, and opens its session: its words, and then the lines of `settings`,
+ * each of which ends with a line feed. RUN, END, BAD_SETTINGS, or NO_MEMORY, after which it may be called again. */
+static inline int blobcrash_next_run(struct blobcrash_paths *paths, struct blobcrash_session *session, const char *settings) {
+    char *preamble;
+    size_t len;
+    int status = blobcrash_next_path(paths, settings, &preamble, &len);
+    if (status != BLOBCRASH_EXPLORE_RUN) return status;
+    return blobcrash_begin_run(paths, blobcrash_open(session, (const uint8_t *)preamble, len).status, preamble, settings);
 }
 
 /* Makes the next choice, of the kind of `first`, and returns it: that of the path, or after its end `first`. */
@@ -169,21 +185,24 @@ static inline uint8_t blobcrash_choose(struct blobcrash_paths *paths, uint8_t fi
     return first;
 }
 
-/* Adds the draws of the calls up to here to the path. Returns how many words are left. */
-static inline struct blobcrash_ran blobcrash_count_draws(struct blobcrash_paths *paths, struct blobcrash_session *session) {
-    struct blobcrash_ran left = blobcrash_words_left(session);
+/* Adds the draws of the calls up to here to the path, where `left` counts the words that are left. */
+static inline void blobcrash_count_words(struct blobcrash_paths *paths, struct blobcrash_ran left) {
     if (left.status == BLOBCRASH_DONE && left.len <= paths->given) {
         for (; paths->drawn < paths->given - left.len; paths->drawn++) blobcrash_choose(paths, BLOBCRASH_TRUE);
     }
+}
+
+/* Adds the draws of the calls up to here to the path. Returns how many words are left. */
+static inline struct blobcrash_ran blobcrash_count_draws(struct blobcrash_paths *paths, struct blobcrash_session *session) {
+    struct blobcrash_ran left = blobcrash_words_left(session);
+    blobcrash_count_words(paths, left);
     return left;
 }
 
-/* Closes the session of a run. RUN if it counts: `paths` then has its path until the next run begins. AGAIN, OTHER_DRAWS, TOO_LONG,
- * NO_MEMORY, or BAD_SETTINGS if these have a seed or words: the run doesn't count, and the next run is the same one again. */
-static inline int blobcrash_end_run(struct blobcrash_paths *paths, struct blobcrash_session *session) {
-    struct blobcrash_ran left = blobcrash_count_draws(paths, session);
+/* Ends a run, where `left` counts the words that are left. Returns what blobcrash_end_run does. */
+static inline int blobcrash_finish_run(struct blobcrash_paths *paths, struct blobcrash_ran left) {
     uint64_t most = blobcrash_most_calls(paths);
-    blobcrash_close(session);
+    blobcrash_count_words(paths, left);
     paths->is_running = false;
     if (left.status != BLOBCRASH_DONE) {
         return left.status == BLOBCRASH_ENDLESS ? BLOBCRASH_EXPLORE_BAD_SETTINGS : BLOBCRASH_EXPLORE_NO_MEMORY;
@@ -202,6 +221,14 @@ static inline int blobcrash_end_run(struct blobcrash_paths *paths, struct blobcr
     paths->runs++;
     paths->has_ended = true;
     return BLOBCRASH_EXPLORE_RUN;
+}
+
+/* Closes the session of a run. RUN if it counts: `paths` then has its path until the next run begins. AGAIN, OTHER_DRAWS, TOO_LONG,
+ * NO_MEMORY, or BAD_SETTINGS if these have a seed or words: the run doesn't count, and the next run is the same one again. */
+static inline int blobcrash_end_run(struct blobcrash_paths *paths, struct blobcrash_session *session) {
+    struct blobcrash_ran left = blobcrash_words_left(session);
+    blobcrash_close(session);
+    return blobcrash_finish_run(paths, left);
 }
 
 /* Makes the next run repeat the one that counted last. Its explored calls are printed to `script`, which may be NULL, as a script that

@@ -10,31 +10,55 @@
 
 #include "explore.h"
 
-/* Counts an explored call. From the first one past the limit on no draw is true and the power is on. */
-static inline void blobcrash_count_call(struct blobcrash_paths *paths, struct blobcrash_session *session) {
-    uint64_t words[64];
-    if (!paths->is_running || ++paths->calls <= blobcrash_most_calls(paths)) return;
-    struct blobcrash_ran left = blobcrash_words_left(session);
-    if (left.status != BLOBCRASH_DONE) return;
+/* How many words are pushed that make draws false. */
+enum { BLOBCRASH_FALSE_WORDS = 64 };
+
+/* Counts an explored call. Returns whether it is past the limit. */
+static inline bool blobcrash_is_past_limit(struct blobcrash_paths *paths) {
+    return paths->is_running && ++paths->calls > blobcrash_most_calls(paths);
+}
+
+/* Follows a call past the limit, where `left` counts the words that are left: the power is on. Returns whether `words`, which make draws
+ * false, are to be pushed. */
+static inline bool blobcrash_ends_draws(struct blobcrash_paths *paths, struct blobcrash_ran left, uint64_t *words) {
+    if (left.status != BLOBCRASH_DONE) return false;
     if (!paths->is_long) paths->kept = left.len;
     paths->is_long = true;
     paths->is_off = paths->has_crashed = false;
     paths->losses = paths->power_losses;
-    memset(words, 0xff, sizeof words);
-    if (left.len <= paths->kept) blobcrash_push_words(session, words, sizeof words / sizeof *words);
+    memset(words, 0xff, BLOBCRASH_FALSE_WORDS * sizeof *words);
+    return left.len <= paths->kept;
+}
+
+/* Returns whether the power may fail at a call, which changes what a crash leaves or doesn't. */
+static inline bool blobcrash_may_fail(const struct blobcrash_paths *paths, bool changes) {
+    return changes && !paths->is_off && paths->losses != paths->power_losses;
+}
+
+/* Chooses whether the power fails now, after the draws were counted. */
+static inline bool blobcrash_fails_now(struct blobcrash_paths *paths) {
+    if (blobcrash_choose(paths, BLOBCRASH_POWER_STAYS) == BLOBCRASH_POWER_STAYS) return false;
+    paths->losses++;
+    paths->is_off = true;
+    if (paths->script != NULL) fputs("# power loss\n", paths->script);
+    return true;
+}
+
+/* Counts an explored call. From the first one past the limit on no draw is true and the power is on. */
+static inline void blobcrash_count_call(struct blobcrash_paths *paths, struct blobcrash_session *session) {
+    uint64_t words[BLOBCRASH_FALSE_WORDS];
+    if (blobcrash_is_past_limit(paths) && blobcrash_ends_draws(paths, blobcrash_words_left(session), words)) {
+        blobcrash_push_words(session, words, BLOBCRASH_FALSE_WORDS);
+    }
 }
 
 /* Returns whether the power is off at a call, which then isn't made. `changes` says that it may change what a crash leaves: it opens,
  * admits, writes, resizes, syncs or removes. Counts the call. */
 static inline bool blobcrash_power_fails(struct blobcrash_paths *paths, struct blobcrash_session *session, bool changes) {
     blobcrash_count_call(paths, session);
-    if (paths->is_off || !changes || paths->losses == paths->power_losses) return paths->is_off;
+    if (!blobcrash_may_fail(paths, changes)) return paths->is_off;
     blobcrash_count_draws(paths, session);
-    if (blobcrash_choose(paths, BLOBCRASH_POWER_STAYS) == BLOBCRASH_POWER_STAYS) return false;
-    paths->losses++;
-    paths->is_off = true;
-    if (paths->script != NULL) fputs("# power loss\n", paths->script);
-    return true;
+    return blobcrash_fails_now(paths);
 }
 
 static inline bool blobcrash_was_made(uint32_t status) {

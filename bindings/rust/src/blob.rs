@@ -336,7 +336,7 @@ impl Blob {
     fn usable(&self) -> Result<MutexGuard<'_, State>, Error> {
         let mut state = self.shared.lock();
         if let Err(stale) = self.opened.check() {
-            state.count_call()?;
+            state.limits.count_call()?;
             return Err(stale);
         }
         Ok(state)

@@ -1,8 +1,9 @@
 use crate::choices::Choices;
 use crate::library::Session;
+use crate::limits::Limits;
 use crate::script::{Script, first_word, image_line, one_line, words_line};
 use crate::shared::{Shared, State};
-use crate::{Config, Error, Store};
+use crate::{Config, Error, Explorable, Store};
 
 /// The last word of a store with pushed words. It isn't zero, so that the library reports how many are left.
 const LAST_WORD: u64 = 1;
@@ -19,14 +20,14 @@ const LAST_WORD: u64 = 1;
 #[derive(Clone, Debug, Default)]
 #[must_use]
 pub struct Builder {
-    lines: Vec<String>,
-    config: Config,
-    has_draws: bool,
+    pub(crate) lines: Vec<String>,
+    pub(crate) config: Config,
+    pub(crate) has_draws: bool,
     is_pushed: bool,
     allow_stale: bool,
-    unrecorded: bool,
+    pub(crate) unrecorded: bool,
     /// The first argument that can't be expressed.
-    problem: Option<Error>,
+    pub(crate) problem: Option<Error>,
 }
 
 impl Builder {
@@ -183,24 +184,47 @@ impl Builder {
     /// assert!(Store::builder().open().is_ok());
     /// ```
     pub fn open(self) -> Result<Store, Error> {
-        self.made(None)
+        self.made(Limits::default())
     }
 
-    /// Makes the store of an explored run, with as many words after those of its path.
-    pub(crate) fn explored(&self, mut choices: Choices, words: usize) -> Result<Store, Error> {
+    /// Refuses words and a seed of the caller's.
+    fn check_undrawn(&self) -> Result<(), Error> {
         if self.has_draws || self.is_pushed {
-            let text = "an explored store has neither a seed nor words: its draws are chosen";
+            let text =
+                "an explored run, or that of a seed, has neither a seed nor words of its builder's";
             return Err(Error::Argument(text.to_owned()));
         }
+        Ok(())
+    }
+
+    /// Returns the builder of an explored run, with as many words after those of its path.
+    pub(crate) fn with_choices(
+        &self,
+        choices: &mut Choices,
+        words: usize,
+    ) -> Result<Builder, Error> {
+        self.check_undrawn()?;
         self.config.check_explorable()?;
+        for line in &self.lines {
+            Config::check_explorable_line(line)?;
+        }
         let mut builder = self.clone().words(&choices.words(words));
         // Before the images and the lines of the caller.
         builder.lines.rotate_right(1);
-        builder.made(Some(choices))
+        Ok(builder)
     }
 
-    fn made(mut self, choices: Option<Choices>) -> Result<Store, Error> {
-        if let Some(problem) = self.problem {
+    /// Returns the builder of a seed's run.
+    pub(crate) fn with_seed(&self, seed: u64) -> Result<Builder, Error> {
+        self.check_undrawn()?;
+        let mut builder = self.clone().seed(seed);
+        builder.lines.rotate_right(1);
+        Ok(builder)
+    }
+
+    /// Adds the lines of the configuration, after checking what the caller gave.
+    pub(crate) fn complete(&mut self) -> Result<(), Error> {
+        if let Some(problem) = self.problem.take() {
             return Err(problem);
         }
         self.config.check()?;
@@ -208,11 +232,16 @@ impl Builder {
             let text = "a store with pushed words has neither a seed nor other words";
             return Err(Error::Argument(text.to_owned()));
         }
-        let has_draws = self.has_draws || self.is_pushed;
-        if !has_draws && self.config.needs_draws() {
+        if !self.has_draws && !self.is_pushed && self.config.needs_draws() {
             return Err(Error::NeedsSeed);
         }
         self.lines.extend(self.config.lines());
+        Ok(())
+    }
+
+    fn made(mut self, limits: Limits) -> Result<Store, Error> {
+        self.complete()?;
+        let has_draws = self.has_draws || self.is_pushed;
         let pushed: &[u64] = if self.is_pushed { &[LAST_WORD] } else { &[] };
         let mut preamble = self.lines.join("\n");
         if self.is_pushed {
@@ -224,8 +253,21 @@ impl Builder {
             self.lines.iter().for_each(|line| script.push_line(line));
             session.script = Some(script);
         }
-        let state = State::new(session, self.config, choices);
+        let state = State::new(session, self.config, limits);
         let shared = Shared::new(state, has_draws, self.allow_stale, self.is_pushed);
         Ok(Store::of(shared))
+    }
+}
+
+impl Explorable for Builder {
+    type Opened = Store;
+
+    fn explored(&self, mut choices: Choices, words: usize) -> Result<Store, Error> {
+        let builder = self.with_choices(&mut choices, words)?;
+        builder.made(Limits::of_choices(choices))
+    }
+
+    fn seeded(&self, seed: u64) -> Result<Store, Error> {
+        self.with_seed(seed)?.made(Limits::of_seed(seed))
     }
 }

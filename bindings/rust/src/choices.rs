@@ -41,9 +41,9 @@ impl Choice {
     }
 }
 
-/// The choices of a run, which follows a path and then takes each first branch.
+/// The choices of a run, which follows a path and then takes each first branch. It is public since `Explorable` has it, in a private module.
 #[derive(Debug)]
-pub(crate) struct Choices {
+pub struct Choices {
     path: Vec<Choice>,
     pub(crate) taken: Vec<Choice>,
     /// How many words were given, and how many of them are taken.

@@ -56,7 +56,7 @@ impl Probability {
         })
     }
 
-    fn words(self) -> String {
+    pub(crate) fn words(self) -> String {
         format!("{} {}", self.numerator, self.denominator)
     }
 
@@ -65,7 +65,7 @@ impl Probability {
     }
 
     /// Whether a draw of this rate takes a word of the generator.
-    fn needs_draws(self) -> bool {
+    pub(crate) fn needs_draws(self) -> bool {
         self.numerator != 0 && self.numerator != self.denominator
     }
 }

@@ -61,7 +61,7 @@ pub(crate) struct DebtReply {
 const BLOB_ALREADY_OPEN: u32 = 21;
 
 /// The failures without texts, by their statuses.
-const PLAIN_FAILURES: [(u32, Error); 8] = [
+pub(crate) const PLAIN_FAILURES: [(u32, Error); 8] = [
     (16, Error::OffsetOverflow),
     (17, Error::BlobInsufficientLength),
     (25, Error::Closed),

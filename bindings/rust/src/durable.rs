@@ -78,7 +78,7 @@ impl Store {
             return Err(Error::Argument(text.to_owned()));
         };
         let mut state = self.shared.lock();
-        if state.power.is_off() {
+        if state.limits.power.is_off() {
             return Err(Error::PowerLoss);
         }
         let config = state.config();

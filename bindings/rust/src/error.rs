@@ -59,13 +59,36 @@ pub enum Error {
     Memory,
     /// No number is left for a blob, a write or a started sync.
     GenerationsExhausted,
+    /// Of [`files`](crate::files): the name is taken.
+    Exists,
+    /// Of files: no file or directory has this name.
+    NotFound,
+    /// Of files: the directory has names.
+    NotEmpty,
+    /// Of files: the call wants a file, and this is a directory.
+    IsDirectory,
+    /// Of files: the call wants a directory, and this is a file.
+    NotDirectory,
+    /// Of files: a name has more than 255 bytes.
+    NameTooLong,
+    /// Of files: a name is empty, `.` or `..`, or has a zero.
+    InvalidName,
+    /// Of files: the file has as many names as a file may have.
+    TooManyLinks,
+    /// Of files: a limit of bytes or of files is reached.
+    NoSpace,
+    /// Of files: a directory would be moved below itself.
+    Loop,
+    /// Of files: memory ran out in the recovery of the last crash. Crash again.
+    Crashed,
     /// No open handle, or no unfinished sync, has this number.
     NoHandle,
     /// The range of versions is empty.
     EmptyRange,
-    /// The handle is from before a crash, a reopen or the removal of its blob, as the text says. No call was made.
+    /// The handle is from before a crash, a reopen or the removal of its blob, or the file from before a crash, as the text says. No call
+    /// was made.
     StaleHandle(&'static str),
-    /// The power is off. No call was made, and none is until the store has crashed and reopened.
+    /// The power is off. No call was made, and none is until the store has crashed and reopened, or the files have crashed.
     PowerLoss,
     /// A rate needs random draws, and the store has neither a seed nor words. Nothing has changed.
     NeedsSeed,
@@ -159,6 +182,19 @@ impl fmt::Display for Error {
             Error::Injected => f.write_str("injected storage fault"),
             Error::Memory | Error::OutOfMemory => f.write_str("out of memory"),
             Error::GenerationsExhausted => f.write_str("generations exhausted"),
+            Error::Exists => f.write_str("the name is taken"),
+            Error::NotFound => f.write_str("no such file or directory"),
+            Error::NotEmpty => f.write_str("directory not empty"),
+            Error::IsDirectory => f.write_str("is a directory"),
+            Error::NotDirectory => f.write_str("not a directory"),
+            Error::NameTooLong => f.write_str("a name has more than 255 bytes"),
+            Error::InvalidName => f.write_str("invalid name"),
+            Error::TooManyLinks => f.write_str("too many links"),
+            Error::NoSpace => f.write_str("no space left"),
+            Error::Loop => f.write_str("a directory would be moved below itself"),
+            Error::Crashed => {
+                f.write_str("memory ran out in the recovery of the last crash: crash again")
+            }
             Error::NoHandle => f.write_str("no handle of this number"),
             Error::EmptyRange => f.write_str("empty range of versions"),
             Error::StaleHandle(why) => write!(f, "stale handle: {why}"),
@@ -194,10 +230,15 @@ impl From<Error> for io::Error {
     fn from(error: Error) -> io::Error {
         let kind = match &error {
             Error::BlobInsufficientLength => io::ErrorKind::UnexpectedEof,
-            Error::PartitionMissing(_) | Error::BlobMissing(..) => io::ErrorKind::NotFound,
+            Error::PartitionMissing(_) | Error::BlobMissing(..) | Error::NotFound => {
+                io::ErrorKind::NotFound
+            }
             Error::OffsetOverflow
             | Error::PartitionNameInvalid(_)
             | Error::EmptyRange
+            | Error::NameTooLong
+            | Error::InvalidName
+            | Error::Loop
             | Error::NeedsSeed
             | Error::Argument(_)
             | Error::BadLine(_) => io::ErrorKind::InvalidInput,
@@ -206,6 +247,13 @@ impl From<Error> for io::Error {
             | Error::BlobVersionMismatch { .. } => io::ErrorKind::InvalidData,
             Error::BlobAlreadyOpen(..) => io::ErrorKind::ResourceBusy,
             Error::Memory | Error::OutOfMemory => io::ErrorKind::OutOfMemory,
+            Error::Exists => io::ErrorKind::AlreadyExists,
+            Error::NotEmpty => io::ErrorKind::DirectoryNotEmpty,
+            Error::IsDirectory => io::ErrorKind::IsADirectory,
+            Error::NotDirectory => io::ErrorKind::NotADirectory,
+            Error::TooManyLinks => io::ErrorKind::TooManyLinks,
+            Error::NoSpace => io::ErrorKind::StorageFull,
+            Error::StaleHandle(_) => io::ErrorKind::StaleNetworkFileHandle,
             _ => io::ErrorKind::Other,
         };
         io::Error::new(kind, error)

@@ -1,10 +1,8 @@
 //! Every outcome of a small run.
-use crate::choices::{BOUND_IT, Choice, Choices, Kind, advance, too_long};
-use crate::shared::State;
-use crate::{Builder, Error, Store};
+use crate::choices::{BOUND_IT, Choice, Choices, advance};
+use crate::{Builder, Error, Explorable, Run};
 use std::collections::BTreeMap;
 use std::fmt;
-use std::ops::Deref;
 use std::panic::{AssertUnwindSafe, catch_unwind, resume_unwind};
 
 /// How many words a run is given at first after those of its path.
@@ -66,7 +64,7 @@ pub enum ExploreError<E> {
     },
     /// The body made other choices than before on the same path.
     NotDeterministic,
-    /// A store can't be made, or not be explored: its builder has a seed or words, or a partial resize.
+    /// A store, or files, can't be opened or not be explored: the builder has a seed or words, or a partial resize.
     Store(Error),
 }
 
@@ -102,110 +100,9 @@ impl<E: fmt::Display> fmt::Display for ExploreError<E> {
 
 impl<E: fmt::Debug + fmt::Display> std::error::Error for ExploreError<E> {}
 
-/// The store of one run. It has the methods of [`Store`].
-///
-/// ```
-/// # use blobcrash::{Error, Run, Store, explore};
-/// fn body(run: &Run) -> Result<u64, Error> {
-///     let (blob, _) = run.open("p", b"b")?;
-///     blob.resize(run.choose(2) as u64)?;
-///     blob.size()
-/// }
-/// assert_eq!(explore(&Store::builder(), 10, body).unwrap().runs, 2);
-/// ```
-#[derive(Debug)]
-pub struct Run {
-    store: Store,
-    number: u64,
-}
-
-impl Deref for Run {
-    type Target = Store;
-
-    fn deref(&self) -> &Store {
-        &self.store
-    }
-}
-
-impl Run {
-    /// Returns a number below `branches`. Every one is tried, together with the outcomes of the draws.
-    ///
-    /// # Panics
-    /// If `branches` is 0.
-    ///
-    /// ```
-    /// # use blobcrash::{Error, Store, explore};
-    /// let visited = explore(&Store::builder(), 10, |run| Ok::<_, Error>((run.choose(2), run.choose(2))));
-    /// assert_eq!(visited.unwrap().runs, 4);
-    /// ```
-    #[must_use]
-    pub fn choose(&self, branches: usize) -> usize {
-        assert!(branches > 0, "there is nothing to choose from");
-        let mut state = self.store.shared.lock();
-        // Without an error to return, a run that is too long goes on while a panic unwinds.
-        let _ = state.count_call();
-        state.count_draws();
-        let choices = state.choices.as_mut();
-        let branch = choices.map_or(0, |choices| choices.take(Kind::Branch, branches));
-        state.note(&format!("choose({branches}) is {branch}"));
-        if state.choices.as_ref().is_some_and(Choices::is_long) {
-            let _ = too_long();
-        }
-        branch
-    }
-
-    /// Returns the lines of all calls, with the words of the draws so far.
-    ///
-    /// ```
-    /// # use blobcrash::{Error, Store, explore};
-    /// let visited = explore(&Store::builder(), 10, |run| {
-    ///     run.crash()?;
-    ///     Ok::<_, Error>(run.script())
-    /// });
-    /// assert!(visited.unwrap().outcomes.contains_key("crash\n"));
-    /// ```
-    #[must_use]
-    pub fn script(&self) -> String {
-        let all = self.store.script();
-        let mut state = self.store.shared.lock();
-        state.count_draws();
-        let Some(choices) = state.choices.as_ref().filter(|choices| !choices.is_short()) else {
-            return all;
-        };
-        let mut script = String::new();
-        let draws = choices
-            .taken
-            .iter()
-            .filter(|choice| choice.kind == Kind::Draw);
-        let words: Vec<&str> = draws
-            .map(|draw| if draw.branch == 0 { "0" } else { "max" })
-            .collect();
-        if !words.is_empty() {
-            script = format!("words {}\n", words.join(" "));
-        }
-        // The first line of the store has the words that were given.
-        script + all.split_once('\n').map_or("", |(_, calls)| calls)
-    }
-
-    /// Counts the last draws, and returns what `read` takes from the choices.
-    fn choices<T: Default>(&self, read: impl FnOnce(&mut Choices) -> T) -> T {
-        let mut state = self.store.shared.lock();
-        State::count_draws(&mut state);
-        state.choices.as_mut().map(read).unwrap_or_default()
-    }
-}
-
-/// If a body panics, its script is printed.
-impl Drop for Run {
-    fn drop(&mut self) {
-        if std::thread::panicking() {
-            eprintln!("run {} failed; its script:\n{}", self.number, self.script());
-        }
-    }
-}
-
-/// An exploration, which calls a body with a new store for each combination of outcomes, depth first. These are chosen in every way:
-/// whether each draw of a rate between 0 and 1 is true, each [`Run::choose`], and at which calls the power fails.
+/// An exploration, which calls a body with a new store, or new [`files`](crate::files), for each combination of outcomes, depth first.
+/// These are chosen in every way: whether each draw of a rate between 0 and 1 is true, each [`Run::choose`], and at which calls the power
+/// fails.
 ///
 /// ```
 /// use blobcrash::{Error, Exploration, Store, WriteOptions};
@@ -222,22 +119,22 @@ impl Drop for Run {
 /// ```
 #[derive(Clone, Debug)]
 #[must_use = "`visit` explores"]
-pub struct Exploration {
-    builder: Builder,
+pub struct Exploration<B = Builder> {
+    builder: B,
     limit: u64,
     losses: u64,
     calls: u64,
 }
 
-impl Exploration {
-    /// An exploration of stores that this builder makes, without a limit and without power losses.
+impl<B: Explorable> Exploration<B> {
+    /// An exploration of what this builder opens, without a limit and without power losses.
     ///
     /// ```
     /// # use blobcrash::{Error, Exploration, Store};
     /// let visited = Exploration::of(&Store::builder()).visit(|run| run.crash());
     /// assert_eq!(visited.unwrap().runs, 1);
     /// ```
-    pub fn of(builder: &Builder) -> Exploration {
+    pub fn of(builder: &B) -> Exploration<B> {
         Exploration {
             builder: builder.clone(),
             limit: u64::MAX,
@@ -253,14 +150,16 @@ impl Exploration {
     /// let visited = Exploration::of(&Store::builder()).limit(2).visit(|run| Ok::<_, Error>(run.choose(9)));
     /// assert!(!visited.unwrap().is_complete);
     /// ```
-    pub fn limit(mut self, runs: u64) -> Exploration {
+    pub fn limit(mut self, runs: u64) -> Exploration<B> {
         self.limit = runs;
         self
     }
 
     /// Lets the power fail at most this many times in a run, at each call that may change what a crash leaves: opens, writes, resizes,
     /// syncs, removals and admissions. This call and all later ones then return [`Error::PowerLoss`] until the store has crashed and
-    /// reopened, as by [`Store::restart`] and [`Store::recover`]. [`Store::is_power_off`] reports it.
+    /// reopened, as by [`Store::restart`](crate::Store::restart) and [`Store::recover`](crate::Store::recover).
+    /// [`Store::is_power_off`](crate::Store::is_power_off) reports it. For files these are the calls of
+    /// [`Files::crash_after`](crate::files::Files::crash_after), and the power is off until they have crashed.
     ///
     /// ```
     /// # use blobcrash::{Error, Exploration, Store};
@@ -270,7 +169,7 @@ impl Exploration {
     /// });
     /// assert_eq!(visited.unwrap().outcomes.into_iter().collect::<Vec<_>>(), [(false, 1), (true, 1)]);
     /// ```
-    pub fn power_losses(mut self, losses: u64) -> Exploration {
+    pub fn power_losses(mut self, losses: u64) -> Exploration<B> {
         self.losses = losses;
         self
     }
@@ -288,7 +187,7 @@ impl Exploration {
     /// });
     /// assert!(matches!(found, Err(ExploreError::TooLong { run: 1, .. })));
     /// ```
-    pub fn calls_per_run(mut self, calls: u64) -> Exploration {
+    pub fn calls_per_run(mut self, calls: u64) -> Exploration<B> {
         self.calls = calls;
         self
     }
@@ -312,7 +211,7 @@ impl Exploration {
     /// ```
     pub fn visit<T: Ord, E>(
         &self,
-        mut body: impl FnMut(&Run) -> Result<T, E>,
+        mut body: impl FnMut(&Run<B::Opened>) -> Result<T, E>,
     ) -> Result<Explored<T>, ExploreError<E>> {
         let (mut path, mut words) = (Vec::new(), WORDS);
         let mut visited = Explored {
@@ -352,10 +251,10 @@ impl Exploration {
         Ok(visited)
     }
 
-    fn begin(&self, path: Vec<Choice>, words: usize, number: u64) -> Result<Run, Error> {
+    fn begin(&self, path: Vec<Choice>, words: usize, number: u64) -> Result<Run<B::Opened>, Error> {
         let choices = Choices::new(path, self.losses, self.calls);
-        let store = self.builder.explored(choices, words)?;
-        Ok(Run { store, number })
+        let opened = self.builder.explored(choices, words)?;
+        Ok(Run::new(opened, number))
     }
 }
 
@@ -378,10 +277,10 @@ impl Exploration {
 /// });
 /// assert_eq!(visited.map(|all| all.runs), Ok(8));
 /// ```
-pub fn explore<T: Ord, E>(
-    builder: &Builder,
+pub fn explore<B: Explorable, T: Ord, E>(
+    builder: &B,
     limit: u64,
-    body: impl FnMut(&Run) -> Result<T, E>,
+    body: impl FnMut(&Run<B::Opened>) -> Result<T, E>,
 ) -> Result<Explored<T>, ExploreError<E>> {
     Exploration::of(builder).limit(limit).visit(body)
 }

@@ -82,6 +82,18 @@ pub(crate) enum Kind {
     RemovePartition = 10,
 }
 
+/// A run of bytes of one write that a crash kept.
+#[repr(C)]
+pub(crate) struct KeptRun {
+    pub(crate) status: u32,
+    /// The write's number, and how many bytes it submitted.
+    pub(crate) write: u64,
+    pub(crate) bytes: usize,
+    /// The run's first byte, and how many it has: none if no byte follows that was kept.
+    pub(crate) start: usize,
+    pub(crate) len: usize,
+}
+
 /// Which header regions are accepted.
 #[repr(C)]
 pub(crate) struct Accepts {
@@ -192,7 +204,11 @@ pub(crate) mod tests {
 
     /// The enumerators of the header, by their names without `BLOBCRASH_`.
     pub(crate) fn header() -> BTreeMap<&'static str, u32> {
-        let text = include_str!("../../c/blobcrash.h");
+        enumerators(include_str!("../../c/blobcrash.h"))
+    }
+
+    /// The enumerators of a header's text.
+    pub(crate) fn enumerators(text: &'static str) -> BTreeMap<&'static str, u32> {
         let lines = text
             .split('\n')
             .filter_map(|line| line.trim().strip_prefix("BLOBCRASH_"));

@@ -1,4 +1,5 @@
 use crate::library::Session;
+use crate::limits::Limits;
 use crate::script::first_word;
 use crate::shared::{Shared, State};
 use crate::{Error, Store};
@@ -35,7 +36,7 @@ impl Store {
         let Some(script) = &state.session.script else {
             return Err(refused("a store without a script can't be forked"));
         };
-        if state.choices.is_some() || state.power.is_limited() {
+        if !state.limits.permit_all() {
             let text = "a store of an explored run, or with a limited power, can't be forked";
             return Err(refused(text));
         }
@@ -49,7 +50,7 @@ impl Store {
             session.call(line)?;
         }
         session.script = Some(script.clone());
-        let forked = State::new(session, state.config(), None);
+        let forked = State::new(session, state.config(), Limits::default());
         let shared = &self.shared;
         let (has_draws, allow_stale) = (shared.has_draws, shared.allow_stale);
         Ok(Store::of(Shared::new(

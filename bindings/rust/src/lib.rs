@@ -29,7 +29,9 @@
 //! The layer itself is proved; this crate, which only calls it, is tested. Threads may share a [`Store`]: each call takes its lock.
 //!
 //! - [`storage`] and [`asynchronous`] have the traits of the ported crate, for code that is written for any storage.
-//! - [`explore`] and [`Exploration`] call a test once for each outcome of its draws, choices and power losses.
+//! - [`files`] has a file system with names, directories and renames, by the rules of ext4, XFS, btrfs or POSIX alone.
+//! - [`explore`] and [`Exploration`] call a test once for each outcome of its draws, choices and power losses; [`seeds`] calls it once for
+//!   each seed.
 //! - [`header`] makes and resolves header regions.
 #![warn(missing_docs)]
 
@@ -44,15 +46,19 @@ mod debt_calls;
 mod durable;
 mod error;
 mod explore;
+pub mod files;
 mod foreign;
 mod fork;
 mod handle;
 pub mod header;
 mod library;
+mod limits;
 mod opens;
 mod pending;
 mod power;
+mod run;
 mod script;
+mod seeds;
 mod shared;
 pub mod storage;
 mod store;
@@ -63,8 +69,10 @@ pub use blob::{Blob, StartedSync, WriteOptions};
 pub use builder::Builder;
 pub use config::{Config, PartialWriteMode, Probability, ResizeConfig, WriteConfig};
 pub use error::Error;
-pub use explore::{Exploration, ExploreError, Explored, Run, explore};
+pub use explore::{Exploration, ExploreError, Explored, explore};
 pub use opens::{Opened, Opens};
 pub use pending::{Generation, Pending, Receiver, Sender};
+pub use run::{Explorable, Run};
+pub use seeds::seeds;
 pub use store::{Selections, Store};
 pub use whole_script::{ScriptError, explain_script, run_script};

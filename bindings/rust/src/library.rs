@@ -2,6 +2,7 @@
 use crate::Error;
 use crate::debt_calls::{DebtCall, DebtReply};
 use crate::foreign::*;
+use crate::limits::Recorded;
 use crate::script::{Script, unhex};
 use std::ptr;
 
@@ -213,13 +214,6 @@ impl Session {
         self.done(status)
     }
 
-    /// Returns how many words the generator has left, up to the last one that isn't zero, or `None` if it has a seed.
-    pub(crate) fn words_left(&mut self) -> Option<usize> {
-        // SAFETY: as for `call`.
-        let ran = unsafe { blobcrash_words_left(&mut self.raw) };
-        (ran.status != ENDLESS).then_some(ran.len)
-    }
-
     /// Inserts words before those that the generator gives next.
     pub(crate) fn push_words(&mut self, words: &[u64]) -> Result<(), Error> {
         // SAFETY: as for `call`; the words are borrowed for the call.
@@ -322,6 +316,22 @@ impl Session {
             return Err(Error::OutOfMemory);
         }
         Ok(std::str::from_utf8(&self.reply[..ran.len]).expect("replies to UTF-8 lines are UTF-8"))
+    }
+}
+
+impl Recorded for Session {
+    fn words_left(&mut self) -> Option<usize> {
+        // SAFETY: as for `call`.
+        let ran = unsafe { blobcrash_words_left(&mut self.raw) };
+        (ran.status != ENDLESS).then_some(ran.len)
+    }
+
+    fn note(&mut self, text: &str) {
+        if let Some(script) = &mut self.script {
+            for line in text.split('\n') {
+                script.push_line(&format!("# {line}"));
+            }
+        }
     }
 }
 

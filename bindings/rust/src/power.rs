@@ -1,6 +1,8 @@
 //! The power of a store, which can fail at a chosen call.
 use crate::foreign::Kind;
+use crate::limits::{Limited, Limits, Recorded};
 use crate::script::first_word;
+use crate::shared::State;
 use crate::{Error, Store};
 
 /// What a call does, as far as a power loss is concerned.
@@ -114,6 +116,20 @@ impl Power {
     }
 }
 
+impl Limited for Store {
+    fn with_limits<T>(&self, act: impl FnOnce(&mut Limits, &mut dyn Recorded) -> T) -> T {
+        let mut state = self.shared.lock();
+        let State {
+            limits, session, ..
+        } = &mut *state;
+        act(limits, session)
+    }
+
+    fn record(&self) -> String {
+        self.script()
+    }
+}
+
 impl Store {
     /// Turns the power off after `calls` more calls that may change what a crash leaves. These are opens, writes, resizes, syncs,
     /// removals and admissions, whatever they return.
@@ -150,7 +166,7 @@ impl Store {
     /// ```
     #[must_use]
     pub fn is_power_off(&self) -> bool {
-        self.shared.lock().power.is_off()
+        self.shared.lock().limits.power.is_off()
     }
 
     /// Restarts the store, calls `step` and returns what that returns. Does both again if the power fails meanwhile. Returns the error

@@ -87,7 +87,7 @@ pub(crate) fn selection(word: &str) -> Option<(u64, Vec<bool>)> {
     Some((number(Some(write))?, kept))
 }
 
-fn push_hex(text: &mut String, bytes: &[u8]) {
+pub(crate) fn push_hex(text: &mut String, bytes: &[u8]) {
     if bytes.is_empty() {
         text.push('-');
     }

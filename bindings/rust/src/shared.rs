@@ -1,8 +1,8 @@
 //! What a store shares with its clones, its blobs and its started syncs: one session, which a lock protects.
-use crate::choices::{Choices, too_long};
 use crate::foreign::{Kind, TypedReply};
 use crate::library::Session;
-use crate::power::{Effect, Power};
+use crate::limits::Limits;
+use crate::power::Effect;
 use crate::script::{tokens, unhex};
 use crate::storage::BlobVersion;
 use crate::{Config, Error};
@@ -31,10 +31,8 @@ pub(crate) struct State {
     config: Config,
     /// Whether the session's settings aren't `config`: setting them was cut short.
     is_unset: bool,
-    pub(crate) power: Power,
-    /// The choices of an explored run.
-    pub(crate) choices: Option<Choices>,
-    /// Whether no call can be refused by the settings, the power or the choices: `permit` then has nothing to do.
+    pub(crate) limits: Limits,
+    /// Whether no call can be refused by the settings or the limits: `permit` then has nothing to do.
     permits_all: bool,
 }
 
@@ -106,28 +104,27 @@ impl Shared {
 }
 
 impl State {
-    pub(crate) fn new(session: Session, config: Config, choices: Option<Choices>) -> State {
+    pub(crate) fn new(session: Session, config: Config, limits: Limits) -> State {
         State {
             session,
             opened: BTreeMap::new(),
             reopens: 0,
             config,
             is_unset: false,
-            power: Power::default(),
-            permits_all: choices.is_none(),
-            choices,
+            permits_all: limits.permit_all(),
+            limits,
         }
     }
 
     /// Turns the power off after this number of calls that may change something.
     pub(crate) fn cut_after(&mut self, calls: u64) -> Result<(), Error> {
-        self.power.cut_after(calls)?;
+        self.limits.power.cut_after(calls)?;
         self.follow_limits();
         Ok(())
     }
 
     fn follow_limits(&mut self) {
-        self.permits_all = !self.is_unset && !self.power.is_limited() && self.choices.is_none();
+        self.permits_all = !self.is_unset && self.limits.permit_all();
     }
 
     /// Makes the call of a line, and returns its reply line, of a refused call too.
@@ -136,8 +133,8 @@ impl State {
         self.permit(effect)?;
         let reply = self.session.call(line)?;
         if !reply.starts_with("error ") {
-            self.power.follow(effect);
-            self.permits_all = !self.is_unset && !self.power.is_limited() && self.choices.is_none();
+            self.limits.power.follow(effect);
+            self.permits_all = !self.is_unset && self.limits.permit_all();
         }
         Ok(reply)
     }
@@ -194,52 +191,11 @@ impl State {
 
     #[cold]
     fn permit_limited(&mut self, effect: Effect) -> Result<(), Error> {
-        self.count_call()?;
+        self.limits.count_call()?;
         if self.is_unset && effect != Effect::Nothing {
             self.set(self.config)?;
         }
-        if self.power.permits(effect) {
-            return Ok(());
-        }
-        if self.power.is_off() {
-            return Err(Error::PowerLoss);
-        }
-        if self.power.is_used_up() || (effect == Effect::Changes && self.power_fails()) {
-            self.power.turn_off();
-            self.note("power loss");
-            return Err(Error::PowerLoss);
-        }
-        self.power.count(effect);
-        Ok(())
-    }
-
-    /// Counts a call of an explored run, or a use that is refused without one. If there are too many, unwinds to the exploration: no error
-    /// would end a loop that retries. While a panic unwinds already, returns `PowerLoss`.
-    pub(crate) fn count_call(&mut self) -> Result<(), Error> {
-        if self
-            .choices
-            .as_mut()
-            .is_some_and(|choices| !choices.count_call())
-        {
-            return too_long();
-        }
-        Ok(())
-    }
-
-    /// Whether the path of an explored run turns the power off now.
-    fn power_fails(&mut self) -> bool {
-        if !self.choices.as_ref().is_some_and(Choices::has_losses) {
-            return false;
-        }
-        self.count_draws();
-        self.choices.as_mut().is_some_and(Choices::power_fails)
-    }
-
-    /// Counts the draws that an explored run has made.
-    pub(crate) fn count_draws(&mut self) {
-        if let (Some(choices), Some(left)) = (&mut self.choices, self.session.words_left()) {
-            choices.count(left);
-        }
+        self.limits.permit(effect, &mut self.session)
     }
 
     /// Replaces the settings, or leaves the earlier ones. If these can't be set again, the next call that the store makes sets them
@@ -293,15 +249,6 @@ impl State {
         let written = session.write(handle, 0, bytes, true);
         session.by_number(Kind::Close, handle, 0)?;
         written
-    }
-
-    /// Adds a comment to the script, a line for each of the text's.
-    pub(crate) fn note(&mut self, text: &str) {
-        if let Some(script) = &mut self.session.script {
-            for line in text.split('\n') {
-                script.push_line(&format!("# {line}"));
-            }
-        }
     }
 
     pub(crate) fn insert(&mut self, handle: usize, opened: &Arc<Opened>) {

@@ -1,4 +1,5 @@
 use crate::foreign::Kind;
+use crate::limits::Recorded;
 use crate::script::{one_line, partition_word, selection, unhex};
 use crate::shared::{Opened, Shared, State};
 use crate::{Blob, Builder, Config, Error};
@@ -267,7 +268,7 @@ impl Store {
     pub fn configure(&self, config: Config) -> Result<(), Error> {
         config.check()?;
         let mut state = self.shared.lock();
-        if state.choices.is_some() {
+        if state.limits.choices.is_some() {
             config.check_explorable()?;
         }
         if !self.shared.has_draws && config.needs_draws() {
@@ -291,7 +292,7 @@ impl Store {
     pub fn call(&self, line: &str) -> Result<String, Error> {
         one_line(line)?;
         let mut state = self.shared.lock();
-        if state.choices.is_some() {
+        if state.limits.choices.is_some() {
             Config::check_explorable_line(line)?;
         }
         let reply = state.call(line)?.to_owned();
@@ -312,7 +313,7 @@ impl Store {
     /// # }
     /// ```
     pub fn note(&self, text: &str) {
-        self.shared.lock().note(text);
+        self.shared.lock().session.note(text);
     }
 
     /// Returns the lines of all calls, and notes: a script that makes the same calls again. Empty for a store that is `unrecorded`.

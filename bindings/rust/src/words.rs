@@ -1,3 +1,4 @@
+use crate::limits::Recorded;
 use crate::{Error, Store};
 
 impl Store {

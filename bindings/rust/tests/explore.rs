@@ -2,7 +2,7 @@
 use blobcrash::Exploration;
 use blobcrash::{
     Config, Error, ExploreError, Explored, PartialWriteMode, Probability, ResizeConfig, Run, Store,
-    WriteConfig, WriteOptions, explore, run_script,
+    WriteConfig, WriteOptions, explore, run_script, seeds,
 };
 use std::collections::BTreeMap;
 use std::panic::{AssertUnwindSafe, catch_unwind};
@@ -294,4 +294,52 @@ fn what_is_refused() {
         run.configure(resizes(Probability::ZERO))
     });
     assert_eq!(visited.unwrap().runs, 1);
+}
+
+#[test]
+fn each_seed_once() {
+    let builder = Store::builder().config(config(PartialWriteMode::Prefix));
+    let body = |run: &Run| Ok::<_, Error>((run.choose(4), torn(run, 3)?));
+    let visited = seeds(&builder, 0..200, body).unwrap();
+    assert_eq!((visited.runs, visited.is_complete), (200, false));
+    // Every branch, with every prefix.
+    assert_eq!(visited.outcomes.len(), 16);
+    assert_eq!(seeds(&builder, 0..200, body), Ok(visited.clone()));
+    let some = seeds(&builder, 7..9, body).unwrap();
+    assert_eq!(some.runs, 2);
+    assert!(
+        some.outcomes
+            .keys()
+            .all(|seen| visited.outcomes.contains_key(seen))
+    );
+    assert_eq!(seeds(&builder, 9..9, body).unwrap().runs, 0);
+}
+
+#[test]
+fn a_seed_that_fails() {
+    let builder = Store::builder().config(config(PartialWriteMode::Prefix));
+    let found = seeds(&builder, 5..200, |run| {
+        let branch = run.choose(2);
+        match torn(run, 3)?.as_slice() {
+            b"bba" => Err(Error::Argument(format!("torn after {branch}"))),
+            _ => Ok(()),
+        }
+    });
+    let Err(ExploreError::Failed { error, run, script }) = found else {
+        panic!("{found:?}");
+    };
+    let seed = 5 + run - 1;
+    let begin = format!("seed {seed}\nconfig write 0 1 1 2 prefix\n# choose(2) is ");
+    assert!(script.starts_with(&begin), "{script}");
+    let replies = String::from_utf8(run_script(script.as_bytes()).unwrap()).unwrap();
+    assert!(replies.contains("crashed 0:110\n"), "{replies}");
+    let branch = &script[begin.len()..][..1];
+    assert_eq!(error, Error::Argument(format!("torn after {branch}")));
+    for builder in [Store::builder().seed(7), Store::builder().words(&[0])] {
+        let refused = seeds(&builder, 0..1, |_| Ok::<_, Error>(()));
+        assert!(matches!(
+            refused,
+            Err(ExploreError::Store(Error::Argument(_)))
+        ));
+    }
 }

@@ -1,0 +1,217 @@
+/*
+ * Every outcome of a run on files, from C: explore.h for the calls of blobcrash_files.h. The tree, its limits and its statuses are the same.
+ *
+ *     struct blobcrash_paths paths = {.power_losses = 1};
+ *     struct blobcrash_files files = {0};
+ *     while (blobcrash_next_files_run(&paths, &files, "profile xfs\nconfig write 0 1 1 2 sectors 512\n") == BLOBCRASH_EXPLORE_RUN) {
+ *         ... explored calls of the files, the same ones for the same replies ...
+ *         if (blobcrash_end_files_run(&paths, &files) == BLOBCRASH_EXPLORE_RUN) {
+ *             ... the run counts: check its result ...
+ *         }
+ *     }
+ *     blobcrash_free_paths(&paths);
+ *
+ * With `paths.power_losses` the power may fail at each explored call that may change what a crash leaves. This call and all later ones
+ * aren't made and return BLOBCRASH_POWER_LOSS, until the files have crashed: a crash of files recovers them too. A SETTLE is no such call,
+ * and a CLOSE only if an open has truncated a file since the last crash. explore_files.c has examples.
+ *
+ * `paths.script` gets a line for each explored call, to be read by people: no program makes these calls again.
+ */
+#ifndef BLOBCRASH_EXPLORE_FILES_H
+#define BLOBCRASH_EXPLORE_FILES_H
+
+#include "blobcrash_files.h"
+#include "explore.h"
+
+/* As blobcrash_next_run. The settings are those of blobcrash_files_open. */
+static inline int blobcrash_next_files_run(struct blobcrash_paths *paths, struct blobcrash_files *files, const char *settings) {
+    char *preamble;
+    size_t len;
+    int status = blobcrash_next_path(paths, settings, &preamble, &len);
+    if (status != BLOBCRASH_EXPLORE_RUN) return status;
+    return blobcrash_begin_run(paths, blobcrash_files_open(files, (const uint8_t *)preamble, len).status, preamble, settings);
+}
+
+/* As blobcrash_end_run. */
+static inline int blobcrash_end_files_run(struct blobcrash_paths *paths, struct blobcrash_files *files) {
+    struct blobcrash_ran left = blobcrash_files_words_left(files);
+    blobcrash_files_close(files);
+    return blobcrash_finish_run(paths, left);
+}
+
+/* As blobcrash_count_call. */
+static inline void blobcrash_count_files_call(struct blobcrash_paths *paths, struct blobcrash_files *files) {
+    uint64_t words[BLOBCRASH_FALSE_WORDS];
+    if (blobcrash_is_past_limit(paths) && blobcrash_ends_draws(paths, blobcrash_files_words_left(files), words)) {
+        blobcrash_files_push_words(files, words, BLOBCRASH_FALSE_WORDS);
+    }
+}
+
+/* As blobcrash_power_fails. */
+static inline bool blobcrash_files_power_fails(struct blobcrash_paths *paths, struct blobcrash_files *files, bool changes) {
+    blobcrash_count_files_call(paths, files);
+    if (!blobcrash_may_fail(paths, changes)) return paths->is_off;
+    blobcrash_count_words(paths, blobcrash_files_words_left(files));
+    return blobcrash_fails_now(paths);
+}
+
+/* Returns whether a call may change what a crash leaves. */
+static inline bool blobcrash_file_call_changes(const struct blobcrash_paths *paths, uint32_t kind) {
+    switch (kind) {
+    case BLOBCRASH_F_OPEN: case BLOBCRASH_F_LIST: case BLOBCRASH_F_FIND: case BLOBCRASH_F_LIST_AT: case BLOBCRASH_F_FIND_AT:
+    case BLOBCRASH_F_OPEN_INODE: case BLOBCRASH_F_SIZE: case BLOBCRASH_F_INODE_OF: case BLOBCRASH_F_SETTLE:
+        return false;
+    case BLOBCRASH_F_CLOSE:
+        return paths->has_truncated;
+    default:
+        return true;
+    }
+}
+
+/* Prints a path as one token: `\xNN` for a byte that isn't printable ASCII, a space or a backslash. */
+static inline void blobcrash_print_path(FILE *script, const uint8_t *path, size_t len) {
+    fputs(len == 0 ? " \"\"" : " ", script);
+    for (size_t i = 0; i < len; i++) {
+        if (path[i] > ' ' && path[i] <= '~' && path[i] != '\\') fputc(path[i], script);
+        else fprintf(script, "\\x%02x", path[i]);
+    }
+}
+
+/* Prints what a line says of a status. */
+static inline void blobcrash_print_refusal(FILE *script, uint32_t status) {
+    static const char *const names[] = {"Exists", "NotFound", "NotEmpty", "IsDirectory", "NotDirectory", "NameTooLong", "InvalidName",
+                                        "TooManyLinks", "Stale", "NoSpace", "Loop", "Crashed"};
+    if (status == BLOBCRASH_DONE) return;
+    if (status >= BLOBCRASH_F_EXISTS && status <= BLOBCRASH_F_CRASHED) fprintf(script, " is %s", names[status - BLOBCRASH_F_EXISTS]);
+    else if (status == BLOBCRASH_E_INJECTED) fputs(" is Injected", script);
+    else if (status == BLOBCRASH_E_MEMORY) fputs(" is Memory", script);
+    else fprintf(script, " is %" PRIu32, status);
+}
+
+/* The word of a call by a path. */
+static inline const char *blobcrash_file_word(uint32_t kind) {
+    static const char *const words[] = {"create", "open", "open_truncated", "link", "unlink", "rename", "mkdir", "rmdir", "listdir",
+                                        "fsync_directory", "find"};
+    static const char *const at[] = {"create_at", "link_at", "unlink_at", "rename_at", "mkdir_at", "rmdir_at", "listdir_at",
+                                     "fsync_directory_at", "find_at", "open_inode"};
+    static const char *const by[] = {"close", "truncate", "size", "fsync", "fdatasync", "inode_of"};
+    static const char *const whole[] = {"sync", "settle", "crash"};
+    if (kind <= BLOBCRASH_F_FIND) return words[kind];
+    if (kind >= BLOBCRASH_F_CREATE_AT && kind <= BLOBCRASH_F_OPEN_INODE) return at[kind - BLOBCRASH_F_CREATE_AT];
+    if (kind >= BLOBCRASH_F_CLOSE && kind <= BLOBCRASH_F_INODE_OF) return by[kind - BLOBCRASH_F_CLOSE];
+    if (kind >= BLOBCRASH_F_SYNC_ALL && kind <= BLOBCRASH_F_CRASH) return whole[kind - BLOBCRASH_F_SYNC_ALL];
+    return "unknown";
+}
+
+/* Prints the line of a call. */
+static inline void blobcrash_print_file_call(FILE *script, const struct blobcrash_file_call *asked, struct blobcrash_file_reply reply,
+                                             const uint8_t *path, size_t path_len, const uint8_t *to, size_t to_len) {
+    static const char *const how[] = {"", " noreplace", " exchange"};
+    uint32_t kind = asked->kind;
+    bool renames = kind == BLOBCRASH_F_RENAME || kind == BLOBCRASH_F_RENAME_AT;
+    uint64_t replaces = kind == BLOBCRASH_F_RENAME ? asked->first : asked->last;
+    fputs(blobcrash_file_word(kind), script);
+    if (kind >= BLOBCRASH_F_CREATE_AT && kind < BLOBCRASH_F_SYNC_ALL) fprintf(script, " %" PRIu64, asked->number);
+    if (kind < BLOBCRASH_F_OPEN_INODE && kind != BLOBCRASH_F_LIST_AT && kind != BLOBCRASH_F_SYNC_DIRECTORY_AT) {
+        blobcrash_print_path(script, path, path_len);
+    }
+    if (kind == BLOBCRASH_F_LINK_AT || kind == BLOBCRASH_F_RENAME_AT || kind == BLOBCRASH_F_TRUNCATE) fprintf(script, " %" PRIu64, asked->first);
+    if (kind == BLOBCRASH_F_LINK || renames) blobcrash_print_path(script, to, to_len);
+    if (renames && replaces <= 2) fputs(how[replaces], script);
+    if (reply.status != BLOBCRASH_DONE) blobcrash_print_refusal(script, reply.status);
+    else if (kind <= BLOBCRASH_F_OPEN_TRUNCATED || kind == BLOBCRASH_F_CREATE_AT || kind == BLOBCRASH_F_OPEN_INODE) {
+        fprintf(script, " is %" PRIu64, reply.number);
+    }
+    fputc('\n', script);
+}
+
+/* Prints what the last call, a CRASH, kept. */
+static inline void blobcrash_print_kept(FILE *script, struct blobcrash_files *files, struct blobcrash_file_reply crash) {
+    if (crash.number > 0) fputs("# of the unsettled edits it keeps ", script);
+    for (size_t edit = 0; edit < crash.number; edit++) fputc(blobcrash_files_kept_edit(files, edit).len == 1 ? '1' : '0', script);
+    if (crash.number > 0) fputc('\n', script);
+    for (size_t row = 0; row < crash.size; row++) {
+        struct blobcrash_kept_run run = blobcrash_files_kept_run(files, row, 0);
+        fprintf(script, "# of write %" PRIu64 " it keeps %s", run.write, run.len == 0 ? "none" : "");
+        for (const char *comma = ""; run.len > 0; comma = ", ") {
+            fprintf(script, "%sbytes %zu to %zu", comma, run.start, run.start + run.len - 1);
+            run = blobcrash_files_kept_run(files, row, run.start + run.len);
+        }
+        fprintf(script, " of %zu\n", run.bytes);
+    }
+}
+
+/* As blobcrash_files_apply, or POWER_LOSS. A CRASH is always made, and turns the power on. */
+static inline struct blobcrash_file_reply blobcrash_explored_apply(struct blobcrash_paths *paths, struct blobcrash_files *files,
+                                                                   const struct blobcrash_file_call *asked, const uint8_t *path,
+                                                                   size_t path_len, const uint8_t *to, size_t to_len) {
+    struct blobcrash_file_reply none = {BLOBCRASH_POWER_LOSS, 0, 0, 0};
+    bool crashes = asked->kind == BLOBCRASH_F_CRASH;
+    if (crashes) blobcrash_count_files_call(paths, files);
+    else if (blobcrash_files_power_fails(paths, files, blobcrash_file_call_changes(paths, asked->kind))) return none;
+    struct blobcrash_file_reply reply = blobcrash_files_apply(files, asked, path, path_len, to, to_len);
+    if (paths->script != NULL) blobcrash_print_file_call(paths->script, asked, reply, path, path_len, to, to_len);
+    if (asked->kind == BLOBCRASH_F_OPEN_TRUNCATED) paths->has_truncated = true;
+    if (crashes && reply.status == BLOBCRASH_DONE) {
+        paths->is_off = paths->has_truncated = false;
+        if (paths->script != NULL) blobcrash_print_kept(paths->script, files, reply);
+    }
+    return reply;
+}
+
+/* An explored call by a path, or by two, of which `to` may be NULL. `first` is that of the call. */
+static inline struct blobcrash_file_reply blobcrash_explored_path(struct blobcrash_paths *paths, struct blobcrash_files *files, uint32_t kind,
+                                                                  const char *path, const char *to, uint64_t first) {
+    struct blobcrash_file_call asked = {kind, 0, first, 0};
+    if (to == NULL) to = "";
+    return blobcrash_explored_apply(paths, files, &asked, (const uint8_t *)path, strlen(path), (const uint8_t *)to, strlen(to));
+}
+
+/* An explored call by a number, or of the whole file system. */
+static inline struct blobcrash_file_reply blobcrash_explored_number(struct blobcrash_paths *paths, struct blobcrash_files *files,
+                                                                    uint32_t kind, uint64_t number, uint64_t first) {
+    struct blobcrash_file_call asked = {kind, number, first, 0};
+    const uint8_t none = 0;
+    return blobcrash_explored_apply(paths, files, &asked, &none, 0, &none, 0);
+}
+
+/* As blobcrash_files_write, or POWER_LOSS. */
+static inline uint32_t blobcrash_explored_files_write(struct blobcrash_paths *paths, struct blobcrash_files *files, uint64_t descriptor,
+                                                      uint64_t offset, const uint8_t *bytes, size_t len) {
+    if (blobcrash_files_power_fails(paths, files, true)) return BLOBCRASH_POWER_LOSS;
+    uint32_t status = blobcrash_files_write(files, descriptor, offset, bytes, len);
+    if (paths->script != NULL) {
+        fprintf(paths->script, "write %" PRIu64 " %" PRIu64 " %s", descriptor, offset, len == 0 ? "-" : "");
+        for (size_t i = 0; i < len; i++) fprintf(paths->script, "%02x", bytes[i]);
+        blobcrash_print_refusal(paths->script, status);
+        fputc('\n', paths->script);
+    }
+    return status;
+}
+
+/* As blobcrash_files_read, or POWER_LOSS, which leaves `into` as it was. */
+static inline struct blobcrash_ran blobcrash_explored_files_read(struct blobcrash_paths *paths, struct blobcrash_files *files,
+                                                                 uint64_t descriptor, uint64_t offset, uint8_t *into, size_t capacity) {
+    struct blobcrash_ran none = {BLOBCRASH_POWER_LOSS, 0};
+    if (blobcrash_files_power_fails(paths, files, false)) return none;
+    struct blobcrash_ran ran = blobcrash_files_read(files, descriptor, offset, into, capacity);
+    if (paths->script != NULL) {
+        fprintf(paths->script, "read %" PRIu64 " %" PRIu64 " %zu", descriptor, offset, capacity);
+        blobcrash_print_refusal(paths->script, ran.status);
+        fputc('\n', paths->script);
+    }
+    return ran;
+}
+
+/* Crashes and calls `step`, and does so again if the power fails meanwhile. Returns what the last `step` returned, or `false` if a crash
+ * was refused. */
+static inline bool blobcrash_recover_files(struct blobcrash_paths *paths, struct blobcrash_files *files, bool (*step)(void *context),
+                                           void *context) {
+    while (blobcrash_explored_number(paths, files, BLOBCRASH_F_CRASH, 0, 0).status == BLOBCRASH_DONE) {
+        bool is_recovered = step(context);
+        if (!paths->is_off) return is_recovered;
+    }
+    return false;
+}
+
+#endif

@@ -1,0 +1,245 @@
+use super::Files;
+use super::library::Session;
+use super::record::Record;
+use super::state::{Shared, State};
+use crate::choices::Choices;
+use crate::limits::Limits;
+use crate::{Config, Error, Explorable, Probability};
+
+/// Which file system's promises the files keep. `docs/FILES.md` has what each one settles and keeps.
+///
+/// ```
+/// # use blobcrash::files::Profile;
+/// assert_eq!(Profile::default(), Profile::Ext4);
+/// ```
+#[derive(Clone, Copy, Debug, Default, PartialEq, Eq, PartialOrd, Ord, Hash)]
+pub enum Profile {
+    /// ext4 with ordered data.
+    #[default]
+    Ext4,
+    /// XFS.
+    Xfs,
+    /// btrfs.
+    Btrfs,
+    /// The least that POSIX promises.
+    Posix,
+}
+
+impl Profile {
+    /// All profiles, from the one that promises most.
+    ///
+    /// ```
+    /// # use blobcrash::files::Profile;
+    /// assert_eq!(Profile::ALL.len(), 4);
+    /// ```
+    pub const ALL: [Profile; 4] = [Profile::Ext4, Profile::Xfs, Profile::Btrfs, Profile::Posix];
+
+    fn line(self) -> &'static str {
+        match self {
+            Profile::Ext4 => "profile ext4",
+            Profile::Xfs => "profile xfs",
+            Profile::Btrfs => "profile btrfs",
+            Profile::Posix => "profile posix",
+        }
+    }
+}
+
+/// What files begin with.
+///
+/// ```
+/// use blobcrash::Error;
+/// use blobcrash::files::{Files, Profile};
+///
+/// let builder = Files::builder().profile(Profile::Btrfs);
+/// assert!(matches!(builder.clone().open(), Err(Error::NeedsSeed)));
+/// assert!(builder.seed(7).open().is_ok());
+/// ```
+#[derive(Clone, Debug, Default)]
+#[must_use]
+pub struct Builder {
+    /// The words, the seed, the faults, and whether there is a record.
+    base: crate::Builder,
+    profile: Profile,
+    /// How often a crash keeps an edit; 1/2 if it isn't set.
+    keep: Option<Probability>,
+    space: Option<[u64; 2]>,
+}
+
+impl Builder {
+    /// Sets the profile.
+    ///
+    /// ```
+    /// # fn main() -> Result<(), blobcrash::Error> {
+    /// # use blobcrash::files::{Files, Profile};
+    /// let files = Files::builder().profile(Profile::Posix).seed(7).open()?;
+    /// # Ok(())
+    /// # }
+    /// ```
+    pub fn profile(mut self, profile: Profile) -> Builder {
+        self.profile = profile;
+        self
+    }
+
+    /// Sets which calls fail from the start, and what a crash keeps of unsynced writes: nothing, if this isn't set.
+    ///
+    /// The rate of opens is that of making a file. Those of removals and scans aren't used.
+    ///
+    /// ```
+    /// # use blobcrash::{Config, Error, Probability, files::Files};
+    /// # fn main() -> Result<(), Error> {
+    /// let never = Config::default().open(Probability::ONE);
+    /// let files = Files::builder().config(never).seed(7).open()?;
+    /// assert_eq!(files.create("/f").err(), Some(Error::Injected));
+    /// # Ok(())
+    /// # }
+    /// ```
+    pub fn config(mut self, config: Config) -> Builder {
+        self.base = self.base.config(config);
+        self
+    }
+
+    /// Sets how often a crash keeps a change of names that nothing made durable: 1/2 if it isn't set.
+    ///
+    /// ```
+    /// # use blobcrash::{Probability, files::Files};
+    /// # fn main() -> Result<(), blobcrash::Error> {
+    /// let files = Files::builder().keep(Probability::ZERO).seed(7).open()?;
+    /// files.create_dir("/d")?;
+    /// files.crash()?;
+    /// assert!(!files.exists("/d")?);
+    /// # Ok(())
+    /// # }
+    /// ```
+    pub fn keep(mut self, rate: Probability) -> Builder {
+        self.keep = Some(rate);
+        self
+    }
+
+    /// Sets how many bytes all files together may have, and how many files there may be. A call that needs more returns `NoSpace`.
+    ///
+    /// ```
+    /// # use blobcrash::{Error, files::Files};
+    /// # fn main() -> Result<(), Error> {
+    /// let files = Files::builder().space(4, 1).seed(7).open()?;
+    /// assert_eq!(files.write("/f", b"abcde"), Err(Error::NoSpace));
+    /// assert_eq!(files.create("/g").err(), Some(Error::NoSpace));
+    /// # Ok(())
+    /// # }
+    /// ```
+    pub fn space(mut self, bytes: u64, files: u64) -> Builder {
+        self.space = Some([bytes, files]);
+        self
+    }
+
+    /// Adds words to the generator, which decide what fails and what a crash keeps. After the last one it goes on with those of the
+    /// seed, or with zeros if there is none.
+    ///
+    /// ```
+    /// # use blobcrash::files::Files;
+    /// # fn main() -> Result<(), blobcrash::Error> {
+    /// let files = Files::builder().words(&[u64::MAX]).open()?;
+    /// files.create_dir("/d")?;
+    /// assert_eq!(files.crash()?.edits, [false]);
+    /// # Ok(())
+    /// # }
+    /// ```
+    pub fn words(mut self, words: &[u64]) -> Builder {
+        self.base = self.base.words(words);
+        self
+    }
+
+    /// Sets the seed of the words after the given ones. A second seed is a `BadLine`.
+    ///
+    /// ```
+    /// # use blobcrash::files::Files;
+    /// # fn main() -> Result<(), blobcrash::Error> {
+    /// assert!(Files::builder().seed(7).open()?.script().starts_with("seed 7\n"));
+    /// # Ok(())
+    /// # }
+    /// ```
+    pub fn seed(mut self, seed: u64) -> Builder {
+        self.base = self.base.seed(seed);
+        self
+    }
+
+    /// Adds lines of words, of a seed or of settings, as they are. Settings that have methods here follow them.
+    ///
+    /// ```
+    /// # use blobcrash::{Error, files::Files};
+    /// # fn main() -> Result<(), Error> {
+    /// let files = Files::builder().lines(&["seed 7", "config read 1 1"]).open();
+    /// assert!(files.is_ok());
+    /// let refused = Files::builder().lines(&["frob"]).seed(7).open();
+    /// assert_eq!(refused.err(), Some(Error::BadLine("frob".to_owned())));
+    /// # Ok(())
+    /// # }
+    /// ```
+    pub fn lines(mut self, lines: &[&str]) -> Builder {
+        self.base = self.base.lines(lines);
+        self
+    }
+
+    /// Keeps no record of the calls, which then need less memory, and [`Files::script`] is empty.
+    ///
+    /// ```
+    /// # use blobcrash::files::Files;
+    /// # fn main() -> Result<(), blobcrash::Error> {
+    /// assert_eq!(Files::builder().unrecorded().seed(7).open()?.script(), "");
+    /// # Ok(())
+    /// # }
+    /// ```
+    pub fn unrecorded(mut self) -> Builder {
+        self.base = self.base.unrecorded();
+        self
+    }
+
+    /// Makes an empty file system.
+    ///
+    /// Errors, with nothing made:
+    /// - `Argument` if a sector has no bytes.
+    /// - `NeedsSeed` if a rate needs random draws, as that of [`Builder::keep`] does, and there is neither a seed nor a word.
+    /// - `BadLine` if a line isn't one of a preamble, or a seed is given twice.
+    /// - `OutOfMemory`.
+    ///
+    /// ```
+    /// # use blobcrash::{Error, files::Files};
+    /// assert!(matches!(Files::builder().open(), Err(Error::NeedsSeed)));
+    /// assert!(Files::builder().seed(7).open().is_ok());
+    /// ```
+    pub fn open(self) -> Result<Files, Error> {
+        self.made(Limits::default())
+    }
+
+    fn made(mut self, limits: Limits) -> Result<Files, Error> {
+        if self.keep.is_none_or(Probability::needs_draws) && !self.base.has_draws {
+            return Err(self.base.problem.unwrap_or(Error::NeedsSeed));
+        }
+        let keep = self.keep.map(|rate| format!("keep {}", rate.words()));
+        let space = self
+            .space
+            .map(|[bytes, files]| format!("space {bytes} {files}"));
+        self.base.lines.push(self.profile.line().to_owned());
+        self.base.lines.extend(keep.into_iter().chain(space));
+        self.base.complete()?;
+        let mut session = Session::open(&self.base.lines.join("\n"))?;
+        session.record = (!self.base.unrecorded).then(|| Record::with_lines(&self.base.lines));
+        let state = State::new(session, self.base.config, limits);
+        Ok(Files::of(Shared::new(state, self.base.has_draws)))
+    }
+}
+
+impl Explorable for Builder {
+    type Opened = Files;
+
+    fn explored(&self, mut choices: Choices, words: usize) -> Result<Files, Error> {
+        let mut builder = self.clone();
+        builder.base = self.base.with_choices(&mut choices, words)?;
+        builder.made(Limits::of_choices(choices))
+    }
+
+    fn seeded(&self, seed: u64) -> Result<Files, Error> {
+        let mut builder = self.clone();
+        builder.base = self.base.with_seed(seed)?;
+        builder.made(Limits::of_seed(seed))
+    }
+}

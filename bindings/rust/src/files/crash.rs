@@ -1,0 +1,225 @@
+//! Crashes, power losses, settings, and the record of the calls.
+use super::Files;
+use super::foreign::Kind;
+use crate::limits::Recorded;
+use crate::{Config, Error, Selections};
+
+/// What a crash kept.
+///
+/// ```
+/// # fn main() -> Result<(), blobcrash::Error> {
+/// let files = blobcrash::files::Files::builder().words(&[0, u64::MAX]).open()?;
+/// files.create_dir("/a")?;
+/// files.create_dir("/b")?;
+/// assert_eq!(files.crash()?.edits, [true, false]);
+/// assert!(files.exists("/a")? && !files.exists("/b")?);
+/// # Ok(())
+/// # }
+/// ```
+#[derive(Clone, Debug, Default, PartialEq, Eq)]
+pub struct Crash {
+    /// For each pending write of the layer with draws, its number and, byte by byte, whether it was kept. An unsettled edit is such a
+    /// write too, of one sector of the journal.
+    pub writes: Selections,
+    /// For each change of names that nothing had made durable, in order, whether it was kept.
+    pub edits: Vec<bool>,
+}
+
+impl Files {
+    /// Makes the bytes of all files and all names durable, and draws nothing: the state before a test. The power doesn't fail at this
+    /// call.
+    ///
+    /// ```
+    /// # fn main() -> Result<(), blobcrash::Error> {
+    /// # let files = blobcrash::files::Files::builder().seed(7).open()?;
+    /// files.write("/f", b"abc")?;
+    /// files.settle()?;
+    /// assert!(files.crash()?.edits.is_empty());
+    /// assert_eq!(files.read("/f")?, b"abc");
+    /// # Ok(())
+    /// # }
+    /// ```
+    pub fn settle(&self) -> Result<(), Error> {
+        self.lock().by_number(Kind::Settle, 0).map(drop)
+    }
+
+    /// Loses what isn't durable, except what the draws keep, and recovers. Open files are stale, and the power is on.
+    ///
+    /// Errors: `Memory`. If the recovery ran out of it, all other calls return `Crashed` until a crash is `Ok`.
+    ///
+    /// ```
+    /// # fn main() -> Result<(), blobcrash::Error> {
+    /// # let files = blobcrash::files::Files::builder().seed(7).open()?;
+    /// files.create_dir("/d")?;
+    /// let kept = files.crash()?.edits;
+    /// assert_eq!(kept, [files.exists("/d")?]);
+    /// # Ok(())
+    /// # }
+    /// ```
+    pub fn crash(&self) -> Result<Crash, Error> {
+        let (writes, edits) = self.lock().crash()?;
+        Ok(Crash { writes, edits })
+    }
+
+    /// Crashes, as [`Store::restart`](crate::Store::restart) does: a crash of files recovers them too.
+    ///
+    /// ```
+    /// # fn main() -> Result<(), blobcrash::Error> {
+    /// # let files = blobcrash::files::Files::builder().seed(7).open()?;
+    /// assert_eq!(files.restart()?, Default::default());
+    /// # Ok(())
+    /// # }
+    /// ```
+    pub fn restart(&self) -> Result<Crash, Error> {
+        self.crash()
+    }
+
+    /// Turns the power off after `calls` more calls that may change what a crash leaves, whatever they return. These are all but opens of
+    /// existing files without a truncation, reads, look-ups and `settle`. A close counts only if an open has truncated a file since the
+    /// last crash.
+    ///
+    /// From then on every call returns `PowerLoss`, except `configure`, until the files have crashed. Returns `PowerLoss` if the power is
+    /// off already.
+    ///
+    /// ```
+    /// # use blobcrash::Error;
+    /// # fn main() -> Result<(), Error> {
+    /// # let files = blobcrash::files::Files::builder().seed(7).open()?;
+    /// files.crash_after(1)?;
+    /// files.create_dir("/a")?;
+    /// assert_eq!(files.create_dir("/b"), Err(Error::PowerLoss));
+    /// assert!(files.is_power_off());
+    /// files.crash()?;
+    /// assert!(!files.exists("/b")?);
+    /// # Ok(())
+    /// # }
+    /// ```
+    pub fn crash_after(&self, calls: u64) -> Result<(), Error> {
+        self.lock().limits.power.cut_after(calls)
+    }
+
+    /// Returns whether the power is off.
+    ///
+    /// ```
+    /// # fn main() -> Result<(), blobcrash::Error> {
+    /// # let files = blobcrash::files::Files::builder().seed(7).open()?;
+    /// files.crash_after(0)?;
+    /// assert!(files.sync().is_err() && files.is_power_off());
+    /// # Ok(())
+    /// # }
+    /// ```
+    #[must_use]
+    pub fn is_power_off(&self) -> bool {
+        self.lock().limits.power.is_off()
+    }
+
+    /// Crashes, calls `step` and returns what that returns. Does both again if the power fails meanwhile. Returns the error of a crash.
+    ///
+    /// ```
+    /// # use blobcrash::Error;
+    /// # fn main() -> Result<(), Error> {
+    /// # let files = blobcrash::files::Files::builder().seed(7).open()?;
+    /// files.crash_after(1)?;
+    /// let mut steps = 0;
+    /// files.recover(|files| {
+    ///     steps += 1;
+    ///     files.create("/a")?;
+    ///     files.create("/b").map(drop)
+    /// })?;
+    /// assert_eq!(steps, 2);
+    /// # Ok(())
+    /// # }
+    /// ```
+    pub fn recover<T, E: From<Error>>(
+        &self,
+        mut step: impl FnMut(&Files) -> Result<T, E>,
+    ) -> Result<T, E> {
+        loop {
+            self.restart()?;
+            let outcome = step(self);
+            if !self.is_power_off() {
+                return outcome;
+            }
+        }
+    }
+
+    /// Replaces the configuration: which calls fail, and what a crash keeps of writes that follow.
+    ///
+    /// Errors, with the earlier configuration in place:
+    /// - `Argument` if a sector has no bytes, or for a partial resize in an explored run.
+    /// - `NeedsSeed` if a rate needs random draws and there is neither a seed nor a word.
+    /// - `OutOfMemory`.
+    ///
+    /// ```
+    /// # use blobcrash::{Config, Error, Probability};
+    /// # fn main() -> Result<(), Error> {
+    /// # let files = blobcrash::files::Files::builder().seed(7).open()?;
+    /// let file = files.create("/f")?;
+    /// files.configure(Config::default().sync(Probability::ONE))?;
+    /// assert_eq!(file.sync_all(), Err(Error::Injected));
+    /// # Ok(())
+    /// # }
+    /// ```
+    pub fn configure(&self, config: Config) -> Result<(), Error> {
+        config.check()?;
+        let mut state = self.lock();
+        if state.limits.choices.is_some() {
+            config.check_explorable()?;
+        }
+        if !self.shared.has_draws && config.needs_draws() {
+            return Err(Error::NeedsSeed);
+        }
+        state.configure(config)
+    }
+
+    /// Adds a comment to the record, a line for each of the text's.
+    ///
+    /// ```
+    /// # fn main() -> Result<(), blobcrash::Error> {
+    /// # let files = blobcrash::files::Files::builder().seed(7).open()?;
+    /// files.note("the log is full");
+    /// assert!(files.script().ends_with("# the log is full\n"));
+    /// # Ok(())
+    /// # }
+    /// ```
+    pub fn note(&self, text: &str) {
+        self.lock().session.note(text);
+    }
+
+    /// Returns the record: what the files began with, and a line for each call, to be read by people. A line says which descriptor a call
+    /// opened, or why it was refused; those after a crash say what it kept. Empty for files that are `unrecorded`.
+    ///
+    /// ```
+    /// # fn main() -> Result<(), blobcrash::Error> {
+    /// let files = blobcrash::files::Files::builder().seed(7).open()?;
+    /// files.write("/f", b"abc")?;
+    /// files.rename("/f", "/g")?;
+    /// let begin = "seed 7\nprofile ext4\n";
+    /// let calls = "create /f is 0\nwrite 0 0 616263\nclose 0\nrename /f /g\n";
+    /// assert_eq!(files.script(), begin.to_owned() + calls);
+    /// # Ok(())
+    /// # }
+    /// ```
+    #[must_use]
+    pub fn script(&self) -> String {
+        let state = self.lock();
+        let record = state.session.record.as_ref();
+        record.map(|record| record.text()).unwrap_or_default()
+    }
+
+    /// Returns how many of the given words are left, up to the last one that isn't zero, or `None` if there is a seed.
+    ///
+    /// ```
+    /// # fn main() -> Result<(), blobcrash::Error> {
+    /// let files = blobcrash::files::Files::builder().words(&[0, 0, 1]).open()?;
+    /// files.create_dir("/d")?;
+    /// files.crash()?;
+    /// assert_eq!(files.words_left(), Some(2));
+    /// # Ok(())
+    /// # }
+    /// ```
+    #[must_use]
+    pub fn words_left(&self) -> Option<usize> {
+        self.lock().session.words_left()
+    }
+}

@@ -1,0 +1,183 @@
+//! What files share with their clones and their open files: one session, which a lock protects.
+use super::foreign::{Kind, Reply};
+use super::library::{Name, Session};
+use super::record::{Call, Record};
+use crate::limits::Limits;
+use crate::power::Effect;
+use crate::{Config, Error, Selections};
+use std::collections::BTreeMap;
+use std::sync::{Mutex, MutexGuard, PoisonError};
+
+/// The state of files, with what doesn't change.
+#[derive(Debug)]
+pub(crate) struct Shared {
+    state: Mutex<State>,
+    pub(crate) has_draws: bool,
+}
+
+/// What calls change.
+#[derive(Debug)]
+pub(crate) struct State {
+    pub(crate) session: Session,
+    pub(crate) limits: Limits,
+    config: Config,
+    /// Whether the session's faults aren't those of `config`: setting them was cut short.
+    is_unset: bool,
+    /// How many crashes there were. A file of an earlier life is stale.
+    pub(crate) life: u64,
+    /// Whether an open truncated a file in this life.
+    has_truncated: bool,
+    /// Descriptors that only tell the sizes of inodes. They stay open, since a close may make a file durable.
+    sizers: BTreeMap<u64, u64>,
+}
+
+impl Shared {
+    pub(crate) fn new(state: State, has_draws: bool) -> Shared {
+        Shared {
+            state: Mutex::new(state),
+            has_draws,
+        }
+    }
+
+    /// Takes the lock. A panic of another thread leaves a state that can be used: a session has made a call or not.
+    pub(crate) fn lock(&self) -> MutexGuard<'_, State> {
+        self.state.lock().unwrap_or_else(PoisonError::into_inner)
+    }
+}
+
+impl State {
+    pub(crate) fn new(session: Session, config: Config, limits: Limits) -> State {
+        State {
+            session,
+            limits,
+            config,
+            is_unset: false,
+            life: 0,
+            has_truncated: false,
+            sizers: BTreeMap::new(),
+        }
+    }
+
+    /// Returns `PowerLoss` if a call may not be made.
+    pub(crate) fn permit(&mut self, effect: Effect) -> Result<(), Error> {
+        self.limits.count_call()?;
+        if self.is_unset {
+            self.set(self.config)?;
+        }
+        self.limits.permit(effect, &mut self.session)
+    }
+
+    /// Makes a call.
+    pub(crate) fn call(&mut self, call: &Call<'_>) -> Result<Reply, Error> {
+        self.permit(call.effect(self.has_truncated))?;
+        let outcome = self.session.apply(call);
+        self.record(|record| record.push_call(call, &outcome));
+        self.has_truncated |= call.kind == Kind::OpenTruncated;
+        outcome
+    }
+
+    /// Makes a call by a path.
+    pub(crate) fn by_path(&mut self, kind: Kind, path: &[u8]) -> Result<Reply, Error> {
+        self.call(&Call::of_path(kind, path))
+    }
+
+    /// Makes a call by a number.
+    pub(crate) fn by_number(&mut self, kind: Kind, number: u64) -> Result<Reply, Error> {
+        self.call(&Call::of_number(kind, number, 0))
+    }
+
+    pub(crate) fn write(&mut self, file: u64, offset: u64, bytes: &[u8]) -> Result<(), Error> {
+        self.permit(Effect::Changes)?;
+        let outcome = self.session.write(file, offset, bytes);
+        self.record(|record| record.push_write(file, offset, bytes, &outcome));
+        outcome
+    }
+
+    pub(crate) fn read(&mut self, file: u64, offset: u64, into: &mut [u8]) -> Result<usize, Error> {
+        self.permit(Effect::Reads)?;
+        let outcome = self.session.read(file, offset, into);
+        let len = into.len() as u64;
+        self.record(|record| record.push_read(file, [offset, len], &outcome));
+        outcome
+    }
+
+    /// Returns whether nothing has a path. Not recorded, and made without power too.
+    pub(crate) fn is_missing(&mut self, path: &[u8]) -> bool {
+        let found = self.session.apply(&Call::of_path(Kind::Find, path));
+        matches!(found, Err(Error::NotFound))
+    }
+
+    /// Returns the size of an inode that is a file.
+    pub(crate) fn size_of(&mut self, inode: u64) -> Result<u64, Error> {
+        let session = &mut self.session;
+        let sizer = match self.sizers.get(&inode) {
+            Some(sizer) => *sizer,
+            None => {
+                let opened = session.apply(&Call::of_number(Kind::OpenInode, inode, 0))?;
+                self.sizers.insert(inode, opened.number);
+                opened.number
+            }
+        };
+        Ok(session.apply(&Call::of_number(Kind::Size, sizer, 0))?.size)
+    }
+
+    /// Returns the names in a directory.
+    pub(crate) fn list(&mut self, path: &[u8]) -> Result<Vec<Name>, Error> {
+        let count = self.by_path(Kind::List, path)?.size;
+        let mut names = Vec::new();
+        for index in 0..count as usize {
+            names.extend(self.session.name(index)?);
+        }
+        Ok(names)
+    }
+
+    /// Crashes and recovers. Returns what was kept of each pending write and of each unsettled edit.
+    pub(crate) fn crash(&mut self) -> Result<(Selections, Vec<bool>), Error> {
+        let reply = self.by_number(Kind::Crash, 0)?;
+        let writes = self.session.kept_bytes(reply.size);
+        let edits = self.session.kept_edits(reply.number);
+        self.record(|record| record.push_kept(&writes, &edits));
+        self.limits.power.follow(Effect::Crashes);
+        self.limits.power.follow(Effect::Reopens);
+        self.life += 1;
+        self.has_truncated = false;
+        self.sizers.clear();
+        Ok((writes, edits))
+    }
+
+    /// Replaces the faults, or leaves the earlier ones. If these can't be set again, the next call sets them first, or returns
+    /// `OutOfMemory`.
+    pub(crate) fn configure(&mut self, config: Config) -> Result<(), Error> {
+        self.limits.count_call()?;
+        let earlier = self.config;
+        let outcome = self.set(config);
+        if outcome.is_err() {
+            self.config = earlier;
+            let _ = self.set(earlier);
+        }
+        outcome
+    }
+
+    fn set(&mut self, config: Config) -> Result<(), Error> {
+        self.is_unset = true;
+        self.setting("config clear")?;
+        for line in config.lines() {
+            self.setting(&line)?;
+        }
+        self.config = config;
+        self.is_unset = false;
+        Ok(())
+    }
+
+    fn setting(&mut self, line: &str) -> Result<(), Error> {
+        self.session.configure(line)?;
+        self.record(|record| record.push(line.to_owned()));
+        Ok(())
+    }
+
+    fn record(&mut self, push: impl FnOnce(&mut Record)) {
+        if let Some(record) = &mut self.session.record {
+            push(record);
+        }
+    }
+}

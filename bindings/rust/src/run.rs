@@ -1,0 +1,129 @@
+//! One run of an exploration, or of a seed.
+use crate::choices::{Choice, Choices, Kind};
+use crate::limits::Limited;
+use crate::{Error, Store};
+use std::ops::Deref;
+
+/// What an exploration opens anew for each run. It is implemented by the builders of this crate alone: [`Builder`](crate::Builder) for
+/// a [`Store`], and [`files::Builder`](crate::files::Builder) for [`files::Files`](crate::files::Files).
+///
+/// ```
+/// use blobcrash::files::Files;
+/// use blobcrash::{Error, Explorable, Store, explore};
+///
+/// fn runs(builder: &impl Explorable) -> u64 {
+///     explore(builder, 10, |run| Ok::<_, Error>(run.choose(3))).unwrap().runs
+/// }
+/// assert_eq!(runs(&Store::builder()) + runs(&Files::builder()), 6);
+/// ```
+pub trait Explorable: Clone {
+    /// What a run has.
+    type Opened: Limited;
+
+    /// Opens what an explored run has, with as many words after those of its path.
+    #[doc(hidden)]
+    fn explored(&self, choices: Choices, words: usize) -> Result<Self::Opened, Error>;
+
+    /// Opens what the run of a seed has.
+    #[doc(hidden)]
+    fn seeded(&self, seed: u64) -> Result<Self::Opened, Error>;
+}
+
+/// The store, or the files, of one run. It has the methods of [`Store`] or of [`files::Files`](crate::files::Files).
+///
+/// ```
+/// # use blobcrash::{Error, Run, Store, explore};
+/// fn body(run: &Run) -> Result<u64, Error> {
+///     let (blob, _) = run.open("p", b"b")?;
+///     blob.resize(run.choose(2) as u64)?;
+///     blob.size()
+/// }
+/// assert_eq!(explore(&Store::builder(), 10, body).unwrap().runs, 2);
+/// ```
+#[derive(Debug)]
+pub struct Run<S: Limited = Store> {
+    opened: S,
+    number: u64,
+}
+
+impl<S: Limited> Deref for Run<S> {
+    type Target = S;
+
+    fn deref(&self) -> &S {
+        &self.opened
+    }
+}
+
+impl<S: Limited> Run<S> {
+    pub(crate) fn new(opened: S, number: u64) -> Run<S> {
+        Run { opened, number }
+    }
+
+    /// Returns a number below `branches`. An exploration tries every one, together with the outcomes of the draws. With
+    /// [`seeds`](crate::seeds) the seed chooses.
+    ///
+    /// # Panics
+    /// If `branches` is 0.
+    ///
+    /// ```
+    /// # use blobcrash::{Error, Store, explore};
+    /// let visited = explore(&Store::builder(), 10, |run| Ok::<_, Error>((run.choose(2), run.choose(2))));
+    /// assert_eq!(visited.unwrap().runs, 4);
+    /// ```
+    #[must_use]
+    pub fn choose(&self, branches: usize) -> usize {
+        assert!(branches > 0, "there is nothing to choose from");
+        let opened = &self.opened;
+        opened.with_limits(|limits, session| limits.choose(branches, session))
+    }
+
+    /// Returns the lines of all calls, with the words of the draws so far.
+    ///
+    /// ```
+    /// # use blobcrash::{Error, Store, explore};
+    /// let visited = explore(&Store::builder(), 10, |run| {
+    ///     run.crash()?;
+    ///     Ok::<_, Error>(run.script())
+    /// });
+    /// assert!(visited.unwrap().outcomes.contains_key("crash\n"));
+    /// ```
+    #[must_use]
+    pub fn script(&self) -> String {
+        let all = self.opened.record();
+        let words = self.choices(|choices| (!choices.is_short()).then(|| words_of(&choices.taken)));
+        match words {
+            // The first line of the record has the words that were given.
+            Some(words) => words + all.split_once('\n').map_or("", |(_, calls)| calls),
+            None => all,
+        }
+    }
+
+    /// Counts the last draws, and returns what `read` takes from the choices.
+    pub(crate) fn choices<T: Default>(&self, read: impl FnOnce(&mut Choices) -> T) -> T {
+        self.opened.with_limits(|limits, session| {
+            limits.count_draws(session);
+            limits.choices.as_mut().map(read).unwrap_or_default()
+        })
+    }
+}
+
+/// Returns the line with the words of a path's draws. It is empty if there are none.
+fn words_of(taken: &[Choice]) -> String {
+    let draws = taken.iter().filter(|choice| choice.kind == Kind::Draw);
+    let words: Vec<&str> = draws
+        .map(|draw| if draw.branch == 0 { "0" } else { "max" })
+        .collect();
+    if words.is_empty() {
+        return String::new();
+    }
+    format!("words {}\n", words.join(" "))
+}
+
+/// If a body panics, its script is printed.
+impl<S: Limited> Drop for Run<S> {
+    fn drop(&mut self) {
+        if std::thread::panicking() {
+            eprintln!("run {} failed; its script:\n{}", self.number, self.script());
+        }
+    }
+}

@@ -1,0 +1,50 @@
+//! Runs of many seeds.
+use crate::{Explorable, ExploreError, Explored, Run};
+use std::collections::BTreeMap;
+use std::ops::Range;
+
+/// Calls `body` with a new store, or new [`files`](crate::files), for each seed. The seed decides every draw and every [`Run::choose`].
+///
+/// Errors:
+/// - `Failed` for the first seed with which the body returns an error. Its script has the seed.
+/// - `Store` with `Argument` if the builder has a seed or words, or with what its `open` returns.
+///
+/// ```
+/// use blobcrash::{Config, Error, PartialWriteMode, Probability, Store, WriteConfig, WriteOptions, seeds};
+///
+/// let half = Config::default().write(WriteConfig {
+///     failure_rate: Probability::ZERO,
+///     retention_rate: Probability::new(1, 2).unwrap(),
+///     mode: PartialWriteMode::Prefix,
+/// });
+/// let visited = seeds(&Store::builder().config(half), 0..100, |run| {
+///     let (blob, _) = run.open("p", b"b")?;
+///     blob.write_at(0, b"ab", WriteOptions::default())?;
+///     run.restart()?;
+///     Ok::<_, Error>(run.open("p", b"b")?.1)
+/// });
+/// assert_eq!(visited.unwrap().outcomes.into_keys().collect::<Vec<_>>(), [0, 1, 2]);
+/// ```
+pub fn seeds<B: Explorable, T: Ord, E>(
+    builder: &B,
+    seeds: Range<u64>,
+    mut body: impl FnMut(&Run<B::Opened>) -> Result<T, E>,
+) -> Result<Explored<T>, ExploreError<E>> {
+    let mut visited = Explored {
+        runs: 0,
+        outcomes: BTreeMap::new(),
+        is_complete: false,
+    };
+    for seed in seeds {
+        visited.runs += 1;
+        let run = Run::new(builder.seeded(seed)?, visited.runs);
+        match body(&run) {
+            Ok(outcome) => *visited.outcomes.entry(outcome).or_insert(0) += 1,
+            Err(error) => {
+                let (run, script) = (visited.runs, run.script());
+                return Err(ExploreError::Failed { error, run, script });
+            }
+        }
+    }
+    Ok(visited)
+}

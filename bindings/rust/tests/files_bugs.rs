@@ -1,0 +1,199 @@
+//! Programs on files that lose data, each found by an exploration, and the same programs without their bug.
+mod sectors;
+
+use blobcrash::files::{Files, Profile};
+use blobcrash::{Error, Exploration, ExploreError, Run, seeds};
+use sectors::{SECTOR, builder, letters, sectors};
+use std::io::{self, Write};
+
+/// What a program forgets.
+#[derive(Clone, Copy, Debug, PartialEq)]
+enum Forgets {
+    Nothing,
+    Sync,
+    DirectorySync,
+    Checksum,
+}
+
+/// Replaces `/f` by new bytes.
+fn replace(files: &Files, forgets: Forgets) -> io::Result<()> {
+    let mut file = files.create("/t")?;
+    file.write_all(&sectors("BB"))?;
+    if forgets != Forgets::Sync {
+        file.sync_all()?;
+    }
+    drop(file);
+    files.rename("/t", "/f")?;
+    if forgets != Forgets::DirectorySync {
+        files.sync_directory("/")?;
+    }
+    Ok(())
+}
+
+/// Replaces a file, with a power loss at each call. The bytes are always those before or those after, and those after once the
+/// replacement has returned.
+fn replacement(run: &Run<Files>, forgets: Forgets) -> Result<(), String> {
+    let told = |error: io::Error| error.to_string();
+    let set_up = || {
+        run.write("/f", sectors("AA"))?;
+        run.settle()
+    };
+    let is_set_up = set_up().is_ok();
+    let is_done = is_set_up && replace(run, forgets).is_ok();
+    let found = run
+        .recover(|files| letters(files, "/f").map_err(io::Error::from))
+        .map_err(told)?;
+    match found.as_str() {
+        _ if !is_set_up => Ok(()),
+        "AA" if !is_done => Ok(()),
+        "BB" => Ok(()),
+        other => Err(format!("{other:?} is left, done: {is_done}")),
+    }
+}
+
+fn explored(
+    profile: Profile,
+    body: impl FnMut(&Run<Files>) -> Result<(), String>,
+) -> Result<u64, (u64, String)> {
+    match Exploration::of(&builder(profile))
+        .power_losses(1)
+        .visit(body)
+    {
+        Ok(visited) => {
+            assert!(visited.is_complete);
+            Ok(visited.runs)
+        }
+        Err(ExploreError::Failed { error, run, script }) => {
+            assert!(
+                script.contains("\nwrite ") && script.contains("\ncrash\n"),
+                "{script}"
+            );
+            Err((run, error))
+        }
+        other => panic!("{other:?}"),
+    }
+}
+
+/// Without a bug there is a run for each call and each way in which a loss there keeps the pending edits and sectors. The first write of
+/// `/f` has 1 + 2, its replacement 1 + 2 + 8 + 1 + 2, and a run without a loss 1. In POSIX the name of the synced file is pending too, at the
+/// last two calls: 2 + 4.
+#[test]
+fn a_file_that_is_replaced_by_a_rename() {
+    for (profile, runs) in Profile::ALL.into_iter().zip([18, 18, 18, 21]) {
+        let of = |forgets| explored(profile, |run| replacement(run, forgets));
+        assert_eq!(of(Forgets::Nothing), Ok(runs), "{profile:?}");
+        // ext4 makes the new bytes durable in the rename.
+        let unsynced = of(Forgets::Sync);
+        assert_eq!(
+            unsynced.is_ok(),
+            profile == Profile::Ext4,
+            "{profile:?}: {unsynced:?}"
+        );
+        // The old bytes are left although the call has returned.
+        let undirected = of(Forgets::DirectorySync);
+        assert!(
+            undirected
+                .clone()
+                .is_err_and(|(_, error)| error.starts_with("\"AA\" is left")),
+            "{profile:?}: {undirected:?}"
+        );
+    }
+}
+
+/// A record of two sectors: a checksum, and what it is of.
+fn record(letter: u8) -> Vec<u8> {
+    let mut bytes = vec![letter; 2 * SECTOR];
+    let sum = checksum(&bytes[1..]);
+    bytes[0] = sum;
+    bytes
+}
+
+fn checksum(bytes: &[u8]) -> u8 {
+    bytes
+        .iter()
+        .fold(7, |sum: u8, byte| sum.rotate_left(3) ^ byte)
+}
+
+/// Returns how many records the log has: those before the first one with another checksum.
+fn records(files: &Files, forgets: Forgets) -> Result<usize, Error> {
+    let bytes = files.read("/log")?;
+    let records = bytes.chunks_exact(2 * SECTOR);
+    let is_whole =
+        |record: &&[u8]| record[0] == checksum(&record[1..]) || forgets == Forgets::Checksum;
+    let whole: Vec<&[u8]> = records.take_while(is_whole).collect();
+    if whole
+        .iter()
+        .zip(*b"ab")
+        .any(|(found, letter)| *found != record(letter))
+    {
+        return Err(Error::Argument("a record has other bytes".to_owned()));
+    }
+    Ok(whole.len())
+}
+
+fn append(run: &Run<Files>, forgets: Forgets) -> Result<(), String> {
+    let mut appended = 0;
+    let mut write = || -> io::Result<()> {
+        let mut log = run.options().append(true).create(true).open("/log")?;
+        run.sync_directory("/")?;
+        for letter in *b"ab" {
+            log.write_all(&record(letter))?;
+            log.sync_data()?;
+            appended += 1;
+        }
+        Ok(())
+    };
+    let _ = write();
+    let found = run.recover(|files| match records(files, forgets) {
+        Err(Error::NotFound) => Ok(0),
+        found => found,
+    });
+    let found = found.map_err(|error| error.to_string())?;
+    if found < appended || found > appended + 1 {
+        return Err(format!("{found} records of {appended}"));
+    }
+    Ok(())
+}
+
+#[test]
+fn an_append_without_a_checksum() {
+    for profile in Profile::ALL {
+        let checked = explored(profile, |run| append(run, Forgets::Nothing));
+        assert!(checked.is_ok(), "{profile:?}: {checked:?}");
+        let unchecked = explored(profile, |run| append(run, Forgets::Checksum));
+        // In ext4 an append has no holes, so that a record that is as long is whole.
+        assert_eq!(
+            unchecked.is_ok(),
+            profile == Profile::Ext4,
+            "{profile:?}: {unchecked:?}"
+        );
+    }
+}
+
+#[test]
+fn seeds_find_the_same_bug() {
+    let builder = builder(Profile::Xfs);
+    let body = |forgets| {
+        move |run: &Run<Files>| {
+            run.crash_after(run.choose(12) as u64)
+                .map_err(|error| error.to_string())?;
+            replacement(run, forgets)
+        }
+    };
+    let visited = seeds(&builder, 0..200, body(Forgets::Nothing)).unwrap();
+    assert_eq!((visited.runs, visited.is_complete), (200, false));
+    let failed = seeds(&builder, 0..200, body(Forgets::Sync));
+    let Err(ExploreError::Failed { run, script, .. }) = failed else {
+        panic!("{failed:?}");
+    };
+    // The run of the seed 0 is the first one.
+    assert!(
+        script.starts_with(&format!("seed {}\n", run - 1)),
+        "{script}"
+    );
+    // The same seed again.
+    let again = seeds(&builder, run - 1..run, body(Forgets::Sync));
+    assert!(
+        matches!(again, Err(ExploreError::Failed { run: 1, script: same, .. }) if same == script)
+    );
+}

@@ -1,0 +1,233 @@
+//! Explorations of files: what the profiles leave, failures, and what can't be explored.
+mod sectors;
+
+use blobcrash::files::{Builder, Files, Profile};
+use blobcrash::{
+    Config, Error, Exploration, ExploreError, Probability, ResizeConfig, Run, explore,
+};
+use sectors::{builder, half, letters, sectors};
+use std::collections::BTreeSet;
+use std::io::{self, Write};
+use std::os::unix::fs::FileExt;
+
+type Program = fn(&Files) -> io::Result<()>;
+
+/// What the program leaves of `paths` after a crash, where `before` was durable.
+fn left(profile: Profile, before: Program, program: Program, paths: &[&str]) -> BTreeSet<String> {
+    let visited = explore(&builder(profile), u64::MAX, |files| {
+        before(files)?;
+        files.settle()?;
+        program(files)?;
+        files.crash()?;
+        let found: Result<Vec<String>, Error> =
+            paths.iter().map(|path| letters(files, path)).collect();
+        Ok::<_, io::Error>(found?.join("/"))
+    });
+    let visited = visited.unwrap();
+    assert!(visited.is_complete);
+    visited.outcomes.into_keys().collect()
+}
+
+fn check(name: &str, [before, program]: [Program; 2], paths: &[&str], expected: [&[&str]; 4]) {
+    for (profile, expected) in Profile::ALL.into_iter().zip(expected) {
+        let expected = expected.iter().map(|text| (*text).to_owned()).collect();
+        let found = left(profile, before, program, paths);
+        assert_eq!(found, expected, "{name}, {profile:?}");
+    }
+}
+
+/// Rows of the table in docs/FILES.md, worked out by hand.
+#[test]
+fn what_the_profiles_leave() {
+    fn old(files: &Files) -> io::Result<()> {
+        Ok(files.write("/f", sectors("AA"))?)
+    }
+    fn rename(files: &Files) -> io::Result<()> {
+        files.write("/t", sectors("BB"))?;
+        Ok(files.rename("/t", "/f")?)
+    }
+    fn append(files: &Files) -> io::Result<()> {
+        files
+            .options()
+            .append(true)
+            .open("/f")?
+            .write_all(&sectors("BB"))
+    }
+    let holes: &[&str] = &["AA", "AAB", "AABB", "AA0B"];
+    check(
+        "append",
+        [old, append],
+        &["/f"],
+        [&["AA", "AAB", "AABB"], holes, holes, holes],
+    );
+    let unsynced: &[&str] = &["AA", "BB", "B", "0B", ""];
+    check(
+        "rename",
+        [old, rename],
+        &["/f"],
+        [&["AA", "BB"], unsynced, unsynced, unsynced],
+    );
+    let synced: Program = |files| {
+        let file = files.create("/t")?;
+        file.write_all_at(&sectors("BB"), 0)?;
+        file.sync_all()?;
+        Ok(files.rename("/t", "/f")?)
+    };
+    check("fsync, rename", [old, synced], &["/f"], [&["AA", "BB"]; 4]);
+    let made: Program = |files| {
+        let file = files.create("/f")?;
+        file.write_all_at(&sectors("BB"), 0)?;
+        Ok(file.sync_all()?)
+    };
+    check(
+        "fsync",
+        [|_| Ok(()), made],
+        &["/f"],
+        [&["BB"], &["BB"], &["BB"], &["BB", "-"]],
+    );
+    let swapped: Program = |files| Ok(files.exchange("/f", "/g")?);
+    let both: Program = |files| {
+        files.write("/f", sectors("A"))?;
+        Ok(files.write("/g", sectors("B"))?)
+    };
+    check(
+        "exchange",
+        [both, swapped],
+        &["/f", "/g"],
+        [&["A/B", "B/A"]; 4],
+    );
+}
+
+/// In ext4 a close makes the bytes of a file durable that an open truncated. A look at its size doesn't: it closes nothing. The truncation
+/// itself is never kept, since resizes have no rate.
+#[test]
+fn a_file_that_is_written_in_place() {
+    fn old(files: &Files) -> io::Result<()> {
+        Ok(files.write("/f", sectors("AA"))?)
+    }
+    let closed: Program = |files| Ok(files.write("/f", sectors("BB"))?);
+    let opened: Program = |files| {
+        let file = files.create("/f")?;
+        file.write_all_at(&sectors("BB"), 0)?;
+        assert_eq!(files.metadata("/f")?.len(), 1024);
+        files.crash()?;
+        Ok(())
+    };
+    let any: &[&str] = &["AA", "AB", "BA", "BB"];
+    check("closed", [old, closed], &["/f"], [&["BB"], any, any, any]);
+    check("open", [old, opened], &["/f"], [any; 4]);
+}
+
+#[test]
+fn a_failure_has_its_words_and_calls() {
+    let builder = builder(Profile::Posix).keep(half());
+    let failed = explore(&builder, u64::MAX, |files| {
+        files.create_dir("/a")?;
+        files.create_dir("/b")?;
+        assert_eq!(files.choose(1), 0);
+        let kept = files.crash()?.edits;
+        if kept == [false, true] {
+            Err(Error::Loop)
+        } else {
+            Ok(())
+        }
+    });
+    let Err(ExploreError::Failed { error, run, script }) = failed else {
+        panic!("{failed:?}");
+    };
+    assert_eq!((error, run), (Error::Loop, 3));
+    let expected = "words max 0\nprofile posix\nkeep 1 2\nconfig write 0 1 1 2 sectors 512\n\
+                    mkdir /a\nmkdir /b\n# choose(1) is 0\ncrash\n# of the unsettled edits it keeps 01\n\
+                    # of write 0 it keeps none of 1024\n# of write 1 it keeps bytes 0 to 1023 of 1024\n";
+    assert_eq!(script, expected);
+}
+
+type Body = fn(&Run<Files>) -> Result<(), Error>;
+
+#[test]
+fn what_can_not_be_explored() {
+    let never = |_: &Run<Files>| -> Result<(), Error> { panic!("the body is called") };
+    let partial = ResizeConfig {
+        failure_rate: half(),
+        partial_rate: half(),
+    };
+    let refused: [Builder; 4] = [
+        Files::builder().seed(7),
+        Files::builder().words(&[0]),
+        Files::builder().config(Config::default().resize(partial)),
+        Files::builder().lines(&["config resize 1 2 1 2"]),
+    ];
+    for builder in refused {
+        let found = explore(&builder, 1, never);
+        assert!(
+            matches!(found, Err(ExploreError::Store(Error::Argument(_)))),
+            "{found:?}"
+        );
+    }
+    let found = explore(&Files::builder(), 1, |run| {
+        run.configure(Config::default().resize(partial))
+    });
+    assert!(matches!(
+        found,
+        Err(ExploreError::Failed {
+            error: Error::Argument(_),
+            ..
+        })
+    ));
+    // A body that retries for ever: without power, and with a stale file.
+    let bodies: [Body; 4] = [
+        |run| {
+            while run.create("/f").is_err() {}
+            Ok(())
+        },
+        |run| {
+            let file = run.create("/f")?;
+            run.crash()?;
+            while file.metadata().is_err() {}
+            Ok(())
+        },
+        |run| {
+            while run.choose(2) == 0 {}
+            Ok(())
+        },
+        |run| {
+            let file = run.create("/f")?;
+            run.configure(Config::default().sync(Probability::ONE))?;
+            while file.sync_all().is_err() {}
+            Ok(())
+        },
+    ];
+    for body in bodies {
+        let found = Exploration::of(&Files::builder())
+            .power_losses(1)
+            .calls_per_run(50)
+            .visit(body);
+        assert!(
+            matches!(found, Err(ExploreError::TooLong { most: 50, .. })),
+            "{found:?}"
+        );
+    }
+}
+
+#[test]
+fn a_loss_at_each_call() {
+    // The power fails at the create, the write, the sync and the crash's recovery has no call of its own: three, and none.
+    let builder = Files::builder().keep(Probability::ZERO);
+    let visited = Exploration::of(&builder).power_losses(1).visit(|run| {
+        let write = || -> io::Result<()> {
+            let file = run.create_new("/f")?;
+            file.write_all_at(b"a", 0)?;
+            Ok(file.sync_all()?)
+        };
+        let is_done = write().is_ok();
+        assert_eq!(run.is_power_off(), !is_done);
+        run.crash()?;
+        assert!(!run.is_power_off());
+        Ok::<_, Error>((is_done, run.exists("/f")?))
+    });
+    let outcomes = visited.unwrap().outcomes;
+    assert_eq!(
+        outcomes.into_iter().collect::<Vec<_>>(),
+        [((false, false), 3), ((true, true), 1)]
+    );
+}
