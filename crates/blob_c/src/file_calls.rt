@@ -1,7 +1,7 @@
 //! Files with names: a file system and one call after another. What it is and does is `blob_file_sessions`.
 ghost use Rattle.std.specs.Prelude.{◌≡◌, ◌⊎◌, None, IsSome, IfSome};
 ghost use Rattle.blob_fs.specs.Files.{names_of};
-ghost use Rattle.blob_fs.specs.Names.{Same};
+ghost use Rattle.blob_directory.specs.Names.{Same};
 ghost use Rattle.blob_file_sessions.specs.Calls.{TellsFileWords};
 ghost use Rattle.blob_file_sessions.specs.Exports.{AnswersCall, CopiesEntryFrom, InsertsFileWords, MakesSetting, ReadsFiles, Transfers};
 ghost use Rattle.blob_file_sessions.specs.Held.{files_of, fs_of};

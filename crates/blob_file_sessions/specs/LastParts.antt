@@ -3,7 +3,7 @@ use Rattle.std.specs.Prelude.{◌≡◌, ℕ, List, [], Bool, true, false, Optio
 use Rattle.std.specs.Global.{Global}
 use Rattle.blob_draws.specs.Rows.{row_in, rows_of}
 use Rattle.blob_model.specs.Draws.{Row}
-use Rattle.blob_fs.specs.declared.edit.Binding.{Binding}
+use Rattle.blob_directory.specs.declared.edit.Binding.{Binding}
 use Rattle.blob_sessions.specs.Parts.{CopiesBytes, no_run, run_from}
 use Rattle.blob_sessions.specs.Sessions.{stopped}
 use Rattle.blob_sessions.specs.declared.parts.KeptRun.{KeptRun}

@@ -3,9 +3,9 @@ use Rattle.std.specs.Prelude.{ℕ, Option, Some, None, length}
 use Rattle.blob_header.specs.Refusals.{refusal_of}
 use Rattle.blob_draws.specs.Rows.{rows_of}
 use Rattle.blob_fs.specs.Files.{descriptor_number}
-use Rattle.blob_fs.specs.declared.edit.Binding.{Binding}
-use Rattle.blob_fs.specs.declared.edit.Kind.{Kind}
-use Rattle.blob_fs.specs.declared.edit.Kind.TheVariants.{File, Directory}
+use Rattle.blob_directory.specs.declared.edit.Binding.{Binding}
+use Rattle.blob_directory.specs.declared.edit.Kind.{Kind}
+use Rattle.blob_directory.specs.declared.edit.Kind.TheVariants.{File, Directory}
 use Rattle.blob_fs.specs.declared.error.FsError.{FsError}
 use Rattle.blob_fs.specs.declared.error.FsError.TheVariants.{Exists, NotFound, NotEmpty, IsDirectory, NotDirectory, NameTooLong, InvalidName, TooManyLinks, Stale, NoSpace, Loop, Crashed, Store}
 use Rattle.blob_sessions.specs.Statuses.{refusal_status}

@@ -1,7 +1,7 @@
 // What a file system is begun with: words, a seed and settings.
 ghost use Rattle.std.specs.Prelude.{◌≡◌, IfOk, None};
 ghost use Rattle.blob_fs.specs.Files.{names_of};
-ghost use Rattle.blob_fs.specs.Names.{Same};
+ghost use Rattle.blob_directory.specs.Names.{Same};
 ghost use Rattle.blob_file_sessions.specs.Held.{fs_of};
 
 use crate::kept::KeptFiles;

@@ -2,7 +2,7 @@ use Rattle.std.proofs.Common.{rules, ◌≡◌, ℕ, List, Option, Some, Vec, Ma
 use Rattle.std.specs.Global.{Global}
 use Rattle.std.specs.Prelude.{slice_get}
 use Rattle.std.proofs.lemmas.Option.{slice_get-get_or}
-use Rattle.blob_fs.specs.declared.edit.Binding.{Binding}
+use Rattle.blob_directory.specs.declared.edit.Binding.{Binding}
 use Rattle.blob_sessions.specs.Parts.{CopiesBytes}
 use Rattle.blob_sessions.specs.declared.ran.Ran.{Ran}
 use Rattle.blob_sessions.specs.declared.ran.TheConstants.{OTHER_REPLY}
