@@ -5,7 +5,6 @@ last line is `N passed, M failed`. With the name of a test only that one is run.
 import functools
 import os
 import sys
-import time
 import zlib
 
 TOP = os.path.dirname(os.path.dirname(os.path.abspath(__file__)))
@@ -17,7 +16,8 @@ from blobcrash import Failed, PowerLoss, explore
 
 PROFILES = ("ext4", "xfs", "btrfs", "posix")
 SETTINGS = ["write 0 1 1 2 sectors 4"]
-MOST_SECONDS = 1.0
+# How many runs an exploration may have: far less than a second's.
+MOST_RUNS = 1000
 
 
 class Settings:
@@ -101,16 +101,13 @@ def appends(files, checks=True):
 
 def explored(body, profile, **flags):
     """Explores a body with a power loss at each call. Returns the failure, or `None`."""
-    began = time.perf_counter()
     try:
         visited = explore(functools.partial(body, **flags), files=profile, settings=SETTINGS, power_losses=1)
-        assert str(visited).endswith("runs, all of them"), visited
+        assert str(visited).endswith("runs, all of them") and visited.runs < MOST_RUNS, visited
         return None
     except Failed as failed:
+        assert failed.run < MOST_RUNS, failed
         return failed
-    finally:
-        took = time.perf_counter() - began
-        assert took < MOST_SECONDS, f"{body.__name__} took {took:.2f} seconds ({profile})"
 
 
 def finds(body, profiles, text, **flags):

@@ -5,7 +5,6 @@ hand from its rules. What was seen on real file systems lies in their profiles' 
 import os
 import re
 import sys
-import time
 
 TOP = os.path.dirname(os.path.dirname(os.path.abspath(__file__)))
 sys.path.insert(0, os.path.join(TOP, "bindings", "python"))
@@ -15,8 +14,8 @@ from blobcrash import Injected, explore
 SECTOR = 512
 SETTINGS = ["write 0 1 1 2 sectors 512"]
 PROFILES = ("ext4", "xfs", "btrfs", "posix")
-# How long an exploration may take, in seconds. A busy machine is slower.
-MOST_SECONDS = 1.0
+# How many runs an exploration may have: far less than a second's.
+MOST_RUNS = 1000
 
 # What Linux 6.18 left on an image of 4 KB blocks that was copied right after the calls, or after background writeback: a letter is a
 # block. The columns are the program, what is durable before, the files looked at, ext4 (also without delayed allocation), XFS, btrfs.
@@ -145,11 +144,9 @@ class Litmus:
     def outcomes(self, profile):
         """The outcomes in a profile, each of them found."""
         resizes = ["resize 1 2 0 1"] if any(text.startswith(("truncate", "rewrite")) for text in self.program) else []
-        began = time.perf_counter()
         explored = explore(self, files=profile, settings=SETTINGS + resizes)
         assert explored.complete
-        took = time.perf_counter() - began
-        return set(explored.outcomes), explored.runs, took
+        return set(explored.outcomes), explored.runs
 
 
 def rows_of(text):
@@ -184,19 +181,18 @@ class Count:
 
 def compare_page(count):
     """Compares the page's table."""
-    slowest = 0.0
+    most = 0
     rows = page_rows()
     count.tell(len(rows) == 22 and all(len(row) == 7 for row in rows), f"the page's table has 22 rows of 7 cells: {len(rows)}")
     for program, before, looks_at, *cells in rows:
         ext4 = set(cells[0].split())
         for profile, cell in zip(PROFILES, cells):
-            found, runs, took = Litmus(program, before, looks_at).outcomes(profile)
+            found, runs = Litmus(program, before, looks_at).outcomes(profile)
             expected = wanted(cell, ext4)
             what = f"{program} ({profile}): wanted {sorted(expected)}, found {sorted(found)} in {runs} runs"
             count.tell(found == expected, what)
-            slowest = max(slowest, took)
-    count.tell(slowest < MOST_SECONDS, f"an exploration took {slowest:.2f} seconds")
-    return slowest
+            most = max(most, runs)
+    count.tell(most < MOST_RUNS, f"an exploration had {most} runs")
 
 
 def compare_seen(count):
@@ -205,7 +201,7 @@ def compare_seen(count):
         for program, before, looks_at, *cells in rows_of(table):
             for profile, cell in zip(PROFILES, cells):
                 if cell:
-                    found, runs, _ = Litmus(program, before, looks_at).outcomes(profile)
+                    found, runs = Litmus(program, before, looks_at).outcomes(profile)
                     seen = set(cell.split())
                     what = f"{program} ({profile}): {sorted(seen)} was seen, found {sorted(found)} in {runs} runs"
                     count.tell(seen <= found if is_inside else not seen & found, what)
