@@ -1,14 +1,13 @@
 -- The lists that a removal of a partition ends, found by their numbers.
-use Rattle.std.proofs.Common.{◌≡◌, ◌≢◌, ⊎_elim, ℕ, ◌+◌, ◌<◌, Bool, true, false, cond, not, ◌&&◌, ◌||◌, nat_eq, Option, None, Some, List, [], ◌∷◌, length, get_or, take, filter, refl, sym, ◌∙◌, ap, ap₂, subst, arith, true≢false, position}
+use Rattle.std.proofs.Common.{◌≡◌, ⊎_elim, ℕ, ◌<◌, Bool, true, false, cond, not, ◌&&◌, ◌||◌, nat_eq, None, Some, List, [], ◌∷◌, length, get_or, filter, refl, sym, ◌∙◌, ap, ap₂, subst, arith, true≢false, position}
 use Rattle.std.specs.Cmp.{nat_eq_equiv}
 use Rattle.std.specs.List.{list_any, All}
-use Rattle.std.proofs.lemmas.Bool.{cases_eq, cases_Bool, cond_both, cond-true, cond-false}
+use Rattle.std.proofs.lemmas.Bool.{cases_eq, cases_Bool, cond-true, cond-false}
 use Rattle.std.proofs.lemmas.List.{get_or_default}
-use Rattle.std.proofs.lemmas.List.Folds.{list_any_none, list_any_at, list_any_more}
+use Rattle.std.proofs.lemmas.List.Folds.{list_any_none, list_any_at}
 use Rattle.std.proofs.lemmas.Map.Views.{any-filter_same, list_any-from_Contains}
 use Rattle.blob_base.specs.Names.{HasNumbers}
 use Rattle.blob_model.specs.Directory.{Directory}
-use Rattle.blob_model.specs.Durable.{with_at}
 use Rattle.blob_model.specs.Files.{is_removed_by}
 use Rattle.blob_model.specs.Order.{held_at}
 use Rattle.blob_model.specs.Pending.{Pending}

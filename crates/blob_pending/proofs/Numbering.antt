@@ -1,9 +1,9 @@
 -- The index of the lists by the numbers of their incarnations.
-use Rattle.std.proofs.Common.{rules, not, ◌||◌, IfSome, ◌≡◌, ◌≢◌, ⊎_elim, ℕ, zero, suc, ◌+◌, ◌-◌, ◌<◌, ◌≤◌, Bool, true, false, cond, nat_eq, nat_lt, Option, None, Some, List, [], ◌∷◌, ◌++◌, length, get_or, set, take, map, refl, sym, ◌∙◌, ap, ap₂, subst, arith, true≢false, position, slice_get}
+use Rattle.std.proofs.Common.{not, IfSome, ◌≡◌, ◌≢◌, ⊎_elim, ℕ, zero, suc, ◌-◌, ◌<◌, Bool, true, false, nat_eq, nat_lt, Option, None, Some, List, [], ◌∷◌, ◌++◌, length, get_or, set, take, map, refl, sym, ◌∙◌, ap, ap₂, arith, true≢false, position, slice_get}
 use Rattle.std.specs.List.{IsDistinct, swap_remove, position_or_len}
 use Rattle.std.proofs.lemmas.Bool.{cases_lt, cases_eq, cases_Bool, cond-true, cond-false}
 use Rattle.std.proofs.lemmas.Bool.Decides.{nat_tests}
-use Rattle.std.proofs.lemmas.List.{get_or_default, get_or-map, length-map, map-append, map-set, take-map}
+use Rattle.std.proofs.lemmas.List.{get_or_default, get_or-map, length-map, map-set, take-map}
 use Rattle.std.proofs.lemmas.List.Quantifiers.{position-Some}
 use Rattle.std.proofs.lemmas.List.Sums.{fails_before_first}
 use Rattle.std.proofs.lemmas.Option.{slice_get-get_or}

@@ -1,7 +1,7 @@
 -- The pending lists of the incarnations, each by its place.
-use Rattle.std.specs.Prelude.{◌≡◌, ◌≢◌, AllPairs, ℕ, ◌<◌, List, [], ◌∷◌, ◌++◌, cond, Bool, true, false, not, ◌&&◌, ◌||◌, All, length, map, Option, None, Some, vec_len, vec_capacity}
+use Rattle.std.specs.Prelude.{◌≡◌, ◌≢◌, AllPairs, ℕ, ◌<◌, List, [], ◌∷◌, ◌++◌, cond, Bool, true, false, length, map, Option, None, Some, vec_len, vec_capacity}
 use Rattle.std.proofs.Common.{get_or}
-use Rattle.blob_model.specs.Directory.{Directory, is_current}
+use Rattle.blob_model.specs.Directory.{Directory}
 use Rattle.blob_model.specs.Durable.{with_at}
 use Rattle.blob_model.specs.Places.{Place, same_place}
 use Rattle.blob_model.specs.Pending.{Pending, finish, has_barrier, apply_durable}

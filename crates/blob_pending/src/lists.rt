@@ -28,7 +28,10 @@ pub struct Distinct<O> {
 /// The pending lists of all incarnations. An empty list stays until it is retired.
 ///
 /// A list is found by the number of its incarnation, in an index. Incarnations of different stores may have the same number.
-/// Once two of them have lists, the index is not used, and the lists are searched one by one, until a crash.
+/// Once two of them have lists, the index is not used, and the lists are searched one by one, until the index is made again:
+/// by `clear`, or by a removal of a partition.
+///
+/// The index takes memory only with a new list: if that is refused, the error is `Memory`, and the lists are unchanged.
 #[derive(Drop)]
 pub struct Lists<S: Durable> {
     pub(crate) all: Distinct<S::Origin>,

@@ -1,4 +1,4 @@
-use Rattle.std.proofs.Common.{rules, ◌≡◌, ◌∙◌, ap, get_or, sym, arith, length, false, ⊎_elim, subst, ℕ}
+use Rattle.std.proofs.Common.{rules, ◌≡◌, ◌∙◌, get_or, sym, arith, false, ⊎_elim, subst, ℕ}
 use Rattle.std.proofs.lemmas.Bool.{cases_eq}
 use Rattle.blob_pending.specs.Lists.{lists_of, is_list_of}
 use Rattle.blob_pending.proofs.ListSteps.{has_none, of_item, held_len}

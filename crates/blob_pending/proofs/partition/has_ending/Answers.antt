@@ -1,4 +1,4 @@
-use Rattle.std.proofs.Common.{rules, ◌≡◌, ◌∙◌, get_or, Some, None, position, nat_eq}
+use Rattle.std.proofs.Common.{rules, ◌≡◌, ◌∙◌, get_or, Some, position, nat_eq}
 use Rattle.blob_pending.proofs.Ending.{found_ends, none_ends}
 use Rattle.blob_pending.proofs.partition.has_ending.Goals as goal
 

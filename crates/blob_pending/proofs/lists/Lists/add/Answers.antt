@@ -6,7 +6,6 @@ use Rattle.blob_pending.specs.declared.incarnation.Incarnation.{Incarnation}
 use Rattle.blob_pending.specs.Lists.{lists_of, IsAt, AreDistinct}
 use Rattle.blob_pending.specs.Numbers.{AreIndexed}
 use Rattle.blob_pending.specs.Shown.{Shown}
-use Rattle.blob_model.specs.Places.{Place}
 use Rattle.blob_pending.proofs.Distinct.{distinct_push}
 use Rattle.blob_pending.proofs.ListSteps.{added, held_at_add, at_add, held_len}
 use Rattle.blob_pending.proofs.Numbering.{indexed_push, not_false}

@@ -1,6 +1,6 @@
-use Rattle.std.proofs.Common.{rules, ◌≡◌, ◌∙◌, ap, get_or, sym, arith, ℕ, Some, None, position, nat_eq, false, true, refl}
+use Rattle.std.proofs.Common.{rules, ◌≡◌, ◌∙◌, ap, get_or, sym, arith, Some, None, position, nat_eq, false, true}
 use Rattle.std.proofs.lemmas.List.{get_or_default}
-use Rattle.blob_model.specs.Places.{Place, same_place}
+use Rattle.blob_model.specs.Places.{same_place}
 use Rattle.blob_pending.specs.declared.incarnation.Incarnation.{Incarnation}
 use Rattle.blob_pending.specs.Numbers.{AreIndexed}
 use Rattle.blob_pending.proofs.Numbering.{used, none_of_number, none_but, found_number}

@@ -1,4 +1,4 @@
-use Rattle.std.proofs.Common.{rules, ◌≡◌, ◌∙◌, sym, false, ℕ, Some, None, position, nat_eq}
+use Rattle.std.proofs.Common.{rules, ◌≡◌, ◌∙◌, sym, false, Some, None, position, nat_eq}
 use Rattle.blob_pending.specs.Numbers.{AreIndexed}
 use Rattle.blob_pending.proofs.Numbering.{used, none_named, other_named}
 use Rattle.blob_pending.proofs.lists.Lists.find_name.Goals as goal

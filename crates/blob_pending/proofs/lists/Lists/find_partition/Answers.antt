@@ -1,8 +1,7 @@
-use Rattle.std.proofs.Common.{rules, ◌≡◌, ◌∙◌, false, nat_eq, None, filter, get_or, ℕ, sym, subst, ap, map, List}
+use Rattle.std.proofs.Common.{rules, ◌∙◌, false, nat_eq, filter, get_or, sym, subst, ap, map, List}
 use Rattle.blob_model.specs.Order.{ListAt, ArePlacesApart}
 use Rattle.blob_pending.proofs.Distinct.{distinct_of, apart_of}
 use Rattle.std.specs.List.{list_any}
-use Rattle.blob_pending.specs.Lists.{is_removed_in}
 use Rattle.blob_pending.specs.declared.incarnation.Incarnation.{Incarnation}
 use Rattle.blob_pending.specs.Partition.{ends_number}
 use Rattle.blob_pending.specs.Numbers.{AreIndexed}

@@ -1,4 +1,4 @@
-use Rattle.std.proofs.Common.{◌≡◌, Option, ℕ, subst}
+use Rattle.std.proofs.Common.{Option, ℕ, subst}
 use Rattle.blob_pending.specs.Lists.{IsListOf}
 use Rattle.blob_pending.proofs.Removing.{retires_some, retires_none}
 use Rattle.blob_pending.proofs.lists.Lists.retire_found.Goals as goal

@@ -1,4 +1,4 @@
-use Rattle.std.proofs.Common.{rules, arith, ◌≡◌, ◌≢◌, ◌∙◌, ◌||◌, [], cond, ap, sym, subst, not, get_or, take, refl, nat_eq, Bool, List, ℕ, Option, None, Vec}
+use Rattle.std.proofs.Common.{arith, ◌≡◌, ◌≢◌, ◌∙◌, [], cond, ap, sym, subst, not, get_or, take, refl, nat_eq, Bool, List, ℕ, Option, None, Vec}
 use Rattle.std.specs.Global.{Global}
 use Rattle.std.specs.List.{All, list_any}
 use Rattle.std.proofs.lemmas.List.{take_all}

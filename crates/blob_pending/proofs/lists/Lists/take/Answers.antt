@@ -1,4 +1,4 @@
-use Rattle.std.proofs.Common.{rules, ◌≡◌, ◌<◌, false, arith, subst, sym, vec_len, ℕ}
+use Rattle.std.proofs.Common.{rules, ◌≡◌, ◌<◌, false, arith, subst, sym, vec_len}
 use Rattle.blob_pending.specs.Shown.{Shown}
 use Rattle.blob_pending.proofs.Numbering.{used, indexed_take}
 use Rattle.blob_pending.proofs.Taking.{distinct_taken, taken_of, takes}
