@@ -103,8 +103,10 @@ static void begin_layer(void) {
              is_sectors ? options.tear + 7 : "", number, options.keep, slash + 1, node_limits.bytes, node_limits.files);
     uint64_t line;
     int error = layer_begin(preamble, &line);
-    static const char *const named[] = {"--seed", "--profile", "--keep or --tear", "--keep", "--size"};
-    if (error == EINVAL) end(BAD_OPTION, "%s: not allowed", line >= 1 && line <= 5 ? named[line - 1] : "an option");
+    static const char *const bad[] = {"--seed: not a seed", "--profile: not ext4, xfs, btrfs or posix",
+                                      "--keep or --tear: not from 0 to 1, or no sectors", "--keep: not from 0 to 1",
+                                      "--size: too large"};
+    if (error == EINVAL) end(BAD_OPTION, "%s", line >= 1 && line <= 5 ? bad[line - 1] : "a bad option");
     if (error) end(FAILED, "the layer: %s", strerror(error));
     if (nodes_begin(getuid(), getgid())) end(FAILED, "no memory");
 }
