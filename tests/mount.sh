@@ -22,11 +22,6 @@ if ! has_python; then
     skip 'there is no Python 3.8 or later'
     finish
 fi
-if [ ! -f "$top/bindings/c/blobcrash_files.h" ] && [ -z "${BLOBCRASH_ARCHIVE:-}" ]; then
-    leave_out 'the library has no calls on files yet'
-    finish
-fi
-
 # What is said without FUSE, and without the right.
 run "$top/tools/mount" "$work/none"
 expect 'no folder' 1 '' "mount: $work/none: no such folder"
