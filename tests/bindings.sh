@@ -67,13 +67,16 @@ lives() {
 compiler=${CC:-cc}
 if has "$compiler"; then
     build="$compiler -std=c11 -Wall -Wextra -Werror -pedantic -O2 -I$top/bindings/c"
-    for program in first calls typed numbers fork lines log hostile; do
+    for program in first first_files calls typed numbers fork lines log hostile; do
         $build -o "$work/$program" "$top/bindings/c/$program.c" "$top/out/libblobcrash.a" >"$work/out" 2>"$work/err"
         tell $? "C: $program.c"
     done
     "$work/first" >"$work/out" 2>"$work/err"
     [ "$(cat "$work/out")" = '6 of 6 bytes' ]
     tell $? 'C: the example of the page'
+    "$work/first_files" >"$work/out" 2>"$work/err"
+    [ "$(cat "$work/out")" = 'the name is kept' ]
+    tell $? 'C: the example of the page on files'
     "$work/calls" >"$work/out" 2>"$work/err"
     tell $? 'C: what each function answers'
     "$work/typed" >"$work/out" 2>"$work/err"
