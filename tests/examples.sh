@@ -1,7 +1,7 @@
 #!/bin/sh
 # The examples: each examples/NAME.script prints NAME.out to the byte; clients in Go, Java and Node; the log in Python keeps its promise
-# over 1,000 seeds, and breaks it if it forgets its sync, which a short script and its replies show. The last line is
-# `N passed, M failed`.
+# over 1,000 seeds, and breaks it if it forgets its sync, which a short script and its replies show; so do replicated nodes in Python and
+# Rust, by seeds and over every small run. The last line is `N passed, M failed`.
 top=$(CDPATH='' cd -- "$(dirname -- "$0")/.." && pwd -P)
 # shellcheck source=tests/counting.sh
 . "$top/tests/counting.sh"
@@ -63,4 +63,27 @@ ok 'its short script shows the fault' [ $? -eq 1 ]
 ok 'the script is as short as by hand' [ "$(grep -c . "$work/short")" -eq 5 ]
 ok 'its choices are fixed' sh -c '! grep -q "^seed" "$1"' sh "$work/short"
 ok 'its replies are shown' grep -q '^crashed' "$work/broken"
+
+# nodes NAME COMMAND..: replicated nodes keep their promises, in as many runs as those in Python. With a vote that isn't synced both
+# searches find one that votes twice.
+nodes() {
+    name=$1
+    shift
+    "$@" >"$work/out" 2>"$work/err"
+    ok "$name: replicated nodes" [ $? -eq 0 ]
+    ok "$name: all small runs" diff "$work/nodes" "$work/out"
+    "$@" --forget-sync >"$work/out" 2>"$work/err"
+    ok "$name: a vote that isn't synced" [ $? -eq 1 ]
+    for search in seeds explore; do
+        ok "$name: $search finds it" grep -q "^$search: run [0-9]* failed: .*votes twice in term [0-9]*\$" "$work/out"
+    done
+}
+printf '%s: %d runs, none breaks a promise\n' seeds 500 explore 915 >"$work/nodes"
+nodes Python python3 "$top/examples/replicated.py"
+if has cargo "${CC:-cc}"; then
+    nodes Rust env CARGO_TARGET_DIR="$top/out/rust" CARGO_NET_OFFLINE=true cargo run --quiet --release \
+        --manifest-path "$top/bindings/rust/Cargo.toml" --example replicated --
+else
+    skip 'replicated nodes in Rust: there is no cargo or no C compiler'
+fi
 finish
