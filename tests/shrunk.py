@@ -267,6 +267,15 @@ def test_a_smaller_run_that_would_never_end():
     assert short.script.count("# choose(3) is 2") == 1 and "open p 62" in short.script and short.stopped == "", short
 
 
+def test_choices_without_draws():
+    """Each list of smaller choices is tried once: after the run itself no choice, 0 and 1."""
+
+    def body(store):
+        assert store.choose(3) != 2
+
+    assert shrink(body, failure(explore, body)).run == 4
+
+
 def test_body_that_does_not_fail():
     try:
         shrink(lambda store: None, "0 max")

@@ -296,8 +296,10 @@ def _smaller_picks(picks: Tuple[int, ...]) -> Iterator[Tuple[int, ...]]:
 
 
 def _other_draws(draws: Tuple[int, ...]) -> Iterator[Tuple[int, ...]]:
-    """The same draws, none, and some at random: with fewer calls each draw may be another call's."""
+    """The same draws and, if there are any, none and some at random: with fewer calls each draw may be another call's."""
     yield draws
+    if not draws:
+        return
     yield ()
     for seed in range(_DRAWS):
         chance = random.Random(seed)
