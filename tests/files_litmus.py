@@ -3,13 +3,14 @@ hand from its rules. What was seen on real file systems lies in their profiles' 
 `N passed, M failed`."""
 
 import os
-import re
 import sys
 
 TOP = os.path.dirname(os.path.dirname(os.path.abspath(__file__)))
 sys.path.insert(0, os.path.join(TOP, "bindings", "python"))
 
 from blobcrash import Injected, explore
+
+from files_steps import Steps, parted
 
 SECTOR = 512
 SETTINGS = ["write 0 1 1 2 sectors 512"]
@@ -51,75 +52,6 @@ rewrite f BB | f = AA | f | AA | |
 """
 
 
-def parted(text, by):
-    """The parts of a text, without spaces around them; none of an empty one."""
-    return [part.strip() for part in text.split(by)] if text.strip() else []
-
-
-def bytes_of(letters):
-    """The bytes of letters: a sector each, `0` a sector of zeros."""
-    return b"".join((b"\0" if letter == "0" else letter.encode()) * SECTOR for letter in letters)
-
-
-def letters_of(content):
-    """The letters of a file's bytes."""
-    sectors = [content[at : at + SECTOR] for at in range(0, len(content), SECTOR)]
-    assert all(sector == sector[:1] * SECTOR for sector in sectors), "a sector is torn"
-    return "".join("0" if sector[:1] == b"\0" else chr(sector[0]) for sector in sectors)
-
-
-def put(files, path, mode, letters):
-    with files.open(path, mode) as file:
-        file.write(bytes_of(letters))
-
-
-def truncate(files, path, letters):
-    """Truncates a file to as many sectors as these letters are."""
-    with files.open(path, "r+b") as file:
-        file.truncate(SECTOR * len(letters))
-
-
-def sync(files, path, data=False):
-    if files.stat(path).kind == "directory":
-        return files.fsync_directory(path)
-    with files.open(path, "rb") as file:
-        return files.fdatasync(file) if data else files.fsync(file)
-
-
-STEPS = (
-    (r"(\S+) = (\w+)", lambda files, path, letters: put(files, path, "xb", letters)),
-    (r"append (\w+) to (\S+)", lambda files, letters, path: put(files, path, "ab", letters)),
-    (r"write (\w+) to (\S+)", lambda files, letters, path: put(files, path, "r+b", letters)),
-    (r"rewrite (\S+) (\w+)", lambda files, path, letters: put(files, path, "wb", letters)),
-    (r"truncate (\S+) to (\w+)", truncate),
-    (r"create (\S+)", lambda files, path: put(files, path, "xb", "")),
-    (r"mkdir (\S+)", lambda files, path: files.mkdir(path)),
-    (r"rename (\S+) (\S+)", lambda files, old, new: files.rename(old, new)),
-    (r"exchange (\S+) (\S+)", lambda files, one, other: files.exchange(one, other)),
-    (r"link (\S+) (\S+)", lambda files, old, new: files.link(old, new)),
-    (r"unlink (\S+)", lambda files, path: files.unlink(path)),
-    (r"fsync (\S+)", sync),
-    (r"fdatasync (\S+)", lambda files, path: sync(files, path, data=True)),
-)
-
-
-def step(files, text):
-    """Makes the calls of a step."""
-    for form, act in STEPS:
-        found = re.fullmatch(form, text)
-        if found:
-            return act(files, *found.groups())
-    raise ValueError(f"{text!r} is no step")
-
-
-def look(files, path):
-    """What is found of a file."""
-    if not files.exists(path):
-        return "none"
-    with files.open(path, "rb") as file:
-        return letters_of(file.read()) or "empty"
-
-
 class Litmus:
     """A program as a body of `explore`, which returns what is found of its files after a crash."""
 
@@ -127,19 +59,20 @@ class Litmus:
         self.before, self.program, self.looks_at = (parted(text, ",") for text in (before, program, looks_at))
 
     def __call__(self, files):
+        steps = Steps(files, SECTOR)
         # Nothing is drawn before the program. Its own truncations are the ones that may survive.
         files.configure("keep 1 1")
         for text in self.before:
-            step(files, text)
+            steps.make(text)
         files.settle()
         files.configure("keep 1 2")
         try:
             for text in self.program:
-                step(files, text)
+                steps.make(text)
         except Injected:
             return None
         files.restart()
-        return "/".join(look(files, path) for path in self.looks_at)
+        return "/".join(steps.look(path) for path in self.looks_at)
 
     def outcomes(self, profile):
         """The outcomes in a profile, each of them found."""
@@ -176,7 +109,7 @@ class Count:
     def tell(self, holds, what):
         self.passed, self.failed = self.passed + bool(holds), self.failed + (not holds)
         if not holds:
-            print(f"files_litmus.py: FAILED: {what}")
+            print(f"{os.path.basename(sys.argv[0])}: FAILED: {what}")
 
 
 def compare_page(count):
@@ -209,7 +142,7 @@ def compare_seen(count):
 
 def cut_and_append(files):
     """Truncates a file within a block, and appends to it there."""
-    put(files, "f", "xb", "A" * 8)
+    Steps(files, SECTOR).put("f", "xb", "A" * 8)
     files.settle()
     with files.open("f", "r+b") as file:
         try:
