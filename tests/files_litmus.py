@@ -19,7 +19,8 @@ PROFILES = ("ext4", "xfs", "btrfs", "posix")
 MOST_RUNS = 1000
 
 # What Linux 6.18 left on an image of 4 KB blocks that was copied right after the calls, or after background writeback: a letter is a
-# block. The columns are the program, what is durable before, the files looked at, ext4 (also without delayed allocation), XFS, btrfs.
+# block. tests/realfs.py runs the programs again. The columns are the program, what is durable before, the files looked at, ext4 (also
+# without delayed allocation), XFS, btrfs.
 SEEN = """
 append BB to f | f = AA | f | AA | AA | AA
 append BB to f, o = X, fsync o | f = AA | f | AA AABB | AA AABB AA0B | AA
@@ -38,7 +39,7 @@ unlink f | f = AA | f | AA | AA | AA
 unlink f, o = X, fsync o | f = AA | f | none | none | AA
 rename f g, fsync g | f = AA | f, g | none/AA | none/AA | none/AA
 write B to f | f = AA | f | AA BA | AA BA | AA
-write B to f, o = X, fsync o | f = AA | f | AA | AA | AA
+write B to f, o = X, fsync o | f = AA | f | AA BA | AA BA | AA
 truncate f to A, o = X, fsync o | f = AA | f | A | A | AA
 truncate f to AA00, o = X, fsync o | f = AA | f | AA00 | AA00 | AA00
 write B to f, fsync f, append BB to f | f = AA | f | BA | BA | BA
