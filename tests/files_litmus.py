@@ -34,7 +34,8 @@ mkdir s, s/f = BB, fsync s/f | | s/f | BB | BB | BB
 create f, mkdir q, q/o = X, fsync q/o | | f | empty | empty | none
 create f, fsync d | mkdir d | f | empty | none | none
 create f, write B to g, fdatasync g | g = AA | f | none | none | none
-create f, write B to g, fsync g | g = AA | f | empty | none | none
+create f, write B to g, fsync g | g = AA | f | empty | empty none | none
+write A to g, fsync g, create f, write B to g, fsync g | g = AA | f | empty | empty none | none
 unlink f | f = AA | f | AA | AA | AA
 unlink f, o = X, fsync o | f = AA | f | none | none | AA
 rename f g, fsync g | f = AA | f, g | none/AA | none/AA | none/AA
@@ -45,11 +46,13 @@ truncate f to AA00, o = X, fsync o | f = AA | f | AA00 | AA00 | AA00
 write B to f, fsync f, append BB to f | f = AA | f | BA | BA | BA
 """
 
-# What was seen and no crash of the profile leaves: an append of which only the end had been written back, and a rewrite after O_TRUNC
-# whose close made nothing durable.
+# What was seen and no crash of the profile leaves: an append of which only the end had been written back, a rewrite after O_TRUNC whose
+# close made nothing durable, and an overwrite in the tick of the kernel's clock in which the file changed before. It leaves the file's
+# times as they are, so that ext4 commits nothing at its sync.
 OUTSIDE = """
 append BB to f, o = X, fsync o | f = AA | f | AA0B | |
 rewrite f BB | f = AA | f | AA | |
+write A to g, fsync g, create f, write B to g, fsync g | g = AA | f | none | |
 """
 
 
