@@ -148,6 +148,28 @@ def program(text, *arguments):
     return subprocess.Popen(command, stdout=subprocess.PIPE, text=True)
 
 
+def comes(holds):
+    """Waits until something holds, for a minute at most. Returns whether it does."""
+    until = time.monotonic() + 60
+    while not holds():
+        if time.monotonic() > until:
+            return False
+        time.sleep(0.02)
+    return True
+
+
+def waits_in_open(process):
+    """Waits until a process is in a call of open that doesn't return."""
+    calls = []
+
+    def is_same():
+        with open(f"/proc/{process.pid}/syscall", encoding="ascii") as file:
+            calls.append(file.read())
+        return len(calls) > 9 and calls[-1].startswith("257 ") and len(set(calls[-10:])) == 1
+
+    return comes(is_same)
+
+
 WRITES = """
 try:
     descriptor = os.open(sys.argv[1], os.O_CREAT | os.O_WRONLY)
@@ -164,26 +186,24 @@ def test_power():
         interrupted = program("signal.signal(signal.SIGALRM, lambda *_: None); signal.setitimer(signal.ITIMER_REAL, 0.05, 0.05)"
                               + WRITES, f"{mount.at}/a")
         killed = program(WRITES, f"{mount.at}/b")
-        time.sleep(0.4)
-        check("calls wait", interrupted.poll() is None and killed.poll() is None)
+        check("calls wait", waits_in_open(interrupted) and waits_in_open(killed))
         killed.kill()
-        check("a killed program ends", killed.wait(5) == -signal.SIGKILL)
+        check("a killed program ends", killed.wait(60) == -signal.SIGKILL)
         mount.ask("on")
-        check("calls go on", interrupted.communicate(timeout=5)[0] == "1\n")
+        check("calls go on", interrupted.communicate(timeout=60)[0] == "1\n")
         mount.ask("off")
         ended = program(WRITES, f"{mount.at}/c")
-        time.sleep(0.2)
+        check("a call waits", waits_in_open(ended))
         mount.ask("crash")
-        check("a crash ends calls with EIO", ended.communicate(timeout=5)[0] == "EIO\n")
+        check("a crash ends calls with EIO", ended.communicate(timeout=60)[0] == "EIO\n")
         check("and their file isn't there", "c" not in os.listdir(mount.at))
         check("the power is on", mount.control.status()["power"] == "on")
         mount.ask("settle")
         mount.ask("crash-after 3")
         counted = program("for number in range(9): os.mkdir(f'{sys.argv[1]}/{number}'); print(number, flush=True)", mount.at)
-        time.sleep(0.3)
-        check("the power goes off after the third call", mount.control.is_off())
+        check("the power goes off after the third call", comes(mount.control.is_off))
         counted.kill()
-        check("three calls were made", counted.communicate(timeout=5)[0] == "0\n1\n2\n")
+        check("three calls were made", counted.communicate(timeout=60)[0] == "0\n1\n2\n")
         mount.ask("crash")
         maps_and_waits(mount)
         check("a bad command", refused(mount, "crash-after x") and refused(mount, "frob") and refused(mount, "config frob"))
@@ -208,7 +228,7 @@ def maps_and_waits(mount):
     maps.kill()
     time.sleep(0.1)
     mount.ask("crash")
-    check("a killed program with a mapped page ends", maps.wait(5) == -signal.SIGKILL)
+    check("a killed program with a mapped page ends", maps.wait(60) == -signal.SIGKILL)
     maps.stdout.close()
 
 
@@ -245,11 +265,11 @@ def test_survivors(daemon):
         check("the programs run on", all(survivor.poll() is None for survivor in programs) and status["life"] == "25", status)
         for survivor in programs:
             survivor.kill()
-        check("the programs end", [survivor.wait(10) for survivor in programs] == [-signal.SIGKILL] * 4)
+        check("the programs end", [survivor.wait(60) for survivor in programs] == [-signal.SIGKILL] * 4)
         for survivor in programs:
             survivor.stdout.close()
         mount.control.end()
-        check("the daemon ends well after them", mount.daemon.wait(20) == 0 and not mount.messages(), mount.messages())
+        check("the daemon ends well after them", mount.daemon.wait(60) == 0 and not mount.messages(), mount.messages())
 
 
 def refused(mount, line):
@@ -268,9 +288,9 @@ def test_kill():
         put(f"{mount.at}/f", A)
         mount.ask("off")
         waits = program(WRITES, f"{mount.at}/f")
-        time.sleep(0.2)
+        check("a call waits", waits_in_open(waits))
         mount.daemon.kill()
-        check("its calls end", waits.communicate(timeout=5)[0] in ("ECONNABORTED\n", "ENOTCONN\n"))
+        check("its calls end", waits.communicate(timeout=60)[0] in ("ECONNABORTED\n", "ENOTCONN\n"))
         check("later calls too", refusal(os.listdir, mount.at) == "ENOTCONN")
     finally:
         mount.close()

@@ -82,10 +82,10 @@ expect 'a mount with options' 0 '' ''
 run "$top/tools/mountctl" "$work/socket" crash
 ok 'what was copied in is durable' [ "$(cat "$at/a file")" = durable ]
 run umount "$at"
-ok 'the daemon ends with the mount' timeout 5 sh -c 'while [ -e "$1" ]; do sleep 0.05; done' sh "$work/socket"
+ok 'the daemon ends with the mount' timeout 60 sh -c 'while [ -e "$1" ]; do sleep 0.05; done' sh "$work/socket"
 "$top/tools/mount" "$at" --foreground &
 daemon=$!
-timeout 10 sh -c 'until "$1/tools/mountctl" "$2" status >/dev/null 2>&1; do sleep 0.05; done' sh "$top" "$at"
+timeout 60 sh -c 'until "$1/tools/mountctl" "$2" status >/dev/null 2>&1; do sleep 0.05; done' sh "$top" "$at"
 kill -9 "$daemon"
 wait "$daemon" 2>/dev/null
 run "$top/tools/mountctl" "$at" umount

@@ -210,6 +210,6 @@ def differential(seed, count, program):
         mount.ask("crash")
         check(f"the tree of seed {seed} after settle and crash", tree(mount.at) == tree(reference))
         mount.control.end()
-        mount.daemon.wait(20)
+        mount.daemon.wait(60)
         check(f"the daemon of seed {seed} ends well", mount.daemon.returncode == 0 and not mount.messages(), mount.messages())
     shutil.rmtree(reference)
