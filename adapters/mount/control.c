@@ -133,7 +133,7 @@ static bool send_reply(int fd, char *reply) {
     return send(fd, reply, len, MSG_NOSIGNAL | MSG_DONTWAIT) == (ssize_t)len;
 }
 
-/* Answers the lines that a client has sent whole. */
+/* Handles the whole lines that a client has sent. */
 static void answer_lines(struct client *client) {
     char reply[LINE_MOST], *end;
     while (client->fd >= 0 && (end = memchr(client->line, '\n', client->len))) {

@@ -12,7 +12,7 @@ int control_begin(const char *path);
 void control_end(void);
 /* Fills what to wait for, CONTROL_WAITS of them. */
 void control_waits(struct pollfd *waits);
-/* Answers what has come. */
+/* Handles what has arrived. */
 void control_serve(const struct pollfd *waits);
 
 #endif

@@ -4,7 +4,7 @@
  *
  * The duties of a caller are those of blobcrash.h, with `struct blobcrash_files` in place of a session.
  *
- * A path is names behind slashes, from the root on: bytes, without a final zero. An inode is a file or a directory, by its number; the
+ * A path is names, each after a slash, from the root on: bytes, without a final zero. An inode is a file or a directory, by its number; the
  * root has the number 1. A descriptor is a number too, from 0 on; no number is used again, and after a crash all are stale. An edit is
  * a change of names that one call made.
  */

@@ -82,7 +82,7 @@ static bool reads(uint64_t descriptor, uint64_t offset, const char *text) {
     return ran.status == BLOBCRASH_DONE && ran.len == len && memcmp(into, text, len) == 0 && into[len] == '.' && into[32] == '.';
 }
 
-/* Whether a directory has these names, each with a comma behind it. */
+/* Whether a directory has these names, each with a comma after it. */
 static bool lists(const char *path, const char *names) {
     char found[256] = "";
     struct blobcrash_file_reply reply = on(BLOBCRASH_F_LIST, path);

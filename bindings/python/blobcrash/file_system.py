@@ -37,7 +37,7 @@ class Files:
     seed's; after the last one it goes on with the seed, or without one with zeros, for which every draw is true. `profile` is `ext4`,
     `xfs`, `btrfs` or `posix`. `settings` are those of `configure`, from the start. `by` is the way to the layer: `FilesLibrary`.
 
-    The calls have the names of `os`. A path is a `str`, `bytes` or an `os.PathLike`, of names behind slashes, from the root on; `.` and
+    The calls have the names of `os`. A path is a `str`, `bytes` or an `os.PathLike`, of names, each after a slash, from the root on; `.` and
     `..` are no names. A refused call raises the `OSError` that `os` would raise, whose `refusal` names why; an injected fault is
     `Injected`, with EIO.
 

@@ -4,7 +4,7 @@ use crate::limits::Limited;
 use crate::{Error, Store};
 use std::ops::Deref;
 
-/// What an exploration opens anew for each run. It is implemented by the builders of this crate alone: [`Builder`](crate::Builder) for
+/// What an exploration opens for each run. It is implemented by the builders of this crate alone: [`Builder`](crate::Builder) for
 /// a [`Store`], and [`files::Builder`](crate::files::Builder) for [`files::Files`](crate::files::Files).
 ///
 /// ```
