@@ -4,6 +4,7 @@
 top=$(CDPATH='' cd -- "$(dirname -- "$0")/.." && pwd -P)
 # shellcheck source=tests/counting.sh
 . "$top/tests/counting.sh"
+release=$(sed -n 's/^const VERSION: &str = "blobcrash \([0-9.]*\),.*/\1/p' "$top/crates/blobcrash/src/main.rt")
 
 need_program explain explore
 sh "$top/bindings/build.sh" || give_up "the library can't be built"
@@ -29,7 +30,7 @@ b'; do
     ok "a prefix that a shell would read: $hostile" expect_status 2 sh "$top/bindings/install.sh" "$work/$hostile"
 done
 
-cat >"$work/files" <<'FILES'
+cat >"$work/files" <<FILES
 bin/blobcrash
 include/blobcrash/blobcrash.h
 include/blobcrash/blobcrash_calls.h
@@ -41,8 +42,8 @@ include/blobcrash/fork.h
 include/blobcrash/power.h
 lib/libblobcrash.a
 lib/libblobcrash.so
-lib/libblobcrash.so.0.2
-lib/libblobcrash.so.0.2.0
+lib/libblobcrash.so.${release%.*}
+lib/libblobcrash.so.$release
 lib/pkgconfig/blobcrash.pc
 libexec/blobcrash/blobcrash
 libexec/blobcrash/blobcrash_explain
@@ -84,7 +85,7 @@ else
 fi
 if has readelf; then
     readelf -d "$prefix/lib/libblobcrash.so" >"$work/dynamic"
-    ok 'its SONAME' grep -q 'SONAME.*\[libblobcrash.so.0.2\]' "$work/dynamic"
+    ok 'its SONAME' grep -qF "[libblobcrash.so.${release%.*}]" "$work/dynamic"
 else
     skip 'its SONAME: there is no readelf'
 fi
@@ -98,7 +99,7 @@ if has pkg-config; then
     ok 'cc with pkg-config' "${CC:-cc}" -o first first.c $(pkg-config --cflags --libs blobcrash)
     LD_LIBRARY_PATH=$prefix/lib ./first >"$work/out"
     ok 'what it prints' grep -qx "$expected" "$work/out"
-    ok 'the version of pkg-config' [ "$(pkg-config --modversion blobcrash)" = 0.2.0 ]
+    ok 'the version of pkg-config' [ "$(pkg-config --modversion blobcrash)" = "$release" ]
 else
     skip 'pkg-config: it is missing'
 fi

@@ -54,16 +54,16 @@ ok 'a bad line has a page up to it' [ $? -eq 2 ]
 ok 'a bad line is told' grep -qx 'line 2: bad call' "$work/err"
 "$top/tools/crash_page" --no-such 2>"$work/err"
 ok 'other arguments are refused' [ $? -eq 2 ]
-ok 'the chart of an exploration' python3 "$top/tests/page_chart.py"
+ok 'the chart of an exploration' python3 "$top/tests/crash_page_chart.py"
 printf '# 1 leaf, first: words 0\nok\nbytes 62\n# 1 leaf, first: words max\nok\nbytes 61\n# 2 leaves, all of them; 2 outcomes\n' >"$work/explored"
 "$top/tools/crash_page" --chart --fails 'bytes 61' <"$work/explored" >"$work/chart"
 ok 'a chart in the terminal' grep -qx ' *0 *0 of 1 (0%) *1 of 1 (100%)' "$work/chart"
 "$top/tools/crash_page" --explored "$work/explored" --fails 'bytes 61' <"$worked" >"$work/page.html"
 ok 'a chart in the page' grep -q '<td>draw 0</td>' "$work/page.html"
-add python3 "$top/tests/page_model.py" "$BLOBCRASH" 200
+add python3 "$top/tests/crash_page_model.py" "$BLOBCRASH" 200
 
 if has chromium || has chromium-browser || has google-chrome; then
-    add python3 "$top/tests/page_browser.py" "$BLOBCRASH" "${PAGE_PICTURES:-$work/pictures}"
+    add python3 "$top/tests/crash_page_browser.py" "$BLOBCRASH" "${PAGE_PICTURES:-$work/pictures}"
 else
     skip 'the page in a browser: it needs Chromium'
 fi

@@ -1,5 +1,5 @@
 #!/usr/bin/env python3
-"""The states that a page shows, against the replies of the program: `page_model.py PROGRAM [COUNT]`.
+"""The states that a page shows, against the replies of the program: `crash_page_model.py PROGRAM [COUNT]`.
 
 Each worked script, and COUNT random ones: each read has the bytes that the handle has in the model, each open the size, and after
 each crash the durable bytes are those that `explain` shows. Each can be drawn as a picture. The last line is `N passed, M failed`.
@@ -92,7 +92,7 @@ def main(program, count=300):
         problems = problems_of(program, text)
         if problems:
             failed += 1
-            print(f"page_model.py: FAILED: {os.path.basename(name)}: {problems[0]}")
+            print(f"crash_page_model.py: FAILED: {os.path.basename(name)}: {problems[0]}")
         else:
             passed += 1
     print(f"{reads} reads")

@@ -1,8 +1,8 @@
 #!/bin/sh
 # Builds out/leveldb/crash if it is older than its sources, and crashes LevelDB:
 #
-#     sh bindings/leveldb/crash.sh 100                 100 seeds of each mode, and the table
-#     sh bindings/leveldb/crash.sh --seed 7 sync-reads one life; BLOBCRASH_TRACE=1 shows each call
+#     sh adapters/leveldb/crash.sh 100                 100 seeds of each mode, and the table
+#     sh adapters/leveldb/crash.sh --seed 7 sync-reads one life; BLOBCRASH_TRACE=1 shows each call
 #
 # It needs a C++ compiler and LevelDB (Debian: g++, libleveldb-dev). docs/LEVELDB.md describes the modes and the exit statuses.
 set -eu

@@ -1,5 +1,5 @@
 #!/usr/bin/env python3
-"""The page in a headless Chromium: `page_browser.py PROGRAM FOLDER`. Its pictures go to the folder.
+"""The page in a headless Chromium: `crash_page_browser.py PROGRAM FOLDER`. Its pictures go to the folder.
 
 The page of each worked script of examples/ is stepped through by keys, and what it shows of each byte is compared with the replies.
 Then hostile text, a long run, a narrow screen, the dark colours, print, and what the page may not do. The last line is
@@ -69,7 +69,7 @@ class Checks:
         self.passed += bool(is_right)
         self.failed += not is_right
         if not is_right:
-            print(f"page_browser.py: FAILED: {what}")
+            print(f"crash_page_browser.py: FAILED: {what}")
 
 
 def run(program, text):

@@ -12,7 +12,7 @@ failed=0
 skipped=0
 
 skip() {
-    echo "explored.sh: skipped: $1"
+    echo "explore_bodies.sh: skipped: $1"
     skipped=$((skipped + 1))
     if [ "${CI:-}" = true ]; then failed=$((failed + 1)); fi
 }
@@ -22,7 +22,7 @@ tell() {
         passed=$((passed + 1))
     else
         failed=$((failed + 1))
-        echo "explored.sh: FAILED: $2"
+        echo "explore_bodies.sh: FAILED: $2"
         tail -n 40 "$work/out"
     fi
 }
@@ -64,7 +64,7 @@ add() {
 }
 
 if ! sh "$top/bindings/build.sh"; then
-    echo "explored.sh: the library can't be built"
+    echo "explore_bodies.sh: the library can't be built"
     echo "0 passed, 1 failed"
     exit 1
 fi
