@@ -12,10 +12,6 @@ if ! has_python; then
 fi
 need_program explain
 sh "$top/bindings/build.sh" || give_up "the library can't be built"
-if [ ! -f "$top/out/libblobcrash.so" ]; then
-    skip 'all of it: the shared library is made by a C compiler'
-    finish
-fi
 BLOBCRASH=$program
 PYTHONPATH=$top/bindings/python
 PYTHONDONTWRITEBYTECODE=1

@@ -70,7 +70,7 @@ if ! sh "$top/bindings/build.sh"; then
 fi
 compiler=${CC:-cc}
 if ! command -v "$compiler" >/dev/null; then
-    skip 'C and Python: there is no C compiler, which makes the library for Python too'
+    skip 'C and Python: there is no C compiler'
     finish
 fi
 

@@ -8,10 +8,6 @@ release=$(sed -n 's/^const VERSION: &str = "blobcrash \([0-9.]*\),.*/\1/p' "$top
 
 need_program explain explore
 sh "$top/bindings/build.sh" || give_up "the library can't be built"
-if [ ! -f "$top/out/libblobcrash.so" ]; then
-    skip 'all of it: the shared library is made by a C compiler'
-    finish
-fi
 prefix=$work/prefix
 ok 'it installs' sh "$top/bindings/install.sh" "$prefix"
 ok 'it installs again, over itself' sh "$top/bindings/install.sh" "$prefix/"
@@ -48,8 +44,24 @@ lib/pkgconfig/blobcrash.pc
 libexec/blobcrash/blobcrash
 libexec/blobcrash/blobcrash_explain
 libexec/blobcrash/blobcrash_explore
+share/bash-completion/completions/blobcrash
+share/blobcrash/help
 share/man/man1/blobcrash.1
 FILES
+if has pkg-config && pkg-config --atleast-version=3.10 fuse3; then
+    cat >>"$work/files" <<'FILES'
+libexec/blobcrash/blobcrash_mount
+share/blobcrash/adapters/mount/build.sh
+share/blobcrash/adapters/mount/mounting.py
+share/blobcrash/tools/crash_run
+share/blobcrash/tools/mount
+share/blobcrash/tools/mountctl
+FILES
+    ok 'the mount, from a folder that was moved' sh -c 'cp -R "$1" "$2" && "$2/bin/blobcrash" mountctl --help' sh "$prefix" "$work/moved"
+else
+    skip 'the mount: there is no libfuse 3'
+fi
+LC_ALL=C sort -o "$work/files" "$work/files"
 list() { (cd "$1" && find . ! -type d | sed 's|^\./||' | LC_ALL=C sort); }
 list "$prefix" >"$work/found"
 ok 'its files' diff "$work/files" "$work/found"
