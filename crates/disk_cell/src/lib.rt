@@ -6,6 +6,7 @@
 #![tactic(auto)]
 
 pub mod cell;
+pub mod crashes;
 mod file;
 
 pub use cell::Cell;
