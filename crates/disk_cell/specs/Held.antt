@@ -41,6 +41,6 @@ module _ {D : Type 0} (g : Ghosts D) where
       → MayHold first second version value tried ⊎ MayHold second first version value tried
       → (found ≡ value) ⊎ (tried ≡ Some found)
 
-  -- a crash leaves nothing else than before
+  -- a crash leaves no more than before
   abbrev pub LeavesNoMore : D → D → Type 0
   LeavesNoMore old new = (c : List ℕ) → g.may_leave new c → g.may_leave old c

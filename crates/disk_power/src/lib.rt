@@ -31,11 +31,12 @@ fn calls_of(sessions: &[u64], session: usize) -> u64 {
 }
 
 impl<D: Disk> Power<D> {
-    ghost use Rattle.disk_power.specs.Power.{disk_of};
+    ghost use Rattle.disk_power.specs.Power.{IsFresh, disk_of};
 
     /// Returns a disk whose power fails after `sessions[i]` calls of session `i`, and doesn't fail in later sessions.
     pub fn new(disk: D, sessions: Vec<u64>) -> Power<D>
         ensures disk { disk_of result ≡ disk }
+        ensures fresh { IsFresh result }
     {
         let calls_left = calls_of(&sessions, 0);
         Power {
