@@ -91,6 +91,29 @@ wait "$daemon" 2>/dev/null
 run "$top/tools/mountctl" "$at" umount
 expect 'umount after the daemon was killed' 0 '' ''
 ok 'the folder' ls "$at"
+# The fifo of LazyFS.
+"$top/tools/mount" "$at" --keep 0/1 --fifo "$work/fifo" --fifo-completed "$work/completed" --log "$work/fifo.log"
+# fifo COMMAND: writes it to the fifo, and waits until it is completed.
+fifo() {
+    echo "lazyfs::$1" >"$work/fifo"
+    run timeout 60 head -n 1 "$work/completed"
+    expect "fifo: $1" 0 "finished::$1$line" ''
+}
+ok 'the fifos are their owner'"'"'s alone' [ "$(stat -c '%a %F' "$work/fifo" "$work/completed" | sort -u)" = '600 fifo' ]
+echo kept >"$at/kept"
+fifo cache-checkpoint
+echo lost >"$at/lost"
+fifo unsynced-data-report
+ok 'what is unsynced' grep -qx 'unsynced: inode [0-9]* /lost 5 bytes' "$work/fifo.log"
+fifo clear-cache
+run ls "$at"
+expect 'a crash by the fifo' 0 "kept$line" ''
+fifo frob
+ok 'no such command of the fifo' grep -qx 'lazyfs::frob: error: no such command' "$work/fifo.log"
+run "$top/tools/mountctl" "$at" umount
+ok 'the fifos are removed' [ ! -e "$work/fifo" -a ! -e "$work/completed" ]
+run "$top/tools/mount" "$at" --fifo "$work/fifo.log"
+ok 'another file is no fifo' [ "$status" -eq 1 -a -f "$work/fifo.log" ]
 for bad in '--seed x' '--profile zfs' '--tear sectors' '--keep 3/2' '--keep 1' '--size 1X'; do
     # shellcheck disable=SC2086
     run "$top/tools/mount" "$at" $bad
@@ -121,6 +144,20 @@ ok 'the command that repeats a seed' [ -n "$again" ]
 (eval "$again") >"$work/again" 2>&1
 ok 'fails again' grep -q '^seed 3: lost$' "$work/again"
 ok 'with the same tree' diff -r "$work/tree" "$work/failed/seed-3/tree"
+# Seeds by an executor, as of a cluster.
+cat >"$work/cluster.py" <<'END'
+import sys
+from concurrent.futures import ProcessPoolExecutor
+
+sys.path.insert(0, "adapters/mount")
+from crash_seeds import main
+
+with ProcessPoolExecutor(2) as executor:
+    sys.exit(main(["--seeds", "3", "--work", "examples/mount_log.py append", "--check", "exit 2", "--out", sys.argv[1],
+                   "--stop-after", "9"], executor))
+END
+run python3 "$work/cluster.py" "$work/failed"
+ok 'an executor' grep -q '^| ext4 | 3 | 9 | [0-9]* | [0-9]* | 0 | 0 | 3 | 0 | 0 |$' "$work/out"
 run tools/crash_run --seeds 1 --work true --check false
 ok 'a check that fails without a crash' [ "$status" -eq 2 ]
 

@@ -1,15 +1,18 @@
 #!/usr/bin/env python3
 """
 PostgreSQL: postgres.py prepare|start|work|check, with server settings such as `fsync=off` after it; the cluster is durable before the
-server starts. postgres.py initdb|check-initdb: makes a cluster in the mount, and looks whether it starts.
+server starts. postgres.py initdb|check-initdb: makes a cluster in the mount, and looks whether it starts. postgres.py pgbench SECONDS: for
+benches/mount.sh.
 """
 
 import hashlib
 import os
 import shutil
+import signal
 import subprocess
 import sys
 import tempfile
+import time
 
 from driver import DAMAGED, HELD, KEYS, LOST, MOUNT, Shell, acknowledge, as_user, find_program, judge, last_acknowledged, main, pairs, \
     serve, value, work
@@ -103,6 +106,20 @@ def check(*_):
     return judge(found)
 
 
+def bench(seconds):
+    """Prints how many transactions pgbench makes in a second, and stops the server."""
+    words = [program("pgbench"), *WHERE]
+    subprocess.run([*words, "-i", "-q", "-s", "2", "postgres"], stdout=subprocess.DEVNULL, stderr=subprocess.DEVNULL, check=True)
+    ran = subprocess.run([*words, "-T", str(max(2, round(4 * float(seconds)))), "postgres"], stdout=subprocess.PIPE,
+                         stderr=subprocess.DEVNULL, universal_newlines=True)
+    print(*(line.split()[2] for line in ran.stdout.splitlines() if line.startswith("tps")))
+    with open(f"{CLUSTER}/postmaster.pid", encoding="ascii") as file:
+        server = int(file.readline())
+    os.kill(server, signal.SIGINT)
+    while os.path.exists(f"{CLUSTER}/postmaster.pid"):
+        time.sleep(0.05)
+
+
 def make_cluster():
     """Makes a cluster. It is acknowledged when initdb has ended."""
     os.chmod(MOUNT, 0o777)
@@ -126,4 +143,4 @@ def check_cluster():
 
 if __name__ == "__main__":
     main({"prepare": prepare, "start": start, "work": make_rows, "check": check, "initdb": make_cluster,
-          "check-initdb": check_cluster})
+          "check-initdb": check_cluster, "pgbench": bench})
