@@ -3,7 +3,7 @@
 # Prints microseconds an operation, the fastest of three rounds, and the daemon's time as a multiple of passthrough_ll's; transactions a
 # second of pgbench, if there is a PostgreSQL; what a crash takes; with valgrind, the instructions of the daemon for an operation. Goes
 # to standard error. No test compares a time. The argument is the seconds of a round, 0.5 if none is given.
-# A tenth is a second's noise on a busy machine: compare the instructions then.
+# On a busy machine compare the instructions.
 set -eu
 
 top=$(CDPATH='' cd -- "$(dirname -- "$0")/.." && pwd -P)
@@ -55,21 +55,27 @@ if ls /usr/lib/postgresql/*/bin/postgres >/dev/null 2>&1; then
     for folder; do echo "pgbench on $(stat -f -c %T "$folder") ${folder##*/}: $(transactions "$folder") transactions a second"; done
 fi
 
-control() { "$top/tools/mountctl" "$work/socket" "$@"; }
+# crash: prints what a crash kept, and how long it took.
+crash() {
+    began=$(date +%s%N)
+    "$top/tools/mountctl" "$work/socket" crash
+    echo "  $((($(date +%s%N) - began) / 1000000)) ms"
+}
+settle() { "$top/tools/mountctl" "$work/socket" settle; }
 
-control settle >/dev/null
+settle
 echo 'a crash with 512 MB unsynced:'
 dd if=/dev/zero of="$work/ours/big" bs=1M count=512 status=none
-(time -p control crash >/dev/null) 2>&1 | sed -n 's/^real/  seconds/p'
+crash
 rm -f "$work/ours/big"
 echo 'a crash with 20,000 files of 1,000 bytes, settled and written again:'
 fill() { python3 -c 'import sys
 for number in range(20000):
     with open(f"{sys.argv[1]}/{number}", "w") as file: file.write("x" * 1000)' "$work/ours"; }
 fill
-control settle >/dev/null
+settle
 fill
-(time -p control crash >/dev/null) 2>&1 | sed -n 's/^real/  seconds/p'
+crash
 
 command -v valgrind >/dev/null || exit 0
 echo 'instructions of the daemon for an operation:'

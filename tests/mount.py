@@ -299,9 +299,8 @@ def test_kill():
 def main():
     """Runs all tests."""
     sanitized = sys.argv[2] if len(sys.argv) > 2 else None
-    tests = [lambda seed=seed: differential(seed, 400, PROGRAM) for seed in (1, 2, 3)]
-    if sanitized:
-        tests.append(lambda: differential(4, 400, sanitized))
+    programs = [PROGRAM] * 17 + [sanitized or PROGRAM] * 3
+    tests = [lambda seed=seed, program=program: differential(seed, 2500, program) for seed, program in enumerate(programs, 1)]
     tests.append(lambda: test_survivors(sanitized or PROGRAM))
     tests += [test_profiles, test_stale, test_names, test_kinds, test_bytes, test_write_back, test_power, test_kill]
     for test in tests:

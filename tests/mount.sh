@@ -34,9 +34,33 @@ done
 run "$top/tools/mount" "$at" --frob
 ok 'no such option' [ "$status" -eq 2 ]
 
+# In a namespace of its own: without /dev/fuse, and as a user without a right to it.
+if [ "$(id -u)" -eq 0 ] && unshare -m true 2>/dev/null && has setpriv; then
+    run unshare -m sh -c 'mount -t tmpfs none /dev && exec "$0" "$1"' "$top/tools/mount" "$at"
+    docker='in a container: docker run --device /dev/fuse --cap-add SYS_ADMIN'
+    expect 'no /dev/fuse' 3 '' "mount: there is no /dev/fuse; $docker"
+    run unshare -m sh -c 'mount -t tmpfs none /dev && mknod -m 600 /dev/fuse c 10 229 && exec setpriv --reuid=65534 --clear-groups "$0" /' \
+        "$top/tools/mount"
+    expect 'no right' 3 '' "mount: no right to open /dev/fuse; $docker"
+else
+    leave_out 'a mount without /dev/fuse: this is not root, or there is no unshare or setpriv'
+fi
 if ! program=$(sh "$top/adapters/mount/build.sh" 2>"$work/err"); then
     cat "$work/err"
     give_up "the daemon can't be built"
+fi
+if [ "$(id -u)" -eq 0 ] && unshare -m true 2>/dev/null && has setpriv; then
+    # As another user, by fusermount3.
+    home=$(mktemp -d /tmp/blobcrash-user.XXXXXX)
+    mkdir "$home/m"
+    cp "$program" "$home/daemon"
+    chown -R 65534:65534 "$home"
+    # shellcheck disable=SC2016
+    run unshare -m sh -c 'mount -t tmpfs none /dev && mknod -m 666 /dev/fuse c 10 229 && mknod -m 666 /dev/null c 1 3 && cd "$0" &&
+        exec setpriv --reuid=65534 --regid=65534 --clear-groups sh -c "./daemon m --control s && echo hi >m/a && cat m/a && fusermount3 -u m"' \
+        "$home"
+    expect 'a mount without root' 0 "hi$line" ''
+    rm -rf "$home"
 fi
 run "$top/tools/mount" "$at"
 if [ "$status" -eq 3 ]; then
