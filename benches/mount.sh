@@ -83,8 +83,9 @@ valgrind --tool=callgrind --callgrind-out-file="$work/counts" "$program" "$work/
     >/dev/null 2>&1 &
 daemon=$!
 until "$top/tools/mountctl" "$work/counted-socket" status >/dev/null 2>&1; do sleep 0.1; done
-# count NAME: the difference of 300 and 100 operations.
+# instructions NAME COUNT: prints those of opening the files and COUNT operations, the second time.
 instructions() {
+    "$work/times" "$1" 1 "$work/counted"
     callgrind_control -z "$daemon" >/dev/null 2>&1
     "$work/times" "$1" "$2" "$work/counted"
     callgrind_control -d "$daemon" >/dev/null 2>&1
