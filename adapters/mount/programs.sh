@@ -117,7 +117,10 @@ choose() {
         ;;
     esac
     # Their first files aren't durable before the workload.
-    case $name in *-new) prepare= ;; esac
+    case $name in
+    redis-new | etcd-new) prepare= ;;
+    *-new) prepare="$driver folder ${name%-new}" ;;
+    esac
 }
 
 # row PROFILE: runs a program in a profile, and prints its row.

@@ -1,7 +1,7 @@
 #!/usr/bin/env python3
 """
-LMDB, LevelDB and RocksDB by stores.c: stores.py prepare|work|check lmdb|lmdb-writemap|leveldb|rocksdb. Each operation is a transaction
-or a synced write.
+LMDB, LevelDB and RocksDB by stores.c: stores.py prepare|folder|work|check lmdb|lmdb-writemap|leveldb|rocksdb. Each operation is a
+transaction or a synced write. `folder` makes only the folder of the store.
 """
 
 import os
@@ -36,6 +36,11 @@ def prepare(kind):
     return run(kind, "make")
 
 
+def make_folder(_):
+    """Makes an empty folder for the store."""
+    os.mkdir(STORE)
+
+
 def make_keys(kind):
     """An operation each."""
     return run(kind, "work", str(OPERATIONS), str(KEYS), os.environ["ACKNOWLEDGED"])
@@ -54,4 +59,4 @@ def check(kind):
 
 
 if __name__ == "__main__":
-    main({"prepare": prepare, "work": make_keys, "check": check})
+    main({"prepare": prepare, "folder": make_folder, "work": make_keys, "check": check})
