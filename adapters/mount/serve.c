@@ -87,10 +87,18 @@ struct names {
     size_t count;
 };
 
-/* Lets the kernel forget names in the root. */
-static void forget_names(const struct names *names) {
-    for (size_t at = 0; at < names->count; at++)
-        fuse_lowlevel_notify_inval_entry(session, FUSE_ROOT_ID, names->list[at].name, strlen(names->list[at].name));
+static void forget_name(const char *name) { fuse_lowlevel_notify_inval_entry(session, FUSE_ROOT_ID, name, strlen(name)); }
+
+/* Lets the kernel forget names in the root, and that names are missing which a crash brought back. Both lists are sorted. */
+static void forget_names(const struct names *before, const struct names *after) {
+    size_t at = 0;
+    for (size_t next = 0; next < after->count; next++) {
+        const char *name = after->list[next].name;
+        while (at < before->count && strcmp(before->list[at].name, name) < 0) forget_name(before->list[at++].name);
+        if (at < before->count && strcmp(before->list[at].name, name) == 0) at++;
+        forget_name(name);
+    }
+    while (at < before->count) forget_name(before->list[at++].name);
 }
 
 /* Crashes, and lists the names in the root before and after. */
@@ -109,8 +117,7 @@ int serve_crash(struct layer_crash *crash, pid_t *child) {
         *child = fork();
         if (*child < 0) error = errno;
         if (*child == 0 && prctl(PR_SET_PDEATHSIG, SIGKILL) == 0) {
-            forget_names(&before);
-            forget_names(&after); /* the kernel may know that there was no such name */
+            forget_names(&before, &after);
             fuse_lowlevel_notify_inval_inode(session, FUSE_ROOT_ID, -1, 0);
         }
     }
