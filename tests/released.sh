@@ -109,10 +109,11 @@ test_workflow() {
     printf '#!/bin/sh\nexec "%s/venv/bin/python3" -m pytest "$@"\n' "$work" >"$work/venv/bin/pytest"
     chmod +x "$work/venv/bin/pip" "$work/venv/bin/pytest"
     release=${prefix##*/}
-    mkdir -p "$work/repository"
+    mkdir -p "$work/repository" "$work/temporary"
     cp "$folder/SHA256SUMS" "$1/log.py" "$1/test_log_pytest.py" "$work/repository"
     { sed -n '/run: |/,/- run:/{/run: |/d; /- run:/d; p;}' "$1/ci_use.yml"; sed -n 's/^ *- run: //p' "$1/ci_use.yml"; } >"$work/steps"
-    (cd "$work/repository" && PATH=$work/venv/bin:$PATH STORE=file://$folder RELEASE=$release PIP_NO_INDEX=1 sh -eu "$work/steps") >"$work/out" 2>&1
+    (cd "$work/repository" && PATH=$work/venv/bin:$PATH STORE=file://$folder RELEASE=$release RUNNER_TEMP=$work/temporary PIP_NO_INDEX=1 \
+        sh -eu "$work/steps") >"$work/out" 2>&1
     ok 'the workflow' grep -q '50 passed' "$work/out"
     grep -q '50 passed' "$work/out" || cat "$work/out"
 }

@@ -86,7 +86,7 @@ def sbom(kit, version, commit):
     document = {
         "spdxVersion": "SPDX-2.3", "dataLicense": "CC0-1.0", "SPDXID": "SPDXRef-DOCUMENT", "name": f"blobcrash-{version}",
         "documentNamespace": f"urn:uuid:{number}",
-        "creationInfo": {"created": f"{commit.time:%Y-%m-%dT%H:%M:%SZ}", "creators": ["Tool: tools/release"]},
+        "creationInfo": {"created": f"{commit.time:%Y-%m-%dT%H:%M:%SZ}", "creators": [f"Tool: blobcrash-release-{version}"]},
         "packages": [own, *(it for it, _ in linked)],
         "relationships": [{"spdxElementId": one, "relationshipType": how, "relatedSpdxElement": other} for one, how, other in relations],
     }
