@@ -47,7 +47,7 @@ test_in() {
     cp "$top/tests/released.sh" "$top/tests/counting.sh" "$work/shared"
     chmod -R a+rX "$work/shared"
     if ! as_root true 2>/dev/null; then
-        skip 'a clean root: there is no right to make one'
+        leave_out 'a clean root: there is no right to make one'
         return
     fi
     as_root sh -c "${2:-} $entering" sh "$1" "$work/shared" "$CARGO_HOME" "$RUSTUP_HOME" >"$work/inside" 2>&1
