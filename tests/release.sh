@@ -9,7 +9,7 @@ top=$(CDPATH='' cd -- "$(dirname -- "$0")/.." && pwd -P)
 . "$top/tests/counting.sh"
 all=${1:-}
 made_root=${2:-}
-packages=python3,python3-pip,python3-pytest,gcc,libc6-dev,pkg-config,fuse3,libfuse3-3,man-db
+packages=python3,python3-pip,python3-pytest,python3-venv,gcc,libc6-dev,pkg-config,fuse3,libfuse3-3,man-db,xz-utils,curl
 : "${CARGO_HOME:=$HOME/.cargo}" "${RUSTUP_HOME:=$HOME/.rustup}"
 released=$work/release
 clean=$work/clean
