@@ -68,7 +68,9 @@ if [ -n "$tools" ]; then
     for tool in $tools; do
         put 755 "$top/tools/$tool" "$to/share/blobcrash/tools/$tool"
     done
-    put 644 "$top/adapters/mount/mounting.py" "$to/share/blobcrash/adapters/mount/mounting.py"
+    for module in "$top"/adapters/mount/*.py; do
+        put 644 "$module" "$to/share/blobcrash/adapters/mount/${module##*/}"
+    done
     cat >"$work/build.sh" <<'BUILD'
 #!/bin/sh
 # The daemon of the mount is built.

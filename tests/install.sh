@@ -52,11 +52,11 @@ if has pkg-config && pkg-config --atleast-version=3.10 fuse3; then
     cat >>"$work/files" <<'FILES'
 libexec/blobcrash/blobcrash_mount
 share/blobcrash/adapters/mount/build.sh
-share/blobcrash/adapters/mount/mounting.py
 share/blobcrash/tools/crash_run
 share/blobcrash/tools/mount
 share/blobcrash/tools/mountctl
 FILES
+    (cd "$top" && ls adapters/mount/*.py) | sed 's|^|share/blobcrash/|' >>"$work/files"
     ok 'the mount, from a folder that was moved' sh -c 'cp -R "$1" "$2" && "$2/bin/blobcrash" mountctl --help' sh "$prefix" "$work/moved"
 else
     skip 'the mount: there is no libfuse 3'

@@ -9,7 +9,7 @@ top=$(CDPATH='' cd -- "$(dirname -- "$0")/.." && pwd -P)
 . "$top/tests/counting.sh"
 all=${1:-}
 made_root=${2:-}
-packages=python3,python3-pip,python3-pytest,gcc,libc6-dev,pkg-config,fuse3,libfuse3-3,man-db
+packages=python3,python3-pip,python3-pytest,python3-venv,gcc,libc6-dev,pkg-config,fuse3,libfuse3-3,man-db,xz-utils,curl
 : "${CARGO_HOME:=$HOME/.cargo}" "${RUSTUP_HOME:=$HOME/.rustup}"
 released=$work/release
 clean=$work/clean
@@ -47,7 +47,7 @@ test_in() {
     cp "$top/tests/released.sh" "$top/tests/counting.sh" "$work/shared"
     chmod -R a+rX "$work/shared"
     if ! as_root true 2>/dev/null; then
-        skip 'a clean root: there is no right to make one'
+        leave_out 'a clean root: there is no right to make one'
         return
     fi
     as_root sh -c "${2:-} $entering" sh "$1" "$work/shared" "$CARGO_HOME" "$RUSTUP_HOME" >"$work/inside" 2>&1

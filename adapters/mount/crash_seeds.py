@@ -40,6 +40,8 @@ from crash_runs import MOUNT_OPTIONS, VERDICTS, Broken, judge, measure
 from mounting import Failed
 
 TOP = os.path.dirname(os.path.dirname(os.path.dirname(os.path.realpath(__file__))))
+# Where failures are kept: an installed tool keeps them in the current folder.
+KEPT = os.path.join(TOP if os.path.isdir(os.path.join(TOP, "crates")) else os.getcwd(), "out", "crash_run")
 TOOL = os.path.join(TOP, "tools", "crash_run")
 SET_CHILD_SUBREAPER = 36
 
@@ -53,7 +55,7 @@ def parse(words):
     parser.add_argument("--jobs", type=int, default=1)
     parser.add_argument("--stop-after", type=int)
     parser.add_argument("--timeout", type=float, default=60)
-    parser.add_argument("--out", default=os.path.join(TOP, "out", "crash_run"))
+    parser.add_argument("--out", default=KEPT)
     parser.add_argument("--allow-other", action="store_true")
     for name in ("prepare", "start", *MOUNT_OPTIONS):
         parser.add_argument("--" + name)

@@ -9,6 +9,8 @@ from crates import TOP, shell
 from releasing.archives import sum_of
 from releasing.tree import binaries, linked_crates
 
+NO_GATE = "not run on these sources"
+
 
 def gate_line():
     """Returns the last line of the gate that `./test` ran on these sources, or None."""
@@ -26,7 +28,7 @@ def proved(kit, tree, commit, gate):
     """Returns the text of PROVED: the release, the commit and the toolchain, the gate's last line, and the sums of what was proved and of
     what was built of it."""
     lines = [f"release   {shell('version').split(' (')[0].strip()}", f"commit    {commit.name}",
-             f"time      {commit.time:%Y-%m-%dT%H:%M:%SZ}", f"toolchain {toolchain_line(kit)}", f"gate      {gate or 'not run on these sources'}"]
+             f"time      {commit.time:%Y-%m-%dT%H:%M:%SZ}", f"toolchain {toolchain_line(kit)}", f"gate      {gate or NO_GATE}"]
     lines += ["", "# Each crate that is linked in, with the SHA-256 of its sources and of those of all crates below it."]
     lines += [f"{name} {shell('sum_of', TOP, name).strip()}" for name in linked_crates(kit)[0]]
     lines += ["", "# The programs and libraries, with their SHA-256."]
