@@ -68,7 +68,9 @@ if [ -n "$tools" ]; then
     for tool in $tools; do
         put 755 "$top/tools/$tool" "$to/share/blobcrash/tools/$tool"
     done
-    put 644 "$top/adapters/mount/mounting.py" "$to/share/blobcrash/adapters/mount/mounting.py"
+    for name in mounting.py crash_runs.py crash_seeds.py; do
+        put 644 "$top/adapters/mount/$name" "$to/share/blobcrash/adapters/mount/$name"
+    done
     cat >"$work/build.sh" <<'BUILD'
 #!/bin/sh
 # The daemon of the mount is built.
