@@ -198,6 +198,30 @@ if has sqlite3; then
 else
     skip 'SQLite: there is no sqlite3'
 fi
+# Real programs. PostgreSQL may refuse to start after a crash in its start, which is no loss (docs/MOUNT.md).
+# program NAME PROFILE SEEDS PATTERN: whether what programs.sh prints of held, lost, damaged and not started matches.
+program() {
+    run sh adapters/mount/programs.sh --profiles "$2" --seeds "$3" --jobs 1 "$1"
+    if grep -q '^programs.sh: skipped' "$work/err"; then
+        leave_out "$(tail -n 1 "$work/err")"
+        return
+    fi
+    ok "$1 on $2: $(tail -n 1 "$work/out")" grep -Eq "^\\| $1 \\| $2 \\| $3 \\| [0-9]+ \\| [0-9]+ \\| $4 \\| 0 \\|\$" "$work/out"
+}
+program postgres ext4 3 '[0-3] \| 0 \| 0 \| [0-3]'
+program postgres posix 2 '[0-2] \| 0 \| 0 \| [0-2]'
+program redis ext4 4 '4 \| 0 \| 0 \| 0'
+program sqlite-wal posix 2 '2 \| 0 \| 0 \| 0'
+program git-fsync ext4 3 '3 \| 0 \| 0 \| 0'
+program git ext4 4 '[0-3] \| [0-9] \| [0-9] \| 0'
+if has redis-server redis-cli; then
+    run sh examples/mount_redis.sh
+    ok 'examples/mount_redis.sh' [ "$(cat "$work/out")" = value ]
+    run sh examples/mount_redis.sh posix
+    ok 'and on posix' [ "$(cat "$work/out")" = '' ]
+else
+    skip 'Redis: there is no redis-server'
+fi
 run sh examples/mount.sh
 ok 'examples/mount.sh' grep -q '^ *4 .*/synced$' "$work/out"
 

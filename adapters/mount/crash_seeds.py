@@ -138,7 +138,8 @@ def run_all(options, words, executor, at_once):
         acknowledged += result["acknowledged"]
         if result["kept"]:
             print(f"seed {seed}: {result['verdict']}{result['tail']}\n  the durable tree: {result['kept']}/tree", flush=True)
-            print(f"  again: {shlex.join(['tools/crash_run', *of_seed(words, seed, calls)])}", flush=True)
+            tool = os.path.relpath(TOOL) if os.path.samefile(TOP, ".") else TOOL
+            print(f"  again: {shlex.join([tool, *of_seed(words, seed, calls)])}", flush=True)
         if time.monotonic() > shown_at + 2:
             shown_at, number = time.monotonic(), sum(counts.values())
             print(f"crash_run: {number} of {options.seeds} seeds, {number - counts['held']} failed", file=sys.stderr)

@@ -6,6 +6,7 @@
 #   --profiles LIST  the profiles (ext4 xfs btrfs posix)
 #   --first N        the first of them (1)
 #   --jobs N         how many seeds run at once (2)
+#   --keep, --tear, --stop-after   as for tools/crash_run
 #   --list           prints the programs
 # A program that isn't installed is skipped. They are Debian's; as root the servers run as the user of their package. Exit statuses: 0
 # also if a program loses something; 2 for bad options; 3 without FUSE.
@@ -19,6 +20,7 @@ seeds=20
 profiles='ext4 xfs btrfs posix'
 jobs=2
 first=1
+passed=
 
 help() { sed -n '2,/^# also/s/^# \{0,1\}//p' "$0"; }
 
@@ -128,8 +130,8 @@ row() {
     log=out/mount/programs/$name-$1.log
     status=0
     # shellcheck disable=SC2086
-    tools/crash_run --seeds "$seeds" --first "$first" --jobs "$jobs" --timeout 300 --profile "$1" --out "out/mount/programs/$name-$1" $options \
-        ${prepare:+--prepare "$prepare"} ${start:+--start "$start"} --work "$work" --check "$check" >"$log" 2>"$log.err" </dev/null ||
+    tools/crash_run --seeds "$seeds" --first "$first" --jobs "$jobs" --timeout 300 --profile "$1" \
+        --out "out/mount/programs/$name-$1" $options $passed ${prepare:+--prepare "$prepare"} ${start:+--start "$start"} --work "$work" --check "$check" >"$log" 2>"$log.err" </dev/null ||
         status=$?
     if [ "$status" -gt 1 ]; then
         tail -n 3 "$log.err" >&2
@@ -153,9 +155,10 @@ while [ $# -gt 0 ]; do
         echo "$all"
         exit 0
         ;;
-    --seeds | --profiles | --first | --jobs)
+    --seeds | --profiles | --first | --jobs | --keep | --tear | --stop-after)
         [ $# -gt 1 ] || usage
         case $1 in
+        --keep | --tear | --stop-after) passed="$passed $1 $2" ;;
         --seeds) seeds=$2 ;;
         --profiles) profiles=$2 ;;
         --first) first=$2 ;;
