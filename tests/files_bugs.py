@@ -1,6 +1,5 @@
 """Classic bugs of programs that write files: each is found by `explore` within a second, and the program without it passes in every
-profile, with all runs made. A failed fsync that is tried again isn't among them: a sync that fails and drops its bytes isn't built. The
-last line is `N passed, M failed`. With the name of a test only that one is run."""
+profile, with all runs made. The last line is `N passed, M failed`. With the name of a test only that one is run."""
 
 import functools
 import os
@@ -12,7 +11,7 @@ sys.path.insert(0, os.path.join(TOP, "bindings", "python"))
 
 from passing import run_tests
 
-from blobcrash import Failed, PowerLoss, explore
+from blobcrash import Failed, Injected, PowerLoss, explore
 
 PROFILES = ("ext4", "xfs", "btrfs", "posix")
 SETTINGS = ["write 0 1 1 2 sectors 4"]
@@ -99,10 +98,47 @@ def appends(files, checks=True):
     assert found in (acknowledged, tried), f"{found} are found, and not {tried}"
 
 
-def explored(body, profile, **flags):
+def checkpoints(files, retries=False):
+    """A page is written to its file before the log that has it is emptied. After a crash it is in one of them. If the fsync of the file
+    fails, the log stays. The bug of PostgreSQL until 2018: the fsync is tried again, and the page isn't."""
+    page, is_set_up = b"page", False
+    try:
+        for path, content in (("/data", b"...."), ("/log", page)):
+            with files.open(path, "xb") as file:
+                file.write(content)
+        files.settle()
+        is_set_up = True
+        files.configure("sync 1 2")
+        checkpoint(files, page, retries)
+    except (Injected, PowerLoss):
+        pass
+    files.restart()
+    if not is_set_up:
+        return
+    with files.open("/data") as data, files.open("/log") as log:
+        found = data.read(), log.read()
+    assert page in found, f"{found} are found, and the page in neither"
+
+
+def checkpoint(files, page, retries):
+    """Writes a page to its file, and empties the log."""
+    with files.open("/data", "r+b") as data:
+        data.write(page)
+        try:
+            files.fsync(data)
+        except Injected:
+            if not retries:
+                raise
+            files.fsync(data)
+    with files.open("/log", "r+b") as log:
+        log.truncate(0)
+        files.fsync(log)
+
+
+def explored(body, profile, settings=(), **flags):
     """Explores a body with a power loss at each call. Returns the failure, or `None`."""
     try:
-        visited = explore(functools.partial(body, **flags), files=profile, settings=SETTINGS, power_losses=1)
+        visited = explore(functools.partial(body, **flags), files=profile, settings=[*SETTINGS, *settings], power_losses=1)
         assert str(visited).endswith("runs, all of them") and visited.runs < MOST_RUNS, visited
         return None
     except Failed as failed:
@@ -132,9 +168,16 @@ def test_an_append_without_a_checksum():
     finds(appends, ("xfs", "btrfs", "posix"), "letters", checks=False)
 
 
+def test_a_failed_sync_that_is_tried_again():
+    # Where a failed sync keeps the bytes unsynced, the second one writes them.
+    finds(checkpoints, PROFILES, "the page in neither", settings=["failed_sync drops"], retries=True)
+    finds(checkpoints, (), "", settings=["failed_sync keeps"], retries=True)
+
+
 def test_without_bugs():
     finds(saves, (), "")
     finds(appends, (), "")
+    finds(checkpoints, (), "", settings=["failed_sync drops"])
 
 
 if __name__ == "__main__":

@@ -40,6 +40,16 @@ class File:
         self.live, self.durable, self.pending = b"", b"", []
         self.synced = self.grown = 0
         self.is_changed = self.is_truncated = False
+        # What reads return in place of the live bytes, after a failed sync that dropped some.
+        self.shown = None
+
+    def seen(self):
+        """What reads return."""
+        return self.live if self.shown is None else self.shown
+
+    def drop(self):
+        """Drops what is unsynced."""
+        self.shown, self.live, self.pending = self.seen(), self.durable, []
 
     def flush(self):
         """Makes its bytes durable."""
@@ -56,17 +66,20 @@ def written(data, offset, added):
 
 
 class Model(Names):
-    """Files by the rules. Of the settings it takes those of writes in sectors, of resizes, and `keep`."""
+    """Files by the rules. Of the settings it takes those of writes in sectors, of resizes and syncs, `keep`, `failed_sync` and `syncs`."""
 
     def __init__(self, preamble):
         super().__init__()
         self.words, self.taken = [], 0
-        self.resizes, self.retention, self.sector = None, NEVER, 1
+        self.resizes, self.retention, self.sector, self.sync_rate = None, NEVER, 1, NEVER
+        self.drops = self.lies = False
         for line in preamble.decode().split("\n"):
             self.set(line.split())
         self.files, self.opened, self.next_open = {}, {}, 0
         # The names that are durable without any edit, and the numbers of the edits since then that are settled.
         self.base, self.settled = {}, set()
+        # The files without names and descriptors, each with the number of the next edit when that came to be.
+        self.gone = {}
 
     def set(self, tokens):
         if tokens[:1] == ["words"]:
@@ -77,6 +90,12 @@ class Model(Names):
             self.keep = (int(tokens[1]), int(tokens[2]))
         elif tokens[:2] == ["config", "resize"]:
             self.resizes = (int(tokens[2]), int(tokens[3]))
+        elif tokens[:2] == ["config", "sync"]:
+            self.sync_rate = (int(tokens[2]), int(tokens[3]))
+        elif tokens[:1] == ["failed_sync"]:
+            self.drops = tokens[1] == "drops"
+        elif tokens[:1] == ["syncs"]:
+            self.lies = tokens[1] == "lie"
         elif tokens[:2] == ["config", "write"]:
             self.retention, self.sector = (int(tokens[4]), int(tokens[5])), int(tokens[7])
         elif tokens:
@@ -87,15 +106,27 @@ class Model(Names):
             reply = getattr(self, asked.word)(asked)
         except Refused as refused:
             return refusal_of(STATUSES[str(refused)])
+        finally:
+            self.let_go()
         return Found(0, 0, 0) if reply is None else reply
 
     def close(self, asked=None):
         """Closes a file, or at the end the model."""
         if asked is not None:
             file = self.files[self.inode_of(asked)]
-            if self.profile.flushes and file.is_truncated:
+            if self.profile.flushes and file.is_truncated and not self.lies:
                 file.flush()
             self.opened.pop(asked.number)
+
+    def let_go(self):
+        """Finds the files that no name and no descriptor refers to. They go once all edits from before that are settled."""
+        for inode in self.files:
+            is_named = (inode, IS_FILE) in self.names.values()
+            if inode not in self.gone and not is_named and inode not in self.opened.values():
+                self.gone[inode] = self.next_edit
+        end = min((edit.number for edit in self.unsettled()), default=self.next_edit)
+        for inode in [inode for inode, edit in self.gone.items() if edit <= end]:
+            del self.files[inode], self.gone[inode]
 
     def words_left(self):
         left = self.words[self.taken :]
@@ -116,7 +147,7 @@ class Model(Names):
 
     def replace_bytes(self, inode):
         """Comes before a file replaces another one."""
-        if self.profile.flushes:
+        if self.profile.flushes and not self.lies:
             self.files[inode].flush()
 
     def create(self, asked):
@@ -137,10 +168,12 @@ class Model(Names):
         file.is_truncated = True
         return found
 
-    def open_inode(self, asked):
-        return self.opening(asked.number)
+    def find(self, asked):
+        found = super().find(asked)
+        return found if found.kind == IS_DIRECTORY else found._replace(size=len(self.files[found.number].seen()))
 
     def opening(self, inode):
+        self.files[inode].shown = None
         number = self.next_open
         self.next_open += 1
         self.opened[number] = inode
@@ -152,16 +185,18 @@ class Model(Names):
         return self.opened[asked.number]
 
     def size(self, asked):
-        return Found(0, 0, len(self.files[self.inode_of(asked)].live))
+        return Found(0, 0, len(self.files[self.inode_of(asked)].seen()))
 
     def read(self, asked):
-        return self.files[self.inode_of(asked)].live[asked.first : asked.first + asked.last]
+        return self.files[self.inode_of(asked)].seen()[asked.first : asked.first + asked.last]
 
     def write(self, asked):
         file = self.files[self.inode_of(asked)]
-        before = len(file.live)
+        before = len(file.seen())
         file.live, file.is_changed = written(file.live, asked.first, asked.path), True
-        if len(file.live) > before:
+        if file.shown is not None:
+            file.shown = written(file.shown, asked.first, asked.path)
+        if len(file.seen()) > before:
             file.grown = self.next_edit
         if asked.path and self.retention[0]:
             file.pending.append((asked.first, asked.path, self.retention))
@@ -178,6 +213,8 @@ class Model(Names):
             if self.draw(self.resizes):
                 file.pending.append((length, None, ALWAYS))
         file.live = resized(file.live, length)
+        if file.shown is not None:
+            file.shown = resized(file.shown, length)
 
     # Syncs.
 
@@ -202,8 +239,10 @@ class Model(Names):
     def fsync(self, asked, data=False):
         inode = self.inode_of(asked)
         file = self.files[inode]
+        if self.lies:
+            return
         was_changed, is_resized = file.is_changed, file.synced != len(file.live)
-        file.flush()
+        self.sync_bytes(file)
         file.is_changed = data and was_changed and not is_resized
         if self.profile.settles == "all" and ((is_resized if data else was_changed) or self.after_last(inode)):
             self.settle_where(lambda edit: True)
@@ -213,11 +252,21 @@ class Model(Names):
         elif self.profile.settles == "its names":
             self.settle_names(inode)
 
+    def sync_bytes(self, file):
+        """Makes the bytes of a file durable, or fails."""
+        if self.draw(self.sync_rate):
+            if self.drops:
+                file.drop()
+            raise Refused("Injected")
+        file.flush()
+
     def fdatasync(self, asked):
         self.fsync(asked, data=True)
 
     def fsync_directory(self, asked):
         directory = self.directory_of(asked.path)
+        if self.lies:
+            return
         if self.profile.settles == "all":
             self.settle_where(lambda edit: True)
         elif self.profile.settles == "up to its last":
@@ -229,12 +278,19 @@ class Model(Names):
             self.settle_where(lambda edit: directory in edit.directories)
 
     def sync(self, asked):
-        for file in self.files.values():
-            file.flush()
-            file.is_changed = False
+        if self.lies:
+            return
+        for inode, file in sorted(self.files.items()):
+            if inode not in self.gone:
+                self.sync_bytes(file)
+                file.is_changed = False
         self.settle_where(lambda edit: True)
 
-    settle = sync
+    def settle(self, asked):
+        for file in self.files.values():
+            file.flush()
+            file.is_changed, file.shown = False, None
+        self.settle_where(lambda edit: True)
 
     def configure(self, asked):
         self.set(asked.path.decode().split())
@@ -248,8 +304,8 @@ class Model(Names):
         self.names, self.directories = reached(self.base)
         self.base = dict(self.names)
         self.files = {inode: file for inode, file in self.files.items() if (inode, IS_FILE) in self.names.values()}
-        self.edits, self.opened = [], {}
-        return Kept([], kept)
+        self.edits, self.opened, self.gone = [], {}, {}
+        return Kept([], kept, [])
 
     def kept_names(self):
         """Applies the edits that are kept to the durable names. Returns of each unsettled one whether it was."""
@@ -279,7 +335,7 @@ class Model(Names):
             while end < min(len(data), len(file.live)) and data[end] == file.live[end]:
                 end += 1
             data = data[:end]
-        file.live = data
+        file.live, file.shown = data, None
         file.flush()
         file.is_changed, file.grown = False, 0
 

@@ -18,6 +18,7 @@ MOST_RUNS = 64
 PATHS = ("/a", "/b", "/x", "/y", "/x/f", "/y/f", "/x/z", "/x/z/f", "/y/x")
 MODES = {"put": "xb", "append": "ab", "write": "r+b", "rewrite": "wb"}
 ON_PATH = ("mkdir", "mkdir", "unlink", "rmdir", "fsync", "fdatasync", "fsync_directory")
+SYNCS = ("fsync", "fdatasync", "sync")
 ON_TWO = ("rename", "rename", "rename", "exchange", "link")
 
 
@@ -84,6 +85,8 @@ class Program:
             self.before = steps_of(chance, chance.randrange(10), files)
             self.steps = steps_of(chance, chance.randrange(1, 7), files)
         self.settings = SETTINGS + (["resize 1 2 0 1"] if chance.random() < 0.3 else [])
+        # Settings that come after what is durable.
+        self.later = chance.choice((["sync 1 2", "failed_sync drops"], ["sync 1 2"], ["syncs lie"], [], [], [], [], []))
 
     def __call__(self, files):
         files.configure("keep 1 1")
@@ -93,12 +96,16 @@ class Program:
                 try:
                     step(files, word, arguments, letters[at : at + 1])
                 except Injected:
-                    return None
+                    if word not in SYNCS:
+                        return None
+                    refusals.append((at, "Injected"))
                 except OSError as error:
                     refusals.append((at, error.refusal))
             if steps is self.before:
                 files.settle()
                 files.configure("keep 1 2")
+                for setting in self.later:
+                    files.configure(setting)
         live = tree(files)
         edits = tuple(files.restart().edits)
         left = tree(files)

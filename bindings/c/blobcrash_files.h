@@ -46,7 +46,8 @@ enum blobcrash_file_kind {
     BLOBCRASH_F_REMOVE_DIRECTORY = 7, /* path */
     BLOBCRASH_F_LIST = 8,             /* path. Returns in `size` how many names the directory has; blobcrash_files_name copies one */
     BLOBCRASH_F_SYNC_DIRECTORY = 9,   /* path */
-    BLOBCRASH_F_FIND = 10,            /* path. Returns an inode in `number`, and in `kind` 0 for a file or 1 for a directory */
+    /* path. Returns an inode in `number`, in `kind` 0 for a file or 1 for a directory, and in `size` a file's size in bytes */
+    BLOBCRASH_F_FIND = 10,
     /* By the number of a directory, in `number`, and a name, in `path`. */
     BLOBCRASH_F_CREATE_AT = 16,           /* returns a descriptor in `number` */
     BLOBCRASH_F_LINK_AT = 17,             /* first: the inode that gets the name */
@@ -58,6 +59,7 @@ enum blobcrash_file_kind {
     BLOBCRASH_F_SYNC_DIRECTORY_AT = 23,   /* no name */
     BLOBCRASH_F_FIND_AT = 24,             /* returns as FIND */
     BLOBCRASH_F_OPEN_INODE = 25,          /* no name; number: a file's inode. Returns a descriptor */
+    BLOBCRASH_F_OPEN_INODE_TRUNCATED = 26, /* the same, and the file is made empty */
     /* By a descriptor, in `number`. */
     BLOBCRASH_F_CLOSE = 32,
     BLOBCRASH_F_TRUNCATE = 33,  /* first: the length, also one beyond the end */
@@ -98,7 +100,8 @@ struct blobcrash_file_reply {
  * Opens a new, empty file system. The preamble has the lines `words W ..` and `seed N`, and then settings, in any order and all
  * optional: `profile ext4|xfs|btrfs|posix` (ext4 without one); `config ..` as for a session (the faults of calls on files, and which
  * bytes of an unsynced write a crash keeps: none without one); `keep N D`, how often a crash keeps an edit that nothing settled (1 2
- * without one); `space BYTES FILES`, the limits. If the files were open, their file system ends.
+ * without one); `space BYTES FILES`, the limits; `failed_sync keeps|drops`, `syncs honest|lie` and `failed_write mode|prefix`, the switches
+ * of docs/FILES.md (the first of each without one). If the files were open, their file system ends.
  *
  * DONE; BAD_LINE with the number of a line that isn't allowed there; NO_MEMORY. The last two change nothing.
  */
@@ -149,6 +152,14 @@ struct blobcrash_file_reply blobcrash_files_name(struct blobcrash_files *files, 
  * DONE, also if no further byte was kept; OTHER_REPLY if the last call has no such row; CLOSED. None changes anything.
  */
 struct blobcrash_kept_run blobcrash_files_kept_run(struct blobcrash_files *files, size_t row, size_t from);
+
+/*
+ * Returns where the write of a row was: in `number` the inode of its file, and in `size` its offset in bytes. Of an edit `number` is 0,
+ * and `size` its offset in the journal. The last call is a CRASH, and `row` is as for blobcrash_files_kept_run.
+ *
+ * DONE; OTHER_REPLY if the last call has no such row; CLOSED. None changes anything.
+ */
+struct blobcrash_file_reply blobcrash_files_kept_place(struct blobcrash_files *files, size_t row);
 
 /*
  * Returns in `len` 1 if the last call, a CRASH, kept the unsettled edit with this index, from 0 on in the order of their issue, and 0 if

@@ -6,7 +6,7 @@
 #include "explore_files.h"
 
 enum { SECTOR = 512, LEN = 2 * SECTOR };
-enum forgets { NOTHING, SYNC, DIRECTORY_SYNC, CHECKSUM };
+enum forgets { NOTHING, SYNC, DIRECTORY_SYNC, CHECKSUM, FAILED_SYNC };
 
 static const char *const profiles[] = {"ext4", "xfs", "btrfs", "posix"};
 static int passed, failed;
@@ -118,13 +118,42 @@ static const char *append(struct run *run) {
     return run->records < run->appended || run->records > run->appended + 1 ? "another number of records" : NULL;
 }
 
+static const char *const set_up_paths[] = {"/data", "/log"};
+
+/* Reads the first bytes of the page's file and of the log. */
+static bool read_pages(void *context) {
+    struct run *run = context;
+    run->records = 0;
+    for (size_t i = 0; i < 2; i++) {
+        if (!read_all(run, set_up_paths[i])) return false;
+        run->records += has(run, 'B');
+    }
+    return true;
+}
+
+/* Writes a page of the log to its file, and empties the log. The page is in one of them. If the sync of the file fails, the log stays; with
+ * the bug that PostgreSQL had until 2018 the sync is tried again. */
+static const char *checkpoint(struct run *run) {
+    static const char sync_fails[] = "config sync 1 2";
+    uint8_t page[LEN];
+    memset(page, 'B', LEN);
+    bool is_set_up = make(run, "/data", 'A', false) && make(run, "/log", 'B', false) && by(run, BLOBCRASH_F_SETTLE, 0);
+    if (is_set_up) blobcrash_files_configure(&run->files, (const uint8_t *)sync_fails, strlen(sync_fails));
+    struct blobcrash_file_reply data = on(run, BLOBCRASH_F_OPEN, "/data"), log = on(run, BLOBCRASH_F_OPEN, "/log");
+    bool is_on = is_set_up && write_at(run, data.number, 0, page) &&
+                 (by(run, BLOBCRASH_F_SYNC, data.number) || (run->forgets == FAILED_SYNC && by(run, BLOBCRASH_F_SYNC, data.number)));
+    if (is_on && by(run, BLOBCRASH_F_TRUNCATE, log.number)) by(run, BLOBCRASH_F_SYNC, log.number);
+    if (!blobcrash_recover_files(&run->paths, &run->files, read_pages, run)) return "the files can't be read";
+    return is_set_up && run->records == 0 ? "the page is lost" : NULL;
+}
+
 typedef const char *body(struct run *run);
 
 /* Explores a program. Returns what is wrong with the first run that fails, or NULL. */
 static const char *explore(struct run *run, const char *profile, body *of) {
-    char settings[64];
+    char settings[80];
     int status;
-    snprintf(settings, sizeof settings, "profile %s\nconfig write 0 1 1 2 sectors 512\n", profile);
+    snprintf(settings, sizeof settings, "profile %s\nconfig write 0 1 1 2 sectors 512\nfailed_sync drops\n", profile);
     while ((status = blobcrash_next_files_run(&run->paths, &run->files, settings)) == BLOBCRASH_EXPLORE_RUN) {
         const char *wrong = of(run);
         status = blobcrash_end_files_run(&run->paths, &run->files);
@@ -163,6 +192,8 @@ static void bugs(void) {
         finds(profiles[i], replace, DIRECTORY_SYNC, "the old bytes are left");
         finds(profiles[i], append, NOTHING, NULL);
         finds(profiles[i], append, CHECKSUM, is_ext4 ? NULL : "a record has other bytes");
+        finds(profiles[i], checkpoint, NOTHING, NULL);
+        finds(profiles[i], checkpoint, FAILED_SYNC, "the page is lost");
     }
 }
 

@@ -93,11 +93,11 @@ static inline const char *blobcrash_file_word(uint32_t kind) {
     static const char *const words[] = {"create", "open", "open_truncated", "link", "unlink", "rename", "mkdir", "rmdir", "listdir",
                                         "fsync_directory", "find"};
     static const char *const at[] = {"create_at", "link_at", "unlink_at", "rename_at", "mkdir_at", "rmdir_at", "listdir_at",
-                                     "fsync_directory_at", "find_at", "open_inode"};
+                                     "fsync_directory_at", "find_at", "open_inode", "open_inode_truncated"};
     static const char *const by[] = {"close", "truncate", "size", "fsync", "fdatasync", "inode_of"};
     static const char *const whole[] = {"sync", "settle", "crash"};
     if (kind <= BLOBCRASH_F_FIND) return words[kind];
-    if (kind >= BLOBCRASH_F_CREATE_AT && kind <= BLOBCRASH_F_OPEN_INODE) return at[kind - BLOBCRASH_F_CREATE_AT];
+    if (kind >= BLOBCRASH_F_CREATE_AT && kind <= BLOBCRASH_F_OPEN_INODE_TRUNCATED) return at[kind - BLOBCRASH_F_CREATE_AT];
     if (kind >= BLOBCRASH_F_CLOSE && kind <= BLOBCRASH_F_INODE_OF) return by[kind - BLOBCRASH_F_CLOSE];
     if (kind >= BLOBCRASH_F_SYNC_ALL && kind <= BLOBCRASH_F_CRASH) return whole[kind - BLOBCRASH_F_SYNC_ALL];
     return "unknown";
@@ -119,7 +119,8 @@ static inline void blobcrash_print_file_call(FILE *script, const struct blobcras
     if (kind == BLOBCRASH_F_LINK || renames) blobcrash_print_path(script, to, to_len);
     if (renames && replaces <= 2) fputs(how[replaces], script);
     if (reply.status != BLOBCRASH_DONE) blobcrash_print_refusal(script, reply.status);
-    else if (kind <= BLOBCRASH_F_OPEN_TRUNCATED || kind == BLOBCRASH_F_CREATE_AT || kind == BLOBCRASH_F_OPEN_INODE) {
+    else if (kind <= BLOBCRASH_F_OPEN_TRUNCATED || kind == BLOBCRASH_F_CREATE_AT || kind == BLOBCRASH_F_OPEN_INODE ||
+             kind == BLOBCRASH_F_OPEN_INODE_TRUNCATED) {
         fprintf(script, " is %" PRIu64, reply.number);
     }
     fputc('\n', script);
@@ -151,7 +152,7 @@ static inline struct blobcrash_file_reply blobcrash_explored_apply(struct blobcr
     else if (blobcrash_files_power_fails(paths, files, blobcrash_file_call_changes(paths, asked->kind))) return none;
     struct blobcrash_file_reply reply = blobcrash_files_apply(files, asked, path, path_len, to, to_len);
     if (paths->script != NULL) blobcrash_print_file_call(paths->script, asked, reply, path, path_len, to, to_len);
-    if (asked->kind == BLOBCRASH_F_OPEN_TRUNCATED) paths->has_truncated = true;
+    if (asked->kind == BLOBCRASH_F_OPEN_TRUNCATED || asked->kind == BLOBCRASH_F_OPEN_INODE_TRUNCATED) paths->has_truncated = true;
     if (crashes && reply.status == BLOBCRASH_DONE) {
         paths->is_off = paths->has_truncated = false;
         if (paths->script != NULL) blobcrash_print_kept(paths->script, files, reply);

@@ -108,6 +108,7 @@ static void closed_files(void) {
         CHECK(blobcrash_files_read(&files, 0, 0, into, 3).status == BLOBCRASH_CLOSED && memcmp(into, "...", 4) == 0);
         CHECK(refuses(blobcrash_files_name(&files, 0, into, 3), BLOBCRASH_CLOSED) && memcmp(into, "...", 4) == 0);
         CHECK(blobcrash_files_kept_run(&files, 0, 0).status == BLOBCRASH_CLOSED);
+        CHECK(refuses(blobcrash_files_kept_place(&files, 0), BLOBCRASH_CLOSED));
         CHECK(blobcrash_files_kept_edit(&files, 0).status == BLOBCRASH_CLOSED);
         CHECK(blobcrash_files_words_left(&files).status == BLOBCRASH_CLOSED);
         CHECK(blobcrash_files_push_words(&files, &word, 1) == BLOBCRASH_CLOSED);
@@ -123,6 +124,9 @@ static void preambles(void) {
         {"seed 1\nprofile xfs", 0}, {"profile ext4\r\n", 1}, {"profile\n", 1}, {"profile zfs\n", 1}, {"profile xfs xfs\n", 1},
         {"keep 1\n", 1}, {"keep 1 0\n", 1}, {"keep 2 1\n", 1}, {"keep 1 2 3\n", 1}, {"space 1\n", 1}, {"space 1 2 3\n", 1},
         {"space -1 2\n", 1}, {"space 18446744073709551616 2\n", 1}, {"seed 1\nseed 2\n", 2}, {"profile xfs\nseed 1\n", 2},
+        {"failed_sync drops\nsyncs lie\nfailed_write prefix\nfailed_sync keeps\nsyncs honest\nfailed_write mode\n", 0},
+        {"failed_sync\n", 1}, {"failed_sync lie\n", 1}, {"failed_sync drops drops\n", 1}, {"syncs\n", 1}, {"syncs drops\n", 1},
+        {"syncs lie 1\n", 1}, {"failed_write\n", 1}, {"failed_write sectors 4\n", 1}, {"failed_write subset\n", 1},
         {"keep 1 2\n\nwords 1\n", 3}, {"image p 61 -\n", 1}, {"open p 61\n", 1}, {"config\n", 1}, {"config keep 1 2\n", 1},
         {"\xff\n", 1}, {"words\n", 1},
     };
@@ -163,10 +167,11 @@ static void kinds_by_paths(void) {
     CHECK(ends(BLOBCRASH_F_MAKE_DIRECTORY, "/d") == BLOBCRASH_DONE && is(on(BLOBCRASH_F_FIND, "/d"), 1, 3, 0));
     CHECK(pair(BLOBCRASH_F_LINK, "/a", "/d/b", 0) == BLOBCRASH_DONE && is(on(BLOBCRASH_F_FIND, "/d/b"), 0, 2, 0));
     CHECK(pair(BLOBCRASH_F_RENAME, "/a", "/c", 1) == BLOBCRASH_DONE && lists("", "c,d,"));
+    CHECK(write_at(2, 0, "sized") == BLOBCRASH_DONE && is(on(BLOBCRASH_F_FIND, "/c"), 0, 2, 5) && is(on(BLOBCRASH_F_FIND, "/d/b"), 0, 2, 5));
     CHECK(is(on(BLOBCRASH_F_CREATE, "/e"), 0, 3, 0) && pair(BLOBCRASH_F_RENAME, "/e", "/c", 0) == BLOBCRASH_DONE &&
           lists("/", "c,d,"));
     CHECK(is(on(BLOBCRASH_F_FIND, "/c"), 0, 4, 0) && pair(BLOBCRASH_F_RENAME, "/c", "/d/b", 2) == BLOBCRASH_DONE);
-    CHECK(is(on(BLOBCRASH_F_FIND, "/c"), 0, 2, 0) && is(on(BLOBCRASH_F_FIND, "/d/b"), 0, 4, 0));
+    CHECK(is(on(BLOBCRASH_F_FIND, "/c"), 0, 2, 5) && is(on(BLOBCRASH_F_FIND, "/d/b"), 0, 4, 0));
     CHECK(ends(BLOBCRASH_F_UNLINK, "/d/b") == BLOBCRASH_DONE && write_at(3, 0, "still") == BLOBCRASH_DONE && reads(3, 0, "still"));
     CHECK(ends(BLOBCRASH_F_SYNC_DIRECTORY, "/d") == BLOBCRASH_DONE && lists("/d", ""));
     CHECK(ends(BLOBCRASH_F_REMOVE_DIRECTORY, "/d") == BLOBCRASH_DONE && lists("/", "c,"));
@@ -180,6 +185,9 @@ static void kinds_by_numbers(void) {
     CHECK(is(at(BLOBCRASH_F_MAKE_DIRECTORY_AT, 1, "d"), 0, 2, 0) && is(at(BLOBCRASH_F_CREATE_AT, 2, "a"), 0, 0, 0));
     CHECK(is(at(BLOBCRASH_F_FIND_AT, 2, "a"), 0, 3, 0) && is(at(BLOBCRASH_F_FIND_AT, 1, "d"), 1, 2, 0));
     CHECK(is(ask(BLOBCRASH_F_LINK_AT, 1, "b", "", 3, 0), 0, 0, 0) && is(by(BLOBCRASH_F_OPEN_INODE, 3), 0, 1, 0));
+    CHECK(write_at(0, 0, "abc") == BLOBCRASH_DONE && is(at(BLOBCRASH_F_FIND_AT, 2, "a"), 0, 3, 3) && reads(1, 0, "abc"));
+    CHECK(is(by(BLOBCRASH_F_OPEN_INODE_TRUNCATED, 3), 0, 2, 0) && reads(1, 0, "") && is(at(BLOBCRASH_F_FIND_AT, 2, "a"), 0, 3, 0));
+    CHECK(refuses(by(BLOBCRASH_F_OPEN_INODE_TRUNCATED, 2), BLOBCRASH_F_IS_DIRECTORY));
     CHECK(is(ask(BLOBCRASH_F_RENAME_AT, 2, "a", "c", 1, 1), 0, 0, 0) && is(by(BLOBCRASH_F_LIST_AT, 2), 0, 0, 0));
     CHECK(is(by(BLOBCRASH_F_LIST_AT, 1), 0, 0, 3) && lists("/", "b,c,d,"));
     uint8_t name[2] = "..";
@@ -230,7 +238,7 @@ static void refusals(void) {
         {BLOBCRASH_F_RENAME, "/d", "/d/f", 0, BLOBCRASH_F_LOOP}, {BLOBCRASH_F_RENAME, "/d", "/d/e/f", 0, BLOBCRASH_F_LOOP},
         {BLOBCRASH_F_RENAME, "/d", "/d/e", 2, BLOBCRASH_F_LOOP}, {BLOBCRASH_F_RENAME, "/d/e", "/d", 2, BLOBCRASH_F_LOOP},
         {BLOBCRASH_F_RENAME, "/a", "/b", 3, BLOBCRASH_BAD_CALL}, {BLOBCRASH_F_RENAME, "/a", "/b", UINT64_MAX, BLOBCRASH_BAD_CALL},
-        {11, "/a", "", 0, BLOBCRASH_BAD_CALL}, {15, "/a", "", 0, BLOBCRASH_BAD_CALL}, {26, "a", "", 0, BLOBCRASH_BAD_CALL},
+        {11, "/a", "", 0, BLOBCRASH_BAD_CALL}, {15, "/a", "", 0, BLOBCRASH_BAD_CALL}, {27, "a", "", 0, BLOBCRASH_BAD_CALL},
         {38, "", "", 0, BLOBCRASH_BAD_CALL}, {51, "", "", 0, BLOBCRASH_BAD_CALL}, {UINT32_MAX, "", "", 0, BLOBCRASH_BAD_CALL},
     };
     for (size_t i = 0; i < sizeof rows / sizeof *rows; i++) {
@@ -264,6 +272,7 @@ static void hostile_arguments(void) {
         CHECK(refuses(by(BLOBCRASH_F_LIST_AT, numbers[i]), BLOBCRASH_F_NOT_FOUND));
         CHECK(refuses(by(BLOBCRASH_F_SYNC_DIRECTORY_AT, numbers[i]), BLOBCRASH_F_NOT_FOUND));
         CHECK(refuses(by(BLOBCRASH_F_OPEN_INODE, numbers[i]), BLOBCRASH_F_NOT_FOUND));
+        CHECK(refuses(by(BLOBCRASH_F_OPEN_INODE_TRUNCATED, numbers[i]), BLOBCRASH_F_NOT_FOUND));
         CHECK(refuses(ask(BLOBCRASH_F_LINK_AT, 1, "b", "", numbers[i], 0), BLOBCRASH_F_NOT_FOUND));
         CHECK(refuses(ask(BLOBCRASH_F_RENAME_AT, 1, "a", "b", numbers[i], 0), BLOBCRASH_F_NOT_FOUND));
     }
@@ -301,6 +310,8 @@ static void crashes(void) {
     CHECK(is_run(blobcrash_files_kept_run(&files, 0, 0), 1024, 1024, 0) &&
           is_run(blobcrash_files_kept_run(&files, 1, 5), 1024, 5, 1019));
     CHECK(is_run(blobcrash_files_kept_run(&files, 1, SIZE_MAX), 1024, 1024, 0));
+    CHECK(is(blobcrash_files_kept_place(&files, 0), 0, 0, 0) && is(blobcrash_files_kept_place(&files, 1), 0, 0, 1024) &&
+          refuses(blobcrash_files_kept_place(&files, 2), BLOBCRASH_OTHER_REPLY));
     CHECK(lists("/", "b,") && blobcrash_files_kept_edit(&files, 0).status == BLOBCRASH_OTHER_REPLY);
     CHECK(refuses(by(BLOBCRASH_F_SIZE, 1), BLOBCRASH_F_STALE) && write_at(1, 0, "x") == BLOBCRASH_F_STALE);
     CHECK(is(on(BLOBCRASH_F_OPEN, "/b"), 0, 2, 0) && write_at(2, 0, "old!") == BLOBCRASH_DONE &&
@@ -310,6 +321,7 @@ static void crashes(void) {
     CHECK(write_at(2, 0, "newest") == BLOBCRASH_DONE && blobcrash_files_push_words(&files, words, 2) == BLOBCRASH_DONE);
     CHECK(blobcrash_files_words_left(&files).len == 2 && is(by(BLOBCRASH_F_CRASH, 0), 0, 0, 1));
     CHECK(is_run(blobcrash_files_kept_run(&files, 0, 0), 6, 0, 2) && is_run(blobcrash_files_kept_run(&files, 0, 2), 6, 4, 2));
+    CHECK(is(blobcrash_files_kept_place(&files, 0), 0, 3, 0) && refuses(blobcrash_files_kept_place(&files, 1), BLOBCRASH_OTHER_REPLY));
     CHECK(is(on(BLOBCRASH_F_OPEN, "/b"), 0, 3, 0) && reads(3, 0, "ned!st"));
     CHECK(is(by(BLOBCRASH_F_CRASH, 0), 0, 0, 0) && is(by(BLOBCRASH_F_CRASH, 0), 0, 0, 0) && lists("/", "b,"));
     /* On ext4 an edit behind a lost one is lost too. */
@@ -319,6 +331,79 @@ static void crashes(void) {
     CHECK(blobcrash_files_kept_edit(&files, 0).len == 0 && blobcrash_files_kept_edit(&files, 1).len == 0 && lists("/", ""));
     begin("seed 1\n");
     CHECK(blobcrash_files_words_left(&files).status == BLOBCRASH_ENDLESS && blobcrash_files_words_left(&files).len == 0);
+}
+
+/* The places of pending writes: two files, each at an offset, and an edit between them. */
+static void places(void) {
+    begin("profile posix\nconfig write 0 1 1 1 prefix\nkeep 1 1\n");
+    CHECK(is(on(BLOBCRASH_F_CREATE, "/a"), 0, 0, 0) && is(on(BLOBCRASH_F_CREATE, "/b"), 0, 1, 0) && is(by(BLOBCRASH_F_SETTLE, 0), 0, 0, 0));
+    CHECK(write_at(1, 7, "b") == BLOBCRASH_DONE && pair(BLOBCRASH_F_LINK, "/a", "/c", 0) == BLOBCRASH_DONE &&
+          write_at(0, 0, "aa") == BLOBCRASH_DONE && is(by(BLOBCRASH_F_CRASH, 0), 0, 1, 3));
+    CHECK(is(blobcrash_files_kept_place(&files, 0), 0, 3, 7) && is(blobcrash_files_kept_place(&files, 1), 0, 0, 2048) &&
+          is(blobcrash_files_kept_place(&files, 2), 0, 2, 0) && refuses(blobcrash_files_kept_place(&files, 3), BLOBCRASH_OTHER_REPLY));
+    CHECK(refuses(blobcrash_files_kept_place(&files, SIZE_MAX), BLOBCRASH_OTHER_REPLY));
+}
+
+/* A sync that fails and drops bytes: they are read until the next open, and no later sync writes them. A word of 0 fails. */
+static void failed_syncs(void) {
+    begin("words 0 max\nconfig write 0 1 1 1 prefix\nfailed_sync drops\n");
+    CHECK(is(on(BLOBCRASH_F_CREATE, "/a"), 0, 0, 0) && write_at(0, 0, "old") == BLOBCRASH_DONE && is(by(BLOBCRASH_F_SETTLE, 0), 0, 0, 0));
+    CHECK(blobcrash_files_configure(&files, TEXT("config sync 1 2")) == BLOBCRASH_DONE && write_at(0, 0, "newer") == BLOBCRASH_DONE);
+    CHECK(refuses(by(BLOBCRASH_F_SYNC, 0), BLOBCRASH_E_INJECTED) && reads(0, 0, "newer") && is(by(BLOBCRASH_F_SIZE, 0), 0, 0, 5));
+    CHECK(write_at(0, 1, "E") == BLOBCRASH_DONE && reads(0, 0, "nEwer") && is(by(BLOBCRASH_F_SYNC, 0), 0, 0, 0) && reads(0, 0, "nEwer"));
+    CHECK(is(on(BLOBCRASH_F_OPEN, "/a"), 0, 1, 0) && reads(0, 0, "oEd") && is(on(BLOBCRASH_F_FIND, "/a"), 0, 2, 3));
+    CHECK(is(by(BLOBCRASH_F_CRASH, 0), 0, 0, 0) && is(on(BLOBCRASH_F_OPEN, "/a"), 0, 2, 0) && reads(2, 0, "oEd"));
+    /* What was truncated or appended is dropped too. */
+    begin("words 0\nconfig write 0 1 1 1 prefix\nfailed_sync drops\nspace 5 9\n");
+    CHECK(is(on(BLOBCRASH_F_CREATE, "/a"), 0, 0, 0) && write_at(0, 0, "old") == BLOBCRASH_DONE && is(by(BLOBCRASH_F_SETTLE, 0), 0, 0, 0));
+    CHECK(blobcrash_files_configure(&files, TEXT("config sync 1 2")) == BLOBCRASH_DONE &&
+          ask(BLOBCRASH_F_TRUNCATE, 0, "", "", 1, 0).status == BLOBCRASH_DONE && refuses(by(BLOBCRASH_F_SYNC_DATA, 0), BLOBCRASH_E_INJECTED));
+    CHECK(reads(0, 0, "o") && ask(BLOBCRASH_F_TRUNCATE, 0, "", "", 2, 0).status == BLOBCRASH_DONE && is(by(BLOBCRASH_F_SIZE, 0), 0, 0, 2));
+    CHECK(write_at(0, 3, "xy") == BLOBCRASH_DONE && write_at(0, 5, "z") == BLOBCRASH_F_NO_SPACE && is(by(BLOBCRASH_F_SIZE, 0), 0, 0, 5));
+    CHECK(is(by(BLOBCRASH_F_SETTLE, 0), 0, 0, 0) && is(by(BLOBCRASH_F_SIZE, 0), 0, 0, 5) && is(by(BLOBCRASH_F_CLOSE, 0), 0, 0, 0));
+    /* Bytes that stay unsynced are written by the next sync. */
+    begin("words 0\nconfig sync 1 2\nkeep 1 1\n");
+    CHECK(is(on(BLOBCRASH_F_CREATE, "/a"), 0, 0, 0) && write_at(0, 0, "new") == BLOBCRASH_DONE &&
+          refuses(by(BLOBCRASH_F_SYNC, 0), BLOBCRASH_E_INJECTED) && blobcrash_files_configure(&files, TEXT("config clear")) == BLOBCRASH_DONE);
+    CHECK(is(by(BLOBCRASH_F_SYNC, 0), 0, 0, 0) && is(by(BLOBCRASH_F_CRASH, 0), 0, 0, 0) && is(on(BLOBCRASH_F_OPEN, "/a"), 0, 1, 0) &&
+          reads(1, 0, "new"));
+}
+
+/* Syncs that return DONE and make nothing durable, and a rename and a close that flush nothing. */
+static void lying_syncs(void) {
+    begin("keep 0 1\nconfig sync 1 1\nsyncs lie\n");
+    CHECK(is(on(BLOBCRASH_F_CREATE, "/a"), 0, 0, 0) && write_at(0, 0, "old") == BLOBCRASH_DONE && is(by(BLOBCRASH_F_SYNC, 0), 0, 0, 0));
+    CHECK(is(by(BLOBCRASH_F_SYNC_DATA, 0), 0, 0, 0) && ends(BLOBCRASH_F_SYNC_DIRECTORY, "/") == BLOBCRASH_DONE &&
+          is(by(BLOBCRASH_F_SYNC_ALL, 0), 0, 0, 0) && refuses(by(BLOBCRASH_F_SYNC, 9), BLOBCRASH_F_STALE) &&
+          ends(BLOBCRASH_F_SYNC_DIRECTORY, "/b") == BLOBCRASH_F_NOT_FOUND);
+    CHECK(is(by(BLOBCRASH_F_CRASH, 0), 0, 1, 0) && lists("/", ""));
+    CHECK(is(on(BLOBCRASH_F_CREATE, "/a"), 0, 1, 0) && write_at(1, 0, "old") == BLOBCRASH_DONE && is(by(BLOBCRASH_F_SETTLE, 0), 0, 0, 0));
+    CHECK(is(on(BLOBCRASH_F_OPEN_TRUNCATED, "/a"), 0, 2, 0) && is(by(BLOBCRASH_F_CLOSE, 2), 0, 0, 0) && is(by(BLOBCRASH_F_CRASH, 0), 0, 0, 0));
+    CHECK(is(on(BLOBCRASH_F_OPEN, "/a"), 0, 3, 0) && reads(3, 0, "old"));
+}
+
+/* A write that fails writes a prefix, which its mode wouldn't. Words of 0 fail and keep, `max` doesn't. */
+static void failed_writes(void) {
+    begin("words 0 0 0 max\nconfig write 1 2 1 2 sectors 4\nfailed_write prefix\n");
+    CHECK(is(on(BLOBCRASH_F_CREATE, "/a"), 0, 0, 0) && write_at(0, 0, "abcd") == BLOBCRASH_E_INJECTED && reads(0, 0, "ab"));
+    CHECK(blobcrash_files_words_left(&files).len == 0);
+    begin("words max 0\nconfig write 1 2 1 2 sectors 4\nfailed_write prefix\n");
+    CHECK(is(on(BLOBCRASH_F_CREATE, "/a"), 0, 0, 0) && write_at(0, 2, "ab") == BLOBCRASH_DONE && is(by(BLOBCRASH_F_SIZE, 0), 0, 0, 4));
+    begin("words 0\nconfig write 1 2 0 1 sectors 4\nfailed_write prefix\n");
+    CHECK(is(on(BLOBCRASH_F_CREATE, "/a"), 0, 0, 0) && write_at(0, 8, "ab") == BLOBCRASH_E_INJECTED && is(by(BLOBCRASH_F_SIZE, 0), 0, 0, 0));
+}
+
+/* The bytes of a file without names and descriptors don't count. A crash that loses the unlink finds it. */
+static void unlinked_files(void) {
+    begin("space 3 1\nkeep 0 1\n");
+    CHECK(is(on(BLOBCRASH_F_CREATE, "/a"), 0, 0, 0) && write_at(0, 0, "abc") == BLOBCRASH_DONE && is(by(BLOBCRASH_F_SETTLE, 0), 0, 0, 0));
+    CHECK(ends(BLOBCRASH_F_UNLINK, "/a") == BLOBCRASH_DONE && ends(BLOBCRASH_F_CREATE, "/b") == BLOBCRASH_F_NO_SPACE && reads(0, 0, "abc"));
+    CHECK(is(by(BLOBCRASH_F_CLOSE, 0), 0, 0, 0) && refuses(by(BLOBCRASH_F_OPEN_INODE, 2), BLOBCRASH_F_NOT_FOUND) &&
+          refuses(ask(BLOBCRASH_F_LINK_AT, 1, "b", "", 2, 0), BLOBCRASH_F_NOT_FOUND));
+    CHECK(is(on(BLOBCRASH_F_CREATE, "/b"), 0, 1, 0) && write_at(1, 0, "def") == BLOBCRASH_DONE && write_at(1, 3, "g") == BLOBCRASH_F_NO_SPACE);
+    CHECK(is(by(BLOBCRASH_F_CRASH, 0), 0, 2, 0) && lists("/", "a,") && is(on(BLOBCRASH_F_OPEN, "/a"), 0, 2, 0) && reads(2, 0, "abc"));
+    CHECK(is(by(BLOBCRASH_F_CLOSE, 2), 0, 0, 0) && ends(BLOBCRASH_F_UNLINK, "/a") == BLOBCRASH_DONE &&
+          ends(BLOBCRASH_F_SYNC_DIRECTORY, "/") == BLOBCRASH_DONE && is(by(BLOBCRASH_F_CRASH, 0), 0, 0, 0) && lists("/", ""));
 }
 
 /* The statuses of a run whose allocations may be refused. */
@@ -399,6 +484,11 @@ int main(void) {
     refusals();
     hostile_arguments();
     crashes();
+    places();
+    failed_syncs();
+    lying_syncs();
+    failed_writes();
+    unlinked_files();
     refused_memory();
     too_many_links();
     blobcrash_files_close(&files);

@@ -4,20 +4,18 @@ from __future__ import annotations
 
 import errno
 import re
-from typing import Any, List, NamedTuple, Tuple
+from typing import Any, List, NamedTuple, Optional, Tuple
 
 from .foreign_files import REFUSALS, REPLACES, Refusal
 from .grammar import hex_of
 
 # A text of a path in a line: printable ASCII but the space and the backslash.
 _PLAIN = re.compile(rb"[!-\[\]-~]+")
-# How many bytes an edit is in the journal.
-_EDIT = 1024
 _HOW = ("", " noreplace", " exchange")
 # The calls with one path, with two, with a number, and with none.
 _ON_PATH = frozenset(("create", "open", "open_truncated", "unlink", "mkdir", "rmdir", "listdir", "fsync_directory", "find"))
 _OPENS = frozenset(("create", "open", "open_truncated"))
-_ON_NUMBER = frozenset(("open_inode", "close", "size", "fsync", "fdatasync"))
+_ON_NUMBER = frozenset(("close", "size", "fsync", "fdatasync"))
 
 
 class FileCall(NamedTuple):
@@ -60,20 +58,19 @@ class Kept(NamedTuple):
 
     `writes` are the unsynced writes that it drew for, each with its number and a text of a digit for each of its bytes: `1` if the byte
     was kept. An edit of names is one of them, of 1,024 bytes. `edits` says of each edit that nothing had settled, in order, whether it was
-    kept.
+    kept. `places` has for each of `writes` the inode of its file, or `None` for an edit, and its offset.
     """
 
     writes: List[Tuple[int, str]]
     edits: List[bool]
+    places: List[Tuple[Optional[int], int]]
 
     def lines(self) -> List[str]:
-        """Comments that say it. Writes that can only be edits are left out."""
+        """Comments that say it. Of the writes those of edits are left out."""
         edits = "".join("1" if is_kept else "0" for is_kept in self.edits)
         lines = [f"# of the unsettled edits it keeps {edits}"] if edits else []
-        writes = [row for row in self.writes if len(row[1]) != _EDIT]
-        if len(self.writes) - len(writes) != len(edits):
-            writes = self.writes
-        return lines + [f"# of write {write} it keeps {_runs(digits)}" for write, digits in writes]
+        rows = [row for row, (inode, _) in zip(self.writes, self.places) if inode is not None]
+        return lines + [f"# of write {write} it keeps {_runs(digits)}" for write, digits in rows]
 
 
 def _runs(digits: str) -> str:

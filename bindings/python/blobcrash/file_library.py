@@ -3,7 +3,7 @@
 from __future__ import annotations
 
 import ctypes
-from typing import Any, List, Tuple, Union
+from typing import Any, List, Optional, Tuple, Union
 
 from .errors import BadLine, NotMade
 from .file_calls import FileCall, Found, Kept, refusal_of
@@ -59,7 +59,8 @@ class FilesLibrary:
             return [self._name(index) for index in range(found.size)]
         if isinstance(found, Found) and asked.word == "crash":
             edits = [bool(self._ran("kept_edit", index)) for index in range(found.number)]
-            return Kept([self._row(row) for row in range(found.size)], edits)
+            rows = range(found.size)
+            return Kept([self._row(row) for row in rows], edits, [self._place(row) for row in rows])
         return found
 
     def words_left(self) -> int:
@@ -124,6 +125,12 @@ class FilesLibrary:
             at = run.start + run.len
             if run.len == 0 or at >= run.bytes:
                 return run.write, "".join(digits) + "0" * (run.bytes - at)
+
+    def _place(self, row: int) -> Tuple[Optional[int], int]:
+        """Where the write of a row was: the inode, or `None` for an edit, and the offset."""
+        reply = self._functions.blobcrash_files_kept_place(self._at, row)
+        _check(reply.status)
+        return reply.number or None, reply.size
 
     def _ran(self, name: str, *arguments: int) -> int:
         ran = getattr(self._functions, "blobcrash_files_" + name)(self._at, *arguments)

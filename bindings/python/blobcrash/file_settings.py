@@ -9,6 +9,8 @@ from .grammar import needs_draws, setting_tokens, text_of
 from .shapes import MAX
 
 PROFILES = ("ext4", "xfs", "btrfs", "posix")
+# The switches with what each may be.
+_SWITCHES = {"failed_sync": ("keeps", "drops"), "syncs": ("honest", "lie"), "failed_write": ("mode", "prefix")}
 
 
 def profile_of(profile: Any) -> str:
@@ -33,7 +35,7 @@ def refuse_of_stores(images: Iterable[Any], allow_stale: Any) -> None:
 
 
 def file_setting_tokens(setting: str) -> List[str]:
-    """The tokens of the line of a setting: `keep N D`, `space BYTES FILES`, or one of a store, which becomes a `config` line.
+    """The tokens of the line of a setting: `keep N D`, `space BYTES FILES`, a switch, or one of a store, which becomes a `config` line.
 
     Raises `BadLine` if it is none.
     """
@@ -46,6 +48,10 @@ def file_setting_tokens(setting: str) -> List[str]:
         return words
     if words[:1] == ["space"]:
         _numbers(setting, words)
+        return words
+    if words and words[0] in _SWITCHES:
+        if len(words) != 2 or words[1] not in _SWITCHES[words[0]]:
+            raise BadLine(f"bad setting: {setting!r}: `{words[0]}` is {' or '.join(_SWITCHES[words[0]])}")
         return words
     return setting_tokens(setting)
 

@@ -67,8 +67,6 @@ class Files:
         self._lines: List[Union[str, Tuple[FileCall, str]]] = list(lines)
         # The files that were opened and not closed, by their descriptors.
         self._opened: Dict[int, OpenFile] = {}
-        # Descriptors by inodes, to ask for sizes. They stay open, since a close may make bytes durable.
-        self._sized: Dict[int, int] = {}
         self._thread = get_ident()
         # Whether a call can't be made: one is under way, or was cut short, or the files are closed.
         self._busy = False
@@ -186,12 +184,8 @@ class Files:
         if not name.strip(b"/"):
             return FileStatus(0, "directory", 1)
         found = self._call(FileCall("find", path=name), path, False)
-        if found.kind == IS_DIRECTORY:
-            return FileStatus(0, "directory", found.number)
-        if found.number not in self._sized:
-            self._sized[found.number] = self._call(FileCall("open_inode", found.number), path, False).number
-        size = self._call(FileCall("size", self._sized[found.number]), path, False).size
-        return FileStatus(size, "file", found.number)
+        kind = "directory" if found.kind == IS_DIRECTORY else "file"
+        return FileStatus(found.size, kind, found.number)
 
     def truncate(self, path: Path, size: int) -> None:
         """Truncates or extends a file."""
@@ -226,7 +220,6 @@ class Files:
         kept = self._call(FileCall("crash"))
         self._lines += kept.lines()
         self._opened.clear()
-        self._sized.clear()
         return kept
 
     def restart(self) -> Kept:
@@ -260,7 +253,8 @@ class Files:
 
     def configure(self, setting: str) -> None:
         """Makes a setting: a rate as of `Store.configure`, of calls on files; `keep N D`, how often a crash keeps an edit of names that
-        nothing settled, 1/2 at first; or `space BYTES FILES`, how many bytes and files there may be.
+        nothing settled, 1/2 at first; `space BYTES FILES`, how many bytes and files there may be; or a switch, of which the first is set at
+        first: `failed_sync keeps` or `drops`, `syncs honest` or `lie`, `failed_write mode` or `prefix` (docs/FILES.md).
 
         Raises `BadLine` if it is none, and `NeedsSeed` if it needs random draws and there is neither a seed nor a word.
         """

@@ -42,9 +42,9 @@ mod options;
 mod record;
 mod state;
 
-pub use builder::{Builder, Profile};
+pub use builder::{Builder, FailedSync, FailedWrite, Profile, Syncs};
 pub use calls::Files;
-pub use crash::Crash;
+pub use crash::{Crash, Place};
 pub use entries::{DirEntry, FileType, Metadata};
 pub use file::File;
 pub use options::OpenOptions;

@@ -1,9 +1,9 @@
 //! Programs on files that lose data, each found by an exploration, and the same programs without their bug.
 mod sectors;
 
-use blobcrash::files::{Files, Profile};
+use blobcrash::files::{Builder, FailedSync, Files, Profile};
 use blobcrash::{Error, Exploration, ExploreError, Run, seeds};
-use sectors::{SECTOR, builder, letters, sectors};
+use sectors::{SECTOR, builder, config, half, letters, sectors};
 use std::io::{self, Write};
 
 /// What a program forgets.
@@ -55,10 +55,14 @@ fn explored(
     profile: Profile,
     body: impl FnMut(&Run<Files>) -> Result<(), String>,
 ) -> Result<u64, (u64, String)> {
-    match Exploration::of(&builder(profile))
-        .power_losses(1)
-        .visit(body)
-    {
+    explored_with(&builder(profile), body)
+}
+
+fn explored_with(
+    builder: &Builder,
+    body: impl FnMut(&Run<Files>) -> Result<(), String>,
+) -> Result<u64, (u64, String)> {
+    match Exploration::of(builder).power_losses(1).visit(body) {
         Ok(visited) => {
             assert!(visited.is_complete);
             Ok(visited.runs)
@@ -167,6 +171,64 @@ fn an_append_without_a_checksum() {
             profile == Profile::Ext4,
             "{profile:?}: {unchecked:?}"
         );
+    }
+}
+
+/// Writes a page of the log to its file, and empties the log. If the sync of the file fails, it may be tried again.
+fn checkpoint(files: &Files, retries: bool) -> io::Result<()> {
+    let mut data = files.options().write(true).open("/data")?;
+    data.write_all(&sectors("B"))?;
+    if data.sync_all().is_err() {
+        if !retries {
+            return Err(io::ErrorKind::Other.into());
+        }
+        data.sync_all()?;
+    }
+    let log = files.options().write(true).open("/log")?;
+    log.set_len(0)?;
+    Ok(log.sync_all()?)
+}
+
+/// After a crash a page is in its file or in the log.
+fn checkpointed(run: &Run<Files>, retries: bool) -> Result<(), String> {
+    let told = |error: Error| error.to_string();
+    let set_up = || {
+        run.write("/data", sectors("A"))?;
+        run.write("/log", sectors("B"))?;
+        run.settle()
+    };
+    let is_set_up = set_up().is_ok();
+    if is_set_up {
+        run.configure(config().sync(half())).map_err(told)?;
+        let _ = checkpoint(run, retries);
+    }
+    run.restart().map_err(told)?;
+    let found = [letters(run, "/data"), letters(run, "/log")].map(Result::unwrap);
+    if is_set_up && !found.contains(&"B".to_owned()) {
+        return Err(format!("{found:?} are left"));
+    }
+    Ok(())
+}
+
+/// The bug of PostgreSQL until 2018.
+#[test]
+fn a_failed_sync_that_is_tried_again() {
+    for profile in Profile::ALL {
+        let of = |does, retries| {
+            let builder = builder(profile).failed_sync(does);
+            explored_with(&builder, |run| checkpointed(run, retries))
+        };
+        let dropped = of(FailedSync::Drops, true);
+        assert!(
+            dropped
+                .clone()
+                .is_err_and(|(_, error)| error.starts_with("[\"A\"")),
+            "{profile:?}: {dropped:?}"
+        );
+        for (does, retries) in [(FailedSync::Keeps, true), (FailedSync::Drops, false)] {
+            let found = of(does, retries);
+            assert!(found.is_ok(), "{profile:?}: {found:?}");
+        }
     }
 }
 

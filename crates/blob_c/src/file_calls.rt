@@ -5,7 +5,8 @@ ghost use Rattle.blob_directory.specs.Names.{Same};
 ghost use Rattle.blob_file_sessions.specs.Calls.{TellsFileWords};
 ghost use Rattle.blob_file_sessions.specs.Exports.{AnswersCall, CopiesEntryFrom, InsertsFileWords, MakesSetting, ReadsFiles, Transfers};
 ghost use Rattle.blob_file_sessions.specs.Held.{files_of, fs_of};
-ghost use Rattle.blob_file_sessions.specs.LastParts.{FindsRow, TellsEdit};
+ghost use Rattle.blob_file_sessions.specs.LastParts.{FindsRow, TellsEdit, TellsPlace};
+ghost use Rattle.blob_file_sessions.specs.Replies.{no_reply};
 ghost use Rattle.blob_sessions.specs.Parts.{no_run};
 ghost use Rattle.blob_sessions.specs.Sessions.{stopped};
 
@@ -166,6 +167,26 @@ pub extern "C" fn blobcrash_files_kept_run(
     let run = kept.kept_run(row, from);
     files.put(kept);
     run
+}
+
+/// Returns where the write of a row of the last call, a crash, was: in `number` the inode, 0 for an edit, and in `size` the offset in
+/// bytes in the file or in the journal. Changes nothing.
+///
+/// `OTHER_REPLY` if the last call doesn't have this row; `CLOSED`.
+#[unsafe(no_mangle)]
+pub extern "C" fn blobcrash_files_kept_place(
+    alloc: Global,
+    files: &mut Files,
+    row: usize,
+) -> FileReply
+    ensures { ReadsFiles files.old files.new (λ k. TellsPlace k.last row result) (result ≡ no_reply CLOSED) }
+{
+    let Some(kept) = files.take(alloc) else {
+        return FileReply::stopped(CLOSED);
+    };
+    let reply = kept.kept_place(row);
+    files.put(kept);
+    reply
 }
 
 /// Returns in `len` 1 if the last call, a crash, kept the unsettled edit with this index, and 0 if not. Changes nothing.

@@ -4,17 +4,18 @@ use Rattle.std.specs.Global.{Global}
 use Rattle.blob_draws.specs.Rows.{row_in, rows_of}
 use Rattle.blob_model.specs.Draws.{Row}
 use Rattle.blob_directory.specs.declared.edit.Binding.{Binding}
+use Rattle.blob_fs.specs.declared.crash.Place.{Place}
 use Rattle.blob_sessions.specs.Parts.{CopiesBytes, no_run, run_from}
 use Rattle.blob_sessions.specs.Sessions.{stopped}
 use Rattle.blob_sessions.specs.declared.parts.KeptRun.{KeptRun}
 use Rattle.blob_sessions.specs.declared.ran.Ran.{Ran}
 use Rattle.blob_sessions.specs.declared.ran.TheConstants.{DONE, OTHER_REPLY}
-use Rattle.blob_file_sessions.specs.Replies.{bound_reply, no_reply}
+use Rattle.blob_file_sessions.specs.Replies.{bound_reply, no_reply, place_reply}
 use Rattle.blob_file_sessions.specs.declared.call.FileReply.{FileReply}
 use Rattle.blob_file_sessions.specs.declared.reply.Reply.{Reply}
 use Rattle.blob_file_sessions.specs.declared.reply.Reply.TheVariants as replies
 
--- the names, the rows and the edits of a reply; of another reply none
+-- the names, the rows, the edits and the places of a reply; of another reply none
 abbrev pub names_in : Reply → List (Vec ℕ Global × Binding)
 names_in (replies.Names names) = names.items
 names_in reply = []
@@ -26,6 +27,10 @@ rows_in reply = []
 abbrev pub edits_in : Reply → List Bool
 edits_in (replies.Crashed crash) = crash.edits.items
 edits_in reply = []
+
+abbrev pub places_in : Reply → List Place
+places_in (replies.Crashed crash) = crash.places.items
+places_in reply = []
 
 -- those of the last reply; before the first call none
 abbrev pub of_last : {T : Type 0} → (Reply → List T) → Option Reply → List T
@@ -42,6 +47,11 @@ CopiesEntry last index reply old new =
 abbrev pub FindsRow : Option Reply → ℕ → ℕ → KeptRun → Type 0
 FindsRow last index from run =
     MatchOption (option_map row_in (slice_get (of_last rows_in last) index)) (run ≡ no_run OTHER_REPLY) (λ row. run ≡ run_from from row)
+
+-- where the write of a row was
+abbrev pub TellsPlace : Option Reply → ℕ → FileReply → Type 0
+TellsPlace last index reply =
+    MatchOption (slice_get (of_last places_in last) index) (reply ≡ no_reply OTHER_REPLY) (λ place. reply ≡ place_reply place)
 
 abbrev pub one_if : Bool → ℕ
 one_if true = 1

@@ -6,6 +6,7 @@ use Rattle.blob_fs.specs.Files.{descriptor_number}
 use Rattle.blob_directory.specs.declared.edit.Binding.{Binding}
 use Rattle.blob_directory.specs.declared.edit.Kind.{Kind}
 use Rattle.blob_directory.specs.declared.edit.Kind.TheVariants.{File, Directory}
+use Rattle.blob_fs.specs.declared.crash.Place.{Place}
 use Rattle.blob_fs.specs.declared.error.FsError.{FsError}
 use Rattle.blob_fs.specs.declared.error.FsError.TheVariants.{Exists, NotFound, NotEmpty, IsDirectory, NotDirectory, NameTooLong, InvalidName, TooManyLinks, Stale, NoSpace, Loop, Crashed, Store}
 use Rattle.blob_sessions.specs.Statuses.{refusal_status}
@@ -46,11 +47,19 @@ numbered number size = record { status = DONE; kind = 0; number = number; size =
 abbrev pub bound_reply : Binding → ℕ → ℕ → FileReply
 bound_reply binding status size = record { status = status; kind = kind_number binding.kind; number = binding.inode; size = size }
 
+-- where a pending write was; an edit has the inode 0
+abbrev pub inode_or_zero : Option ℕ → ℕ
+inode_or_zero None = 0
+inode_or_zero (Some inode) = inode
+
+abbrev pub place_reply : Place → FileReply
+place_reply place = numbered (inode_or_zero place.inode) place.offset
+
 abbrev pub file_reply : Reply → FileReply
 file_reply replies.Done = no_reply DONE
 file_reply (replies.Opened descriptor) = numbered (descriptor_number descriptor) 0
 file_reply (replies.Inode inode) = numbered inode 0
-file_reply (replies.Found binding) = bound_reply binding DONE 0
+file_reply (replies.Found binding size) = bound_reply binding DONE size
 file_reply (replies.Size size) = numbered 0 size
 file_reply (replies.Names names) = numbered 0 (length names.items)
 file_reply (replies.Crashed crash) = numbered (length crash.edits.items) (length (rows_of crash.rows))

@@ -1,10 +1,10 @@
 // Calls on files and their replies in numbers.
 ghost use Rattle.std.specs.Prelude.{◌≡◌};
-ghost use Rattle.blob_file_sessions.specs.Replies.{bound_reply, file_reply, kind_number, no_reply, numbered};
+ghost use Rattle.blob_file_sessions.specs.Replies.{bound_reply, file_reply, kind_number, no_reply, numbered, place_reply};
 
 use crate::refusals::status_of;
 use crate::reply::Reply;
-use blob_fs::{Binding, Kind};
+use blob_fs::{Binding, Kind, Place};
 use blob_sessions::ran::DONE;
 
 /// A call's kind and numbers. A kind ignores the numbers that it doesn't name.
@@ -31,7 +31,7 @@ pub struct FileReply {
     pub kind: u32,
     /// A descriptor, an inode, or how many edits were unsettled at a crash.
     pub number: u64,
-    /// A size in bytes, how many names a directory has, or for how many writes a crash drew.
+    /// A size in bytes, how many names a directory has, for how many writes a crash drew, or an offset in bytes.
     pub size: u64,
 }
 
@@ -69,6 +69,16 @@ impl FileReply {
         }
     }
 
+    /// Returns the numbers of the place of a write. An edit has the inode 0.
+    pub fn place(place: &Place) -> FileReply
+        ensures { result ≡ place_reply place.now }
+    {
+        match place.inode {
+            None => FileReply::numbered(0, place.offset),
+            Some(inode) => FileReply::numbered(inode, place.offset),
+        }
+    }
+
     /// Returns the numbers of what a name is bound to, with a size.
     pub fn bound(binding: &Binding, status: u32, size: u64) -> FileReply
         ensures { result ≡ bound_reply binding.now status size }
@@ -89,7 +99,7 @@ impl FileReply {
             Reply::Done => FileReply::stopped(DONE),
             Reply::Opened(descriptor) => FileReply::numbered(descriptor.number(), 0),
             Reply::Inode(inode) => FileReply::numbered(*inode, 0),
-            Reply::Found(binding) => FileReply::bound(binding, DONE, 0),
+            Reply::Found(binding, size) => FileReply::bound(binding, DONE, *size),
             Reply::Size(size) => FileReply::numbered(0, *size),
             Reply::Names(names) => FileReply::numbered(0, names.len() as u64),
             Reply::Crashed(crash) => {

@@ -8,13 +8,13 @@ ghost use Rattle.blob_file_sessions.specs.Replies.{last_reply};
 use crate::call::{FileCall, FileReply};
 use crate::kinds::{
     CLOSE, CRASH, CREATE, CREATE_AT, FIND, FIND_AT, INODE_OF, LINK, LINK_AT, LIST, LIST_AT,
-    MAKE_DIRECTORY, MAKE_DIRECTORY_AT, OPEN, OPEN_INODE, OPEN_TRUNCATED, REMOVE_DIRECTORY,
-    REMOVE_DIRECTORY_AT, RENAME, RENAME_AT, SETTLE, SIZE, SYNC, SYNC_ALL, SYNC_DATA,
-    SYNC_DIRECTORY, SYNC_DIRECTORY_AT, TRUNCATE, UNLINK, UNLINK_AT,
+    MAKE_DIRECTORY, MAKE_DIRECTORY_AT, OPEN, OPEN_INODE, OPEN_INODE_TRUNCATED, OPEN_TRUNCATED,
+    REMOVE_DIRECTORY, REMOVE_DIRECTORY_AT, RENAME, RENAME_AT, SETTLE, SIZE, SYNC, SYNC_ALL,
+    SYNC_DATA, SYNC_DIRECTORY, SYNC_DIRECTORY_AT, TRUNCATE, UNLINK, UNLINK_AT,
 };
 use crate::reply::{Reply, crashed, done, found, inode, listed, opened, sized};
 use crate::setting::read_file_setting;
-use blob_fs::{Descriptor, FileSystem, Rename};
+use blob_fs::{Binding, Descriptor, FileSystem, FsError, Rename};
 use blob_lab::ScriptedRng;
 use blob_lab::script::RefusedLine;
 use blob_sessions::Ran;
@@ -114,9 +114,15 @@ impl KeptFiles {
             REMOVE_DIRECTORY => done(self.fs.remove_directory(path)),
             LIST => listed(self.fs.list(path)),
             SYNC_DIRECTORY => done(self.fs.sync_directory(path)),
-            FIND => found(self.fs.find(path)),
+            FIND => found(self.sized(self.fs.find(path))),
             _ => return None,
         })
+    }
+
+    /// Returns what a look-up found, with its size.
+    fn sized(&self, found: Result<Binding, FsError>) -> Result<(Binding, u64), FsError> {
+        let binding = found?;
+        Ok((binding, self.fs.size_of(binding.inode)))
     }
 
     /// Makes a call by the number of a directory and a name, or of an inode.
@@ -136,8 +142,9 @@ impl KeptFiles {
             REMOVE_DIRECTORY_AT => done(self.fs.remove_directory_at(at, name)),
             LIST_AT => listed(self.fs.list_at(at)),
             SYNC_DIRECTORY_AT => done(self.fs.sync_directory_at(at)),
-            FIND_AT => found(self.fs.look_up(at, name)),
+            FIND_AT => found(self.sized(self.fs.look_up(at, name))),
             OPEN_INODE => opened(self.fs.open_inode(at)),
+            OPEN_INODE_TRUNCATED => opened(self.fs.open_inode_truncated(at)),
             _ => return None,
         })
     }

@@ -42,6 +42,8 @@ pub const SYNC_DIRECTORY_AT: u32 = 23;
 pub const FIND_AT: u32 = 24;
 /// Opens the file of the inode `number`.
 pub const OPEN_INODE: u32 = 25;
+/// Opens the file of the inode `number` and makes it empty.
+pub const OPEN_INODE_TRUNCATED: u32 = 26;
 /// Closes the descriptor `number`.
 pub const CLOSE: u32 = 32;
 /// Truncates the file of the descriptor `number`, or extends it, to `first` bytes.

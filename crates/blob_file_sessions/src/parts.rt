@@ -1,6 +1,6 @@
 // The parts of the last reply: the names of a directory, and what a crash kept.
 ghost use Rattle.std.specs.Prelude.{◌≡◌, ◌+◌, ◌<◌, ◌≤◌, IfSome, drop, length};
-ghost use Rattle.blob_file_sessions.specs.LastParts.{CopiesEntry, FindsRow, TellsEdit};
+ghost use Rattle.blob_file_sessions.specs.LastParts.{CopiesEntry, FindsRow, TellsEdit, TellsPlace};
 ghost use Rattle.blob_sessions.specs.Parts.{CopiesBytes, first_kept, first_lost, kept_prefix, lost_prefix, run_from};
 
 use crate::call::FileReply;
@@ -37,6 +37,22 @@ impl KeptFiles {
             return KeptRun::stopped(OTHER_REPLY);
         };
         run_of(*write, choices, from)
+    }
+
+    /// Returns where the write of a row of the last reply was, which a crash returned: in `number` the inode, 0 for an edit, and in
+    /// `size` the offset in bytes in the file or in the journal.
+    ///
+    /// `OTHER_REPLY` if the last reply has no such row.
+    pub fn kept_place(&self, row: usize) -> FileReply
+        ensures { TellsPlace self.now.last row result }
+    {
+        let Some(Reply::Crashed(crash)) = &self.last else {
+            return FileReply::stopped(OTHER_REPLY);
+        };
+        match crash.places.get(row) {
+            None => FileReply::stopped(OTHER_REPLY),
+            Some(place) => FileReply::place(place),
+        }
     }
 
     /// Returns in `len` 1 if the last call, a crash, kept the unsettled edit with this index, and 0 if not.

@@ -7,7 +7,8 @@ pub enum Reply {
     Done,
     Opened(Descriptor),
     Inode(u64),
-    Found(Binding),
+    /// What a name is bound to, and its size in bytes.
+    Found(Binding, u64),
     /// In bytes.
     Size(u64),
     /// The names of a directory with their bindings, in the order of their bytes.
@@ -37,9 +38,9 @@ pub(crate) fn inode(ended: Result<u64, FsError>) -> Reply {
     }
 }
 
-pub(crate) fn found(ended: Result<Binding, FsError>) -> Reply {
+pub(crate) fn found(ended: Result<(Binding, u64), FsError>) -> Reply {
     match ended {
-        Ok(binding) => Reply::Found(binding),
+        Ok((binding, size)) => Reply::Found(binding, size),
         Err(error) => Reply::Refused(error),
     }
 }

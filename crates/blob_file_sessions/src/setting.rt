@@ -1,6 +1,6 @@
 // The lines that begin a file system and set what it does.
 use blob_base::Probability;
-use blob_fs::{Options, Profile};
+use blob_fs::{FailedSync, FailedWrite, Options, Profile, Syncs};
 use blob_lab::script::{Line, RefusedLine, Setting, read_line};
 use blob_script::script::setting::copy_of;
 use blob_script::script::token::Tokens;
@@ -17,6 +17,9 @@ pub enum FileSetting {
     Keep(Probability),
     /// The limits.
     Space { bytes: u64, files: u64 },
+    FailedSync(FailedSync),
+    Syncs(Syncs),
+    FailedWrite(FailedWrite),
 }
 
 /// What a line before the first call says.
@@ -38,6 +41,33 @@ fn profile(tokens: &mut Tokens) -> Option<Profile> {
         "xfs" => Some(Profile::xfs()),
         "btrfs" => Some(Profile::btrfs()),
         "posix" => Some(Profile::posix()),
+        _ => None,
+    }
+}
+
+/// Returns what a sync that fails does, by its name.
+fn failed_sync(tokens: &mut Tokens) -> Option<FailedSync> {
+    match tokens.next()? {
+        "keeps" => Some(FailedSync::Keeps),
+        "drops" => Some(FailedSync::Drops),
+        _ => None,
+    }
+}
+
+/// Returns whether syncs lie, by its name.
+fn syncs(tokens: &mut Tokens) -> Option<Syncs> {
+    match tokens.next()? {
+        "honest" => Some(Syncs::Honest),
+        "lie" => Some(Syncs::Lie),
+        _ => None,
+    }
+}
+
+/// Returns what a write that fails writes, by its name.
+fn failed_write(tokens: &mut Tokens) -> Option<FailedWrite> {
+    match tokens.next()? {
+        "mode" => Some(FailedWrite::ByMode),
+        "prefix" => Some(FailedWrite::Prefix),
         _ => None,
     }
 }
@@ -67,6 +97,13 @@ pub fn read_file_line(alloc: Global, line: &[u8]) -> Result<FileLine, RefusedLin
             bytes: tokens.number()?,
             files: tokens.number()?,
         },
+        Some("failed_sync") => {
+            FileSetting::FailedSync(failed_sync(&mut tokens).ok_or(RefusedLine::BadCall)?)
+        }
+        Some("syncs") => FileSetting::Syncs(syncs(&mut tokens).ok_or(RefusedLine::BadCall)?),
+        Some("failed_write") => {
+            FileSetting::FailedWrite(failed_write(&mut tokens).ok_or(RefusedLine::BadCall)?)
+        }
         _ => return shared_line(alloc, line),
     };
     match tokens.next() {
@@ -95,7 +132,8 @@ fn shared_line(alloc: Global, line: &[u8]) -> Result<FileLine, RefusedLine> {
 }
 
 /// Returns the options of a file system without settings: ext4, no fault, no limit; a crash loses all bytes that aren't synced, and
-/// keeps an unsettled edit with a rate of 1/2.
+/// keeps an unsettled edit with a rate of 1/2. A sync that fails keeps the bytes unsynced, no sync lies, and a write that fails
+/// writes by its mode.
 pub fn first_options() -> Options {
     Options {
         profile: Profile::ext4(),
@@ -103,6 +141,9 @@ pub fn first_options() -> Options {
         edit_rate: Probability::new(1, 2).unwrap_or(Probability::ZERO),
         max_bytes: u64::MAX,
         max_files: u64::MAX,
+        failed_sync: FailedSync::Keeps,
+        syncs: Syncs::Honest,
+        failed_write: FailedWrite::ByMode,
     }
 }
 
@@ -116,6 +157,9 @@ impl FileSetting {
             edit_rate: options.edit_rate,
             max_bytes: options.max_bytes,
             max_files: options.max_files,
+            failed_sync: options.failed_sync,
+            syncs: options.syncs,
+            failed_write: options.failed_write,
         };
         match self {
             FileSetting::Profile(profile) => changed.profile = profile,
@@ -127,6 +171,9 @@ impl FileSetting {
                 changed.max_bytes = bytes;
                 changed.max_files = files;
             }
+            FileSetting::FailedSync(does) => changed.failed_sync = does,
+            FileSetting::Syncs(syncs) => changed.syncs = syncs,
+            FileSetting::FailedWrite(writes) => changed.failed_write = writes,
         }
         changed
     }

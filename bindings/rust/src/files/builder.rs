@@ -44,6 +44,51 @@ impl Profile {
     }
 }
 
+/// What a sync of a file that fails does to the bytes that it was to make durable.
+///
+/// ```
+/// # use blobcrash::files::FailedSync;
+/// assert_eq!(FailedSync::default(), FailedSync::Keeps);
+/// ```
+#[derive(Clone, Copy, Debug, Default, PartialEq, Eq, Hash)]
+pub enum FailedSync {
+    /// They stay unsynced. A later sync may make them durable.
+    #[default]
+    Keeps,
+    /// They are dropped: reads return them until the file is opened again, no later sync writes them, and no crash keeps any.
+    Drops,
+}
+
+/// Whether a sync that returns `Ok` has made anything durable.
+///
+/// ```
+/// # use blobcrash::files::Syncs;
+/// assert_eq!(Syncs::default(), Syncs::Honest);
+/// ```
+#[derive(Clone, Copy, Debug, Default, PartialEq, Eq, Hash)]
+pub enum Syncs {
+    /// It has.
+    #[default]
+    Honest,
+    /// It hasn't, and never fails.
+    Lie,
+}
+
+/// Which bytes of a write that fails are written.
+///
+/// ```
+/// # use blobcrash::files::FailedWrite;
+/// assert_eq!(FailedWrite::default(), FailedWrite::ByMode);
+/// ```
+#[derive(Clone, Copy, Debug, Default, PartialEq, Eq, Hash)]
+pub enum FailedWrite {
+    /// Those that the mode of writes selects.
+    #[default]
+    ByMode,
+    /// A prefix, drawn byte by byte.
+    Prefix,
+}
+
 /// What files begin with.
 ///
 /// ```
@@ -63,6 +108,9 @@ pub struct Builder {
     /// How often a crash keeps an edit; 1/2 if it isn't set.
     keep: Option<Probability>,
     space: Option<[u64; 2]>,
+    failed_sync: FailedSync,
+    syncs: Syncs,
+    failed_write: FailedWrite,
 }
 
 impl Builder {
@@ -129,6 +177,69 @@ impl Builder {
     pub fn space(mut self, bytes: u64, files: u64) -> Builder {
         self.space = Some([bytes, files]);
         self
+    }
+
+    /// Sets what a sync that fails does to the bytes that it was to make durable.
+    ///
+    /// ```
+    /// # use blobcrash::{Config, Error, Probability, files::{FailedSync, Files}};
+    /// # use std::io::Write;
+    /// # fn main() -> std::io::Result<()> {
+    /// let files = Files::builder().failed_sync(FailedSync::Drops).seed(7).open()?;
+    /// files.configure(Config::default().sync(Probability::ONE))?;
+    /// let mut file = files.create("/f")?;
+    /// file.write_all(b"abc")?;
+    /// assert_eq!(file.sync_all(), Err(Error::Injected));
+    /// assert_eq!(file.metadata()?.len(), 3);
+    /// assert_eq!(files.read("/f")?, b"");
+    /// # Ok(())
+    /// # }
+    /// ```
+    pub fn failed_sync(mut self, does: FailedSync) -> Builder {
+        self.failed_sync = does;
+        self
+    }
+
+    /// Sets whether syncs lie.
+    ///
+    /// ```
+    /// # use blobcrash::{Probability, files::{Files, Syncs}};
+    /// # fn main() -> Result<(), blobcrash::Error> {
+    /// let files = Files::builder().syncs(Syncs::Lie).keep(Probability::ZERO).open()?;
+    /// files.create_dir("/d")?;
+    /// files.sync()?;
+    /// files.crash()?;
+    /// assert!(!files.exists("/d")?);
+    /// # Ok(())
+    /// # }
+    /// ```
+    pub fn syncs(mut self, syncs: Syncs) -> Builder {
+        self.syncs = syncs;
+        self
+    }
+
+    /// Sets which bytes of a write that fails are written.
+    ///
+    /// ```
+    /// # use blobcrash::files::{FailedWrite, Files};
+    /// # fn main() -> Result<(), blobcrash::Error> {
+    /// let files = Files::builder().failed_write(FailedWrite::Prefix).seed(7).open()?;
+    /// # Ok(())
+    /// # }
+    /// ```
+    pub fn failed_write(mut self, writes: FailedWrite) -> Builder {
+        self.failed_write = writes;
+        self
+    }
+
+    /// Returns the lines of the switches that aren't set as at first.
+    fn switches(&self) -> impl Iterator<Item = String> + use<> {
+        let lines = [
+            (self.failed_sync == FailedSync::Drops).then_some("failed_sync drops"),
+            (self.syncs == Syncs::Lie).then_some("syncs lie"),
+            (self.failed_write == FailedWrite::Prefix).then_some("failed_write prefix"),
+        ];
+        lines.into_iter().flatten().map(str::to_owned)
     }
 
     /// Adds words to the generator, which decide what fails and what a crash keeps. After the last one it goes on with those of the
@@ -219,7 +330,9 @@ impl Builder {
             .space
             .map(|[bytes, files]| format!("space {bytes} {files}"));
         self.base.lines.push(self.profile.line().to_owned());
-        self.base.lines.extend(keep.into_iter().chain(space));
+        let switches = self.switches();
+        let settings = keep.into_iter().chain(space).chain(switches);
+        self.base.lines.extend(settings);
         self.base.complete()?;
         let mut session = Session::open(&self.base.lines.join("\n"))?;
         session.record = (!self.base.unrecorded).then(|| Record::with_lines(&self.base.lines));

@@ -263,13 +263,8 @@ impl State {
             return Ok(Metadata::new(1, FileType::of(true), 0));
         }
         let found = self.by_path(Kind::Find, path)?;
-        let is_directory = found.kind == 1;
-        let len = if is_directory {
-            0
-        } else {
-            self.size_of(found.number)?
-        };
-        Ok(Metadata::new(found.number, FileType::of(is_directory), len))
+        let file_type = FileType::of(found.kind == 1);
+        Ok(Metadata::new(found.number, file_type, found.size))
     }
 }
 

@@ -23,6 +23,36 @@ pub struct Crash {
     pub writes: Selections,
     /// For each change of names that nothing had made durable, in order, whether it was kept.
     pub edits: Vec<bool>,
+    /// For each of `writes`, where it was.
+    pub places: Vec<Place>,
+}
+
+/// Where a pending write was.
+///
+/// ```
+/// # use blobcrash::files::Place;
+/// # use blobcrash::{Config, PartialWriteMode, Probability, WriteConfig};
+/// # fn main() -> Result<(), blobcrash::Error> {
+/// let kept = WriteConfig {
+///     failure_rate: Probability::ZERO,
+///     retention_rate: Probability::ONE,
+///     mode: PartialWriteMode::Prefix,
+/// };
+/// # let files = blobcrash::files::Files::builder().seed(7);
+/// # let files = files.config(Config::default().write(kept)).open()?;
+/// files.write("/f", b"abc")?;
+/// let inode = Some(files.metadata("/f")?.ino());
+/// let edit = Place { inode: None, offset: 0 };
+/// assert_eq!(files.crash()?.places, [edit, Place { inode, offset: 0 }]);
+/// # Ok(())
+/// # }
+/// ```
+#[derive(Clone, Copy, Debug, PartialEq, Eq, Hash)]
+pub struct Place {
+    /// The number of the file's inode. `None` for an edit.
+    pub inode: Option<u64>,
+    /// The offset in bytes in the file, or of an edit in the journal.
+    pub offset: u64,
 }
 
 impl Files {
@@ -57,8 +87,7 @@ impl Files {
     /// # }
     /// ```
     pub fn crash(&self) -> Result<Crash, Error> {
-        let (writes, edits) = self.lock().crash()?;
-        Ok(Crash { writes, edits })
+        self.lock().crash()
     }
 
     /// Crashes, as [`Store::restart`](crate::Store::restart) does: a crash of files recovers them too.

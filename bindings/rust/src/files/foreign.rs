@@ -45,7 +45,6 @@ pub(crate) enum Kind {
     List = 8,
     SyncDirectory = 9,
     Find = 10,
-    OpenInode = 25,
     Close = 32,
     Truncate = 33,
     Size = 34,
@@ -133,6 +132,7 @@ unsafe extern "C" {
         row: usize,
         from: usize,
     ) -> KeptRun;
+    pub(crate) fn blobcrash_files_kept_place(files: *mut RawFiles, row: usize) -> Reply;
     pub(crate) fn blobcrash_files_kept_edit(files: *mut RawFiles, index: usize) -> Ran;
     pub(crate) fn blobcrash_files_words_left(files: *mut RawFiles) -> Ran;
     pub(crate) fn blobcrash_files_close(files: *mut RawFiles);
@@ -158,7 +158,6 @@ mod tests {
             Kind::List,
             Kind::SyncDirectory,
             Kind::Find,
-            Kind::OpenInode,
             Kind::Close,
             Kind::Truncate,
             Kind::Size,

@@ -1,4 +1,5 @@
 //! Safe functions over those of the library for files. No other file of this module calls an `unsafe` function.
+use super::crash::{Crash, Place};
 use super::foreign::*;
 use super::record::{Call, Record};
 use crate::foreign::{BAD_LINE, DONE, ENDLESS, KeptRun, NO_MEMORY, NO_ROOM};
@@ -117,8 +118,17 @@ impl Session {
         }
     }
 
+    /// Returns what the last call, a `Crash` with this reply, kept.
+    pub(crate) fn kept(&mut self, reply: &Reply) -> Crash {
+        Crash {
+            writes: self.kept_bytes(reply.size),
+            edits: self.kept_edits(reply.number),
+            places: self.kept_places(reply.size),
+        }
+    }
+
     /// Returns which bytes of each pending write the last call, a `Crash`, kept.
-    pub(crate) fn kept_bytes(&mut self, rows: u64) -> Selections {
+    fn kept_bytes(&mut self, rows: u64) -> Selections {
         let rows = 0..rows as usize;
         rows.map(|row| self.kept_row(row)).collect()
     }
@@ -139,8 +149,23 @@ impl Session {
         unsafe { blobcrash_files_kept_run(&mut self.raw, row, from) }
     }
 
+    /// Returns where each of these writes of the last call, a `Crash`, was.
+    fn kept_places(&mut self, rows: u64) -> Vec<Place> {
+        let rows = 0..rows as usize;
+        rows.map(|row| self.kept_place(row)).collect()
+    }
+
+    fn kept_place(&mut self, row: usize) -> Place {
+        // SAFETY: as for `configure`.
+        let reply = unsafe { blobcrash_files_kept_place(&mut self.raw, row) };
+        Place {
+            inode: (reply.status == DONE && reply.number > 0).then_some(reply.number),
+            offset: reply.size,
+        }
+    }
+
     /// Returns whether the last call, a `Crash`, kept each unsettled edit.
-    pub(crate) fn kept_edits(&mut self, edits: u64) -> Vec<bool> {
+    fn kept_edits(&mut self, edits: u64) -> Vec<bool> {
         let edits = 0..edits as usize;
         edits.map(|edit| self.kept_edit(edit)).collect()
     }

@@ -46,7 +46,7 @@ impl Call<'_> {
     /// What the call does to the state that a crash leaves. After an open that truncated, a close may make a file's bytes durable.
     pub(crate) fn effect(&self, has_truncated: bool) -> Effect {
         match self.kind {
-            Kind::Open | Kind::List | Kind::Find | Kind::OpenInode => Effect::Reads,
+            Kind::Open | Kind::List | Kind::Find => Effect::Reads,
             Kind::Size | Kind::InodeOf | Kind::Settle => Effect::Reads,
             Kind::Close if !has_truncated => Effect::Closes,
             Kind::Crash => Effect::Crashes,
@@ -67,7 +67,6 @@ impl Call<'_> {
             Kind::List => "listdir",
             Kind::SyncDirectory => "fsync_directory",
             Kind::Find => "find",
-            Kind::OpenInode => "open_inode",
             Kind::Close => "close",
             Kind::Truncate => "truncate",
             Kind::Size => "size",
@@ -84,7 +83,7 @@ impl Call<'_> {
         let mut line = self.word().to_owned();
         match self.kind as u32 {
             0..=10 => push_path(&mut line, self.path),
-            25..=37 => line += &format!(" {}", self.number),
+            32..=37 => line += &format!(" {}", self.number),
             _ => {}
         }
         match (self.kind, self.first) {

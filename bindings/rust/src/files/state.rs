@@ -1,11 +1,11 @@
 //! What files share with their clones and their open files: one session, which a lock protects.
+use super::crash::Crash;
 use super::foreign::{Kind, Reply};
 use super::library::{Name, Session};
 use super::record::{Call, Record};
 use crate::limits::Limits;
 use crate::power::Effect;
-use crate::{Config, Error, Selections};
-use std::collections::BTreeMap;
+use crate::{Config, Error};
 use std::sync::{Mutex, MutexGuard, PoisonError};
 
 /// The state of files, with what doesn't change.
@@ -27,8 +27,6 @@ pub(crate) struct State {
     pub(crate) life: u64,
     /// Whether an open truncated a file in this life.
     has_truncated: bool,
-    /// Descriptors that only tell the sizes of inodes. They stay open, since a close may make a file durable.
-    sizers: BTreeMap<u64, u64>,
 }
 
 impl Shared {
@@ -54,7 +52,6 @@ impl State {
             is_unset: false,
             life: 0,
             has_truncated: false,
-            sizers: BTreeMap::new(),
         }
     }
 
@@ -107,20 +104,6 @@ impl State {
         matches!(found, Err(Error::NotFound))
     }
 
-    /// Returns the size of an inode that is a file.
-    pub(crate) fn size_of(&mut self, inode: u64) -> Result<u64, Error> {
-        let session = &mut self.session;
-        let sizer = match self.sizers.get(&inode) {
-            Some(sizer) => *sizer,
-            None => {
-                let opened = session.apply(&Call::of_number(Kind::OpenInode, inode, 0))?;
-                self.sizers.insert(inode, opened.number);
-                opened.number
-            }
-        };
-        Ok(session.apply(&Call::of_number(Kind::Size, sizer, 0))?.size)
-    }
-
     /// Returns the names in a directory.
     pub(crate) fn list(&mut self, path: &[u8]) -> Result<Vec<Name>, Error> {
         let count = self.by_path(Kind::List, path)?.size;
@@ -132,17 +115,15 @@ impl State {
     }
 
     /// Crashes and recovers. Returns what was kept of each pending write and of each unsettled edit.
-    pub(crate) fn crash(&mut self) -> Result<(Selections, Vec<bool>), Error> {
+    pub(crate) fn crash(&mut self) -> Result<Crash, Error> {
         let reply = self.by_number(Kind::Crash, 0)?;
-        let writes = self.session.kept_bytes(reply.size);
-        let edits = self.session.kept_edits(reply.number);
-        self.record(|record| record.push_kept(&writes, &edits));
+        let kept = self.session.kept(&reply);
+        self.record(|record| record.push_kept(&kept.writes, &kept.edits));
         self.limits.power.follow(Effect::Crashes);
         self.limits.power.follow(Effect::Reopens);
         self.life += 1;
         self.has_truncated = false;
-        self.sizers.clear();
-        Ok((writes, edits))
+        Ok(kept)
     }
 
     /// Replaces the faults, or leaves the earlier ones. If these can't be set again, the next call sets them first, or returns

@@ -8,16 +8,18 @@ pub fn half() -> Probability {
     Probability::new(1, 2).unwrap()
 }
 
-/// Files of which a crash keeps any sectors of unsynced writes.
-pub fn builder(profile: Profile) -> Builder {
-    let kept = WriteConfig {
+/// No fault, and a crash keeps any sectors of unsynced writes.
+pub fn config() -> Config {
+    Config::default().write(WriteConfig {
         failure_rate: Probability::ZERO,
         retention_rate: half(),
         mode: PartialWriteMode::Sectors(SECTOR as u64),
-    };
-    Files::builder()
-        .profile(profile)
-        .config(Config::default().write(kept))
+    })
+}
+
+/// Files of which a crash keeps any sectors of unsynced writes.
+pub fn builder(profile: Profile) -> Builder {
+    Files::builder().profile(profile).config(config())
 }
 
 /// Sectors of letters, and of zeros for `0`.
