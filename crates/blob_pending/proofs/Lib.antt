@@ -12,6 +12,7 @@ pub mod Left
 pub mod ListSteps
 pub mod Marking
 pub mod Numbering
+pub mod Owning
 pub mod Queued
 pub mod Removing
 pub mod Taking

@@ -1,5 +1,6 @@
 -- The numbers of the markers of a pending list, step by step.
-use Rattle.std.proofs.Common.{◌≡◌, ⊎_elim, ℕ, zero, suc, ◌+◌, ◌<◌, Bool, true, false, eqb, ◌||◌, List, [], ◌∷◌, ◌++◌, length, get_or, drop, position, Some, None, refl, sym, ◌∙◌, ap, ap₂, arith, add-one}
+use Rattle.std.proofs.Common.{◌≡◌, ⊎_elim, ℕ, zero, suc, ◌+◌, ◌<◌, Bool, true, false, eqb, ◌||◌, List, [], ◌∷◌, ◌++◌, length, get_or, take, drop, position, Some, None, refl, sym, ◌∙◌, ap, ap₂, arith, add-one}
+use Rattle.std.proofs.lemmas.List.{take-append-drop}
 use Rattle.std.specs.List.{position_from}
 use Rattle.std.proofs.lemmas.Bool.{cases_Bool, cond_both, cond-true, cond-false}
 use Rattle.std.proofs.lemmas.List.Quantifiers.{position-Some}
@@ -43,6 +44,13 @@ unmarked m (Marker j ∷ q) i none = ⊎_elim
 pub finished_none : (m : ℕ) (q : List Pending) (ms : List ℕ) → ms ≡ marks_of q → None ≡ position (λ k. eqb k m) ms → q ≡ finish m q
 finished_none m q ms are at =
     sym (cond-false (has_mark m q) (entries_after m q) q (unmarked m q 0 (sym (position_from-zero (λ k. eqb k m) (marks_of q)) ∙ sym (at ∙ ap (position (λ k. eqb k m)) are))))
+
+-- the numbers that it drops, and then those that are left
+pub finished_front : (m : ℕ) (q : List Pending) (ms : List ℕ) (i : ℕ) → ms ≡ marks_of q → Some i ≡ position (λ k. eqb k m) ms → take (i + 1) ms ++ marks_of (finish m q) ≡ ms
+finished_front m q ms i are at = ap (λ (rest : List ℕ). take (i + 1) ms ++ rest) (sym (finished_marks m q ms i are at)) ∙ take-append-drop (i + 1) ms
+
+pub finished_all : (m : ℕ) (q : List Pending) (ms : List ℕ) → ms ≡ marks_of q → None ≡ position (λ k. eqb k m) ms → take 0 ms ++ marks_of (finish m q) ≡ ms
+finished_all m q ms are none = ap marks_of (sym (finished_none m q ms are none)) ∙ sym are
 
 -- one entry more
 pub marks-push : (q : List Pending) (e : Pending) → is_marker e ≡ false → marks_of (q ++ e ∷ []) ≡ marks_of q

@@ -83,7 +83,7 @@ taken_of {O} is js i n count inside len by = record {
 }
 
 -- from where one that is left comes
-source : {O : Type 0} (is js : List (Incarnation O)) (i : ℕ) → IsTaken is js i → (k : ℕ) (e : Incarnation O) → k < length js → (m : ℕ) × (m < length is) × (m ≢ i) × (get_or js k e ≡ get_or is m e)
+pub source : {O : Type 0} (is js : List (Incarnation O)) (i : ℕ) → IsTaken is js i → (k : ℕ) (e : Incarnation O) → k < length js → (m : ℕ) × (m < length is) × (m ≢ i) × (get_or js k e ≡ get_or is m e)
 source {O} is js i taken k e h = ⊎_elim
     (λ here. (length is - 1, omega (arith, taken.len), (λ last. omega (arith, taken.len, h, here, last)), ap (λ (n : ℕ). get_or js n e) here ∙ taken.moved e (omega (arith, taken.len, h, here))))
     (λ other. (k, omega (arith, taken.len, h), other, taken.same k e other (omega (arith, taken.len, h))))

@@ -3,6 +3,7 @@ pub mod Draws
 pub mod Lists
 pub mod Marks
 pub mod Numbers
+pub mod Owners
 pub mod Partition
 pub mod Ranges
 pub mod Replays

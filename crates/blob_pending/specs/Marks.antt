@@ -1,6 +1,6 @@
 -- The markers and the barriers of a pending list.
-use Rattle.std.specs.Prelude.{ℕ, List, [], ◌∷◌, count_by, drop}
-use Rattle.blob_model.specs.Pending.{Pending, Waiting, Cut, Again, Marker, is_barrier}
+use Rattle.std.specs.Prelude.{◌≡◌, ℕ, List, [], ◌∷◌, ◌++◌, count_by, drop}
+use Rattle.blob_model.specs.Pending.{Pending, Waiting, Cut, Again, Marker, is_barrier, finish}
 use Rattle.blob_pending.specs.declared.marks.Marks.{Marks}
 
 -- the numbers of its markers, in their order
@@ -18,3 +18,7 @@ left_marks marks = drop marks.dropped marks.numbers.items
 -- how many resizes and queued ranges it has
 abbrev pub barriers_in : List Pending → ℕ
 barriers_in q = count_by is_barrier q
+
+-- those markers are the ones that a finished sync drops from a list that has these
+abbrev pub AreFinished : ℕ → List ℕ → List ℕ → Type 0
+AreFinished marker marks done = (q : List Pending) → marks_of q ≡ marks → done ++ marks_of (finish marker q) ≡ marks

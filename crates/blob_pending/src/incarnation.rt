@@ -102,7 +102,8 @@ impl<O> Incarnation<O> {
     pub fn push_write(&mut self, write: PendingWrite)
         requires room { HasRoom Room.Entry self.old }
         requires whole { write.holes.items ≡ [] }
-        ensures { Becomes self.old self.new (left_in self.old.entries.items ++ left_in (Entry.Write write ∷ [])) }
+        ensures write { Becomes self.old self.new (left_in self.old.entries.items ++ left_in (Entry.Write write ∷ [])) }
+        ensures marks { self.new.marks ≡ self.old.marks }
     {
         self.entries.push(Entry::Write(write)).unwrap();
     }
@@ -110,7 +111,8 @@ impl<O> Incarnation<O> {
     /// Appends a resize to a length. The list has capacity for it.
     pub fn push_resize(&mut self, len: u64)
         requires { HasRoom Room.Entry self.old }
-        ensures { Becomes self.old self.new (left_in self.old.entries.items ++ left_in (Entry.Resize len ∷ [])) }
+        ensures resize { Becomes self.old self.new (left_in self.old.entries.items ++ left_in (Entry.Resize len ∷ [])) }
+        ensures marks { self.new.marks ≡ self.old.marks }
     {
         self.barriers += 1;
         self.queues = true;
@@ -134,6 +136,7 @@ impl<O> Incarnation<O> {
         requires copied { length copy.items ≤ len }
         ensures laid { LaysInto offset len copy.items self.old self.new }
         ensures origin { self.new.origin ≡ self.old.origin }
+        ensures marks { self.new.marks ≡ self.old.marks }
         ensures room { KeepsRest offset len (λ hs. HasRoomsFor hs self.old.entries) (λ hs. HasRoomsFor hs self.new.entries) }
         ensures half { vec_len self.new.entries ≤ 2 * length (left_in self.new.entries.items) }
     {

@@ -11,6 +11,7 @@ pub mod incarnation;
 pub mod lists;
 pub mod marks;
 pub mod naming;
+mod owners;
 pub mod partition;
 pub mod room;
 pub mod write;

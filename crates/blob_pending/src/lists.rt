@@ -7,14 +7,18 @@ ghost use Rattle.blob_model.specs.Order.{has_list};
 ghost use Rattle.blob_model.specs.Pending.{Marker};
 ghost use Rattle.blob_header.specs.Refusals.{IsMemory};
 ghost use Rattle.blob_pending.specs.Rooms.{CanCut, KeepsRest};
+ghost use Rattle.indexmap.specs.IndexMap.{get};
+ghost use Rattle.blob_pending.specs.Numbers.{AreIndexed};
+ghost use Rattle.blob_pending.specs.Owners.{AreOwned, IsStartedIn};
 ghost use Rattle.blob_pending.specs.Lists.{lists_of, IsAt, HasRoomIn, IsRoomAt, HasRangesAt, SameLists, AppendsAt, ChangesAt, IsCopyAt, LaysAt, AreDistinct, finished_in, StaysAt, RetiresList, TakesList, FinishesLists};
 
 use crate::entry::Entry;
 use crate::incarnation::Incarnation;
+use crate::owners::{forget, map_new, reserve_owner};
 use crate::room::Room;
 use crate::write::PendingWrite;
 use blob_base::{Blob, Durable, Error};
-use indexmap::IndexSet;
+use indexmap::{IndexMap, IndexSet};
 use std::alloc::{AllocError, Global};
 use std::marker::Model;
 
@@ -31,7 +35,11 @@ pub struct Distinct<O> {
 /// Once two of them have lists, the index is not used, and the lists are searched one by one, until the index is made again:
 /// by `clear`, or by a removal of a partition.
 ///
-/// The index takes memory only with a new list: if that is refused, the error is `Memory`, and the lists are unchanged.
+/// A marker's list is found by the number of its incarnation, in a map of all markers that are left. The map is not used once a
+/// marker has a number that another has, or once the lists are searched, until `clear`.
+///
+/// The index takes memory only with a new list, and the map only with a new marker: if that is refused, the error is `Memory`,
+/// and the lists are unchanged.
 #[derive(Drop)]
 pub struct Lists<S: Durable> {
     pub(crate) all: Distinct<S::Origin>,
@@ -39,11 +47,17 @@ pub struct Lists<S: Durable> {
     pub(crate) numbers: IndexSet<u64>,
     /// Whether the index is not used.
     pub(crate) searched: bool,
+    /// The number of each marker's incarnation.
+    pub(crate) owners: IndexMap<u64, u64>,
+    /// Whether the map is not used.
+    pub(crate) unmapped: bool,
 }
 
 impl<S: Durable> Model for Lists<S> {
     ghost use Rattle.blob_pending.specs.Shown.{Shown};
-    ghost use Rattle.blob_pending.specs.Numbers.{AreIndexed};
+    ghost use Rattle.std.specs.Prelude.{nat_eq};
+    ghost use Rattle.indexmap.specs.IndexMap.{get};
+    ghost use Rattle.blob_pending.specs.Owners.{AreFound};
 
     ghost Value = { Shown S.Origin };
 
@@ -54,7 +68,7 @@ impl<S: Durable> Model for Lists<S> {
 
     ghost view = { λ s. record { all = s.all } };
 
-    ghost invariant = { λ s. AreIndexed S.place s.all.lists.items s.numbers.keys s.searched };
+    ghost invariant = { λ s. AreFound S.place s.all.lists.items s.numbers.keys s.searched (get nat_eq s.owners) s.unmapped };
 }
 
 /// Completes a started sync in each list.
@@ -94,6 +108,23 @@ fn find_by_steps<S: Durable>(lists: &[Incarnation<S::Origin>], origin: &S::Origi
     None
 }
 
+/// Returns the index of the list that has a marker, by the map of the markers and the index of the lists.
+fn find_started<S: Durable>(
+    lists: &[Incarnation<S::Origin>],
+    numbers: &IndexSet<u64>,
+    owners: &IndexMap<u64, u64>,
+    marker: u64,
+) -> Option<usize>
+    requires indexed { AreIndexed S.place lists.now numbers.now.keys false }
+    requires owned { AreOwned S.place lists.now (get nat_eq owners.now) }
+    ensures { IsStartedIn S.place lists.now marker result }
+{
+    let Some(owner) = owners.get(&marker) else {
+        return None;
+    };
+    numbers.get_index_of(owner)
+}
+
 impl<S: Durable> Lists<S> {
     /// Returns no lists.
     pub fn new(alloc: Global) -> Lists<S>
@@ -105,6 +136,8 @@ impl<S: Durable> Lists<S> {
             },
             numbers: IndexSet::new(alloc),
             searched: false,
+            owners: IndexMap::new(alloc),
+            unmapped: false,
         }
     }
 
@@ -122,6 +155,8 @@ impl<S: Durable> Lists<S> {
         self.all.lists.clear();
         self.numbers.clear();
         self.searched = false;
+        self.owners.clear();
+        self.unmapped = false;
     }
 
     /// Returns the index of an incarnation's list. Tries `hint` first.
@@ -160,12 +195,12 @@ impl<S: Durable> Lists<S> {
         self.all.lists.push(Incarnation::new(alloc, origin))?;
         let added = insert_new(&mut self.numbers, number);
         self.searched = self.searched || !added;
+        self.unmapped = self.unmapped || self.searched;
         Ok(i)
     }
 
-    /// Reserves capacity in the list of a handle's incarnation and returns its index. Tries `hint` first, and adds the list if
-    /// there is none. The only error is `Memory`. The lists then have the same entries.
-    pub fn room_for<B: Blob<S>>(
+    /// Does `room_for`, except that it reserves nothing in the map of the markers.
+    fn reserve_list<B: Blob<S>>(
         &mut self,
         blob: &B,
         hint: usize,
@@ -181,6 +216,22 @@ impl<S: Durable> Lists<S> {
         };
         self.all.lists[i].reserve(room)?;
         Ok(i)
+    }
+
+    /// Reserves capacity in the list of a handle's incarnation and returns its index. Tries `hint` first, and adds the list if
+    /// there is none. The only error is `Memory`. The lists then have the same entries.
+    pub fn room_for<B: Blob<S>>(
+        &mut self,
+        blob: &B,
+        hint: usize,
+        room: Room,
+    ) -> Result<usize, Error>
+        ensures same { SameLists S.place self.old.all.lists.items self.new.all.lists.items }
+        ensures ok { IfOk result (λ i. IsRoomAt S.place self.new.all.lists.items i (B.place blob.now) room) }
+        ensures memory { OnErr result (IsMemory result) }
+    {
+        reserve_owner(&mut self.owners, room)?;
+        self.reserve_list(blob, hint, room)
     }
 
     /// Appends a write without holes to the list at `i`, which has capacity for it.
@@ -206,6 +257,9 @@ impl<S: Durable> Lists<S> {
         ensures { ChangesAt S.place self.old.all.lists.items self.new.all.lists.items i (λ q. q ++ Marker number ∷ []) }
     {
         self.all.lists[i].mark(number);
+        let owner = S::number_of(&self.all.lists[i].origin);
+        let mapped = map_new(&mut self.owners, self.unmapped, number, owner);
+        self.unmapped = !mapped;
     }
 
     /// Returns the `copy` for `lay`: a copy of the bytes if the list at `i` queues durable ranges, otherwise no bytes. The only
@@ -241,8 +295,9 @@ impl<S: Durable> Lists<S> {
         requires { i < vec_len self.old.all.lists }
         ensures { TakesList S.place self.old.all.lists.items self.new.all.lists.items i }
     {
-        self.all.lists.swap_remove(i);
+        let list = self.all.lists.swap_remove(i);
         if !self.searched {
+            forget(&mut self.owners, list.marks.left());
             self.numbers.swap_remove_index(i);
         }
     }
@@ -260,6 +315,15 @@ impl<S: Durable> Lists<S> {
     pub fn finish(&mut self, marker: u64)
         ensures { FinishesLists S.place self.old.all.lists.items self.new.all.lists.items marker }
     {
-        finish_all(&mut self.all.lists, marker);
+        if self.unmapped {
+            finish_all(&mut self.all.lists, marker);
+            return;
+        }
+        let all = &self.all;
+        let Some(i) = find_started::<S>(&all.lists, &self.numbers, &self.owners, marker) else {
+            return;
+        };
+        forget(&mut self.owners, self.all.lists[i].marks.through(marker));
+        self.all.lists[i].finish(marker);
     }
 }

@@ -46,7 +46,7 @@ fn place_by_steps(marks: &[u64], number: u64) -> Option<usize>
 
 impl Marks {
     ghost use Rattle.std.specs.Prelude.{◌<◌, ◌++◌, ◌∷◌, [], OnOk, vec_capacity};
-    ghost use Rattle.blob_pending.specs.Marks.{left_marks};
+    ghost use Rattle.blob_pending.specs.Marks.{left_marks, AreFinished};
 
     /// Returns no numbers.
     pub fn new(alloc: Global) -> Marks
@@ -82,11 +82,29 @@ impl Marks {
     pub fn place_of(&self, number: u64) -> Option<usize>
         ensures { result ≡ position (λ mark. mark == number) (left_marks self.now) }
     {
-        let left = &self.numbers[self.dropped..];
+        let left = self.left();
         if self.sorted {
             return place_by_halves(left, number);
         }
         place_by_steps(left, number)
+    }
+
+    /// Returns those that are left.
+    pub fn left(&self) -> &[u64]
+        ensures { result.now ≡ left_marks self.now }
+    {
+        &self.numbers[self.dropped..]
+    }
+
+    /// Returns those that are left up to and including a number, none if it isn't among them.
+    pub fn through(&self, number: u64) -> &[u64]
+        ensures { AreFinished number (left_marks self.now) result.now }
+    {
+        let count = match self.place_of(number) {
+            Some(place) => place + 1,
+            None => 0,
+        };
+        &self.left()[..count]
     }
 
     /// Drops the first `count` of those that are left. Removes the dropped ones once they are more than half.

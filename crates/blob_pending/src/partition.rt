@@ -129,6 +129,8 @@ impl<S: Durable> Lists<S> {
             drop_noted(&mut self.all.lists);
             let all = &self.all;
             self.searched = index_all::<S>(&mut self.numbers, &all.lists);
+            self.owners.clear();
+            self.unmapped = true;
             return;
         };
         for number in &ending {

@@ -9,8 +9,9 @@ use Rattle.blob_pending.specs.Shown.{Shown}
 use Rattle.blob_pending.proofs.Distinct.{distinct_push}
 use Rattle.blob_pending.proofs.ListSteps.{added, held_at_add, at_add, held_len}
 use Rattle.blob_pending.proofs.Numbering.{indexed_push, not_false}
+use Rattle.blob_pending.proofs.Owning.{owned_push}
 use Rattle.blob_pending.proofs.lists.Lists.add.Goals as goal
-use Rattle.blob_pending.proofs.lists.Lists.add.Goals.{then-self, else-self}
+use Rattle.blob_pending.proofs.lists.Lists.add.Goals.{then-self, else-self, then-self-2, else-self-2}
 
 pub returns-clause-same : goal.returns-clause-same
 returns-clause-same g c = rw (← c.self.view_is) (λ o. ap (λ (hs : List ListAt). held_at hs o) (added g.S.Durable.place _ _ _ c.args.origin c.in_ok-push.ensures.items c.new.ensures.origin c.new.ensures.entries) ∙ held_at_add (lists_of g.S.Durable.place c.self.inside.all.lists.items) (g.S.Durable.place c.args.origin) o)
@@ -47,6 +48,14 @@ invariant_of-self-2 g c =
       | then-self w ↦ λ f. absurd (true≢false (sym w.if-self.true ∙ sym w.self-is ∙ f))
       | else-self w ↦ λ f. (w.if-self.false, not_false c.insert_new-added.result (sym w.self-is ∙ f))
     ] in
-    subst (λ (js : List (Incarnation g.row.S-Origin.Denot)). AreIndexed place js c.insert_new-added.new.numbers.keys c.if-self.self) (sym c.in_ok-push.ensures.items)
-    (indexed_push place is c.new.result c.self.inside.numbers.keys c.insert_new-added.new.numbers.keys c.self.inside.searched c.insert_new-added.result c.if-self.self c.number_of-number.result number
-    (λ t. c.insert_new-added.ensures.added t ∙ ap (λ (ks : List ℕ). ks ++ c.number_of-number.result ∷ []) keys) c.insert_new-added.ensures.distinct only c.self.invariant)
+    let mapped : c.if-self-2.self ≡ false → (c.self.inside.unmapped ≡ false) × (c.if-self.self ≡ false) = elim c.if-self-2.branch [
+      | then-self-2 w ↦ λ f. absurd (true≢false (sym w.if-self-2.true ∙ sym w.self-is ∙ f))
+      | else-self-2 w ↦ λ f. (w.if-self-2.false, sym w.self-is ∙ f)
+    ] in
+    record {
+      lists = subst (λ (js : List (Incarnation g.row.S-Origin.Denot)). AreIndexed place js c.insert_new-added.new.numbers.keys c.if-self.self) (sym c.in_ok-push.ensures.items)
+          (indexed_push place is c.new.result c.self.inside.numbers.keys c.insert_new-added.new.numbers.keys c.self.inside.searched c.insert_new-added.result c.if-self.self c.number_of-number.result number
+          (λ t. c.insert_new-added.ensures.added t ∙ ap (λ (ks : List ℕ). ks ++ c.number_of-number.result ∷ []) keys) c.insert_new-added.ensures.distinct only c.self.invariant.lists);
+      indexed = λ u. (mapped u).1;
+      markers = λ u. owned_push place is _ (place c.args.origin) _ (added place _ is _ c.args.origin c.in_ok-push.ensures.items c.new.ensures.origin c.new.ensures.entries) (c.self.invariant.markers (mapped u).0);
+    }

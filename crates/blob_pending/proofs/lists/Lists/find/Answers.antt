@@ -20,7 +20,7 @@ pub returns-in_default-clause-none : goal.returns-in_default-clause-none
 returns-in_default-clause-none g c =
     let place = g.S.Durable.place in
     let keys = c.self.inside.numbers.keys in
-    let ix : AreIndexed place c.self.inside.all.lists.items keys false = used c.self.invariant (search rules) in
+    let ix : AreIndexed place c.self.inside.all.lists.items keys false = used c.self.invariant.lists (search rules) in
     let none : position (nat_eq c.number_of-number.result) keys ≡ None = search rules in
     rw (← c.self.view_is) (none_of_number place c.self.inside.all.lists.items keys ix (place c.args.origin.now) c.number_of-number.result (search rules) none)
 
@@ -30,7 +30,7 @@ returns-then-eq-2-clause-some g c =
     let is = c.self.inside.all.lists.items in
     let i = c.in-Some.i in
     let same : g.S.Origin.PartialEq.eq c.index-2.result.now.origin c.args.origin.now ≡ true = sym c.eq-2.ensures ∙ c.if-eq-2.true in
-    let ix : AreIndexed place is c.self.inside.numbers.keys false = used c.self.invariant (search rules) in
+    let ix : AreIndexed place is c.self.inside.numbers.keys false = used c.self.invariant.lists (search rules) in
     let at : position (nat_eq c.number_of-number.result) c.self.inside.numbers.keys ≡ Some i = search rules in
     rw (← c.self.view_is) (at_of place is i c.index-2.result.now (place c.args.origin.now) g.met.S.Durable.one_origin c.self.inside.all.distinct (found_number place is c.self.inside.numbers.keys ix c.number_of-number.result i at).0
     (ap (λ (x : Incarnation g.row.S-Origin.Denot). same_place (place x.origin) (place c.args.origin.now)) (sym c.index-2.ensures)
@@ -42,7 +42,7 @@ returns-else-eq-2-clause-none g c =
     let is = c.self.inside.all.lists.items in
     let keys = c.self.inside.numbers.keys in
     let i = c.in-Some.i in
-    let ix : AreIndexed place is keys false = used c.self.invariant (search rules) in
+    let ix : AreIndexed place is keys false = used c.self.invariant.lists (search rules) in
     let at : position (nat_eq c.number_of-number.result) keys ≡ Some i = search rules in
     let other : g.S.Origin.PartialEq.eq c.index-2.result.now.origin c.args.origin.now ≡ false = sym c.eq-2.ensures ∙ c.if-eq-2.false in
     rw (← c.self.view_is) (none_but place is keys ix (place c.args.origin.now) c.number_of-number.result i (search rules) at

@@ -3,8 +3,8 @@ use Rattle.blob_model.specs.Pending.{Pending, has_barrier, apply_durable}
 use Rattle.blob_pending.specs.Lists.{list_of}
 use Rattle.blob_pending.specs.Views.{left_in}
 use Rattle.blob_pending.proofs.Distinct.{distinct_set, same_origin}
-use Rattle.blob_pending.proofs.Numbering.{indexed_set}
 use Rattle.blob_pending.proofs.ListSteps.{changed_list, changed_at, found, ranges_at, rooms_of}
+use Rattle.blob_pending.proofs.Owning.{found_set, kept_marks}
 use Rattle.blob_pending.proofs.lists.Lists.lay.Goals as goal
 
 pub returns-clause-lists : goal.returns-clause-lists
@@ -36,4 +36,5 @@ pub invariant_of-self : goal.invariant_of-self
 invariant_of-self g c =
     let is = c.self.inside.all.lists.items in
     let at : c.index_mut.result.now ≡ get_or is c.args.i c.index_mut.result.now = search rules in
-    indexed_set g.S.Durable.place is c.args.i c.lay.new.self c.self.inside.numbers.keys c.self.inside.searched (same_origin is c.args.i c.index_mut.result.now c.lay.new.self at c.lay.ensures.origin) c.self.invariant
+    found_set g.S.Durable.place is c.args.i c.index_mut.result.now c.lay.new.self c.self.inside.numbers.keys c.self.inside.searched _ c.self.inside.unmapped at c.lay.ensures.origin
+    (kept_marks c.index_mut.result.now c.lay.new.self c.lay.ensures.marks) c.self.invariant

@@ -20,7 +20,7 @@ pub returns-in-Some : goal.returns-in-Some
 returns-in-Some g c =
     let place = g.S.Durable.place in
     let is = c.self.inside.all.lists.items in
-    let ix : AreIndexed place is c.self.inside.numbers.keys false = used c.self.invariant (search rules) in
+    let ix : AreIndexed place is c.self.inside.numbers.keys false = used c.self.invariant.lists (search rules) in
     let at : position (nat_eq c.args.number) c.self.inside.numbers.keys ≡ Some c.in-Some.i = search rules in
     let takes : TakesList place is c.take.new.self.all.lists.items c.in-Some.i = subst (λ (v : Shown g.row.S-Origin.Denot). TakesList place v.all.lists.items c.take.new.self.all.lists.items c.in-Some.i) (sym c.self.view_is) c.take.ensures in
     rw (← c.self.view_is) (retires_some place is c.self.inside.numbers.keys ix c.take.new.self.all.lists.items c.args.number c.in-Some.i g.met.S.Durable.one_origin c.self.inside.all.distinct at takes)
@@ -29,6 +29,6 @@ pub returns-in_default : goal.returns-in_default
 returns-in_default g c =
     let place = g.S.Durable.place in
     let is = c.self.inside.all.lists.items in
-    let ix : AreIndexed place is c.self.inside.numbers.keys false = used c.self.invariant (search rules) in
+    let ix : AreIndexed place is c.self.inside.numbers.keys false = used c.self.invariant.lists (search rules) in
     let none : position (nat_eq c.args.number) c.self.inside.numbers.keys ≡ None = search rules in
     rw (← c.self.view_is) (retires_nothing place is c.self.inside.numbers.keys ix c.args.number none)
