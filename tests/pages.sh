@@ -28,7 +28,7 @@ for page in README.md CONTRIBUTING.md docs/*.md bindings/python/blobcrash/__init
         ok "the commands and examples of $page" python3 tests/pages.py "$page"
     fi
 done
-ok "the steps in Rattle of docs/LOG.md" python3 tests/pages.py --scratch "$work/scratch"
+ok "the steps in Rattle of docs/CLIENTS.md" python3 tests/pages.py --scratch "$work/scratch"
 python3 tests/pages.py --ways >"$work/ways"
 while read -r way; do
     lacking=
