@@ -58,14 +58,20 @@ has() {
 # has_python: whether there is a Python 3.8 or later.
 has_python() { python3 -c 'import sys; sys.exit(sys.version_info < (3, 8))' 2>/dev/null; }
 
-# add COMMAND ..: runs a test that prints `N passed, M failed` last, and adds its counts. Shows its other lines.
+# add COMMAND ..: runs a test that prints `N passed, M failed` last, with `, K skipped` if there is something, and adds its counts. Shows its
+# other lines. Without such a line, or if its status isn't 0 and it counts no failure, that is one failure.
 add() {
     "$@" >"$work/added" 2>&1
-    sed '/^[0-9]* passed, [0-9]* failed$/d' "$work/added"
+    status=$?
+    last='\([0-9]*\) passed, \([0-9]*\) failed'
+    sed "/^$last\$/d; /^$last, [0-9]* skipped\$/d" "$work/added"
     # shellcheck disable=SC2046
-    set -- $(sed -n 's/^\([0-9]*\) passed, \([0-9]*\) failed$/\1 \2/p' "$work/added" | tail -n 1)
-    passed=$((passed + ${1:-0}))
-    failed=$((failed + ${2:-1}))
+    set -- $(sed -n "s/^$last\$/\1 \2 0/p; s/^$last, \([0-9]*\) skipped\$/\1 \2 \3/p" "$work/added" | tail -n 1)
+    # shellcheck disable=SC2015
+    [ $# -eq 3 ] && { [ "$status" -eq 0 ] || [ "$2" -gt 0 ]; } || set -- "${1:-0}" 1 "${3:-0}"
+    passed=$((passed + $1))
+    failed=$((failed + $2))
+    skipped=$((skipped + $3))
 }
 
 # finish: prints the last line, `N passed, M failed` with `, K skipped` after it if K isn't 0, and exits.

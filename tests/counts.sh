@@ -75,6 +75,18 @@ expect 'what all others need' 1 'own.sh: there is no program
 script own pass 'exit 0'
 expect 'a script without a last line' 1 '7 passed, 1 failed' run_test
 
+# What a script adds of another test.
+while IFS='|' read -r does wanted; do
+    script own pass "add sh -c '$does'"
+    expect "a test that does: $does" "${wanted%% *}" "${wanted#* }" sh "$copy/tests/own.sh"
+done <<'ADDED'
+echo 2 passed, 0 failed|0 3 passed, 0 failed
+echo 2 passed, 1 failed; exit 1|1 3 passed, 1 failed
+echo 2 passed, 0 failed, 3 skipped|0 3 passed, 0 failed, 3 skipped
+echo 2 passed, 0 failed; exit 1|1 3 passed, 1 failed
+echo nothing|1 1 passed, 1 failed
+ADDED
+
 # The table, with a crate more than a fifth above its budget and one without a budget.
 printf 'blob_a 100 20 0\nblob_b 100 21 0\nblob_d 1 2 3\n' >"$work/times"
 printf '# crate proof edits tests\nblob_a 50 50 0 # raised\nblob_b 50 50 0\n' >"$work/budget"

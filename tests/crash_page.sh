@@ -19,20 +19,6 @@ ok() {
     fi
 }
 
-# add COMMAND..: runs tests that end in `N passed, M failed`, and counts them.
-add() {
-    "$@" >"$work/told" 2>&1
-    counts=$(sed -n '$s/^\([0-9]*\) passed, \([0-9]*\) failed$/\1 \2/p' "$work/told")
-    if [ -z "$counts" ]; then
-        fail "$2 has no last line"
-        tail -n 20 "$work/told"
-        return
-    fi
-    sed '$d' "$work/told"
-    passed=$((passed + ${counts% *}))
-    failed=$((failed + ${counts#* }))
-}
-
 if ! has_python; then
     skip 'the page of a run: it needs Python 3.8 or later'
     finish

@@ -2,39 +2,18 @@
 # Tests of explorations of code: in C (bindings/c/explore.c, a log with power losses in explore_log.c, and programs on files in
 # explore_files.c), in Python (tests/explore_bodies.py, explore_bounds.py), and the log of examples/log.py over
 # every outcome of small runs, with planted bugs (tests/explore_log.py). The last line is `N passed, M failed`.
-set -u
-
 top=$(CDPATH='' cd -- "$(dirname -- "$0")/.." && pwd -P)
-work=$(mktemp -d)
-trap 'rm -rf "$work"' EXIT
-passed=0
-failed=0
-skipped=0
+# shellcheck source=tests/counting.sh
+. "$top/tests/counting.sh"
 
-skip() {
-    echo "explore_bodies.sh: skipped: $1"
-    skipped=$((skipped + 1))
-    if [ "${CI:-}" = true ]; then failed=$((failed + 1)); fi
-}
-
+# tell STATUS NAME: counts a test, and shows what it printed if it failed.
 tell() {
     if [ "$1" -eq 0 ]; then
-        passed=$((passed + 1))
+        pass
     else
-        failed=$((failed + 1))
-        echo "explore_bodies.sh: FAILED: $2"
+        fail "$2"
         tail -n 40 "$work/out"
     fi
-}
-
-finish() {
-    if [ "$skipped" -gt 0 ]; then
-        echo "$passed passed, $failed failed, $skipped skipped"
-    else
-        echo "$passed passed, $failed failed"
-    fi
-    [ "$failed" -eq 0 ]
-    exit
 }
 
 # with_distributed: the Python that has Dask's executor, if one has.
@@ -48,26 +27,7 @@ with_distributed() {
     echo python3
 }
 
-# add COMMAND..: runs a test, and adds its counts.
-add() {
-    "$@" >"$work/out" 2>&1
-    status=$?
-    cat "$work/out"
-    counts=$(sed -n 's/^\([0-9]*\) passed, \([0-9]*\) failed$/\1 \2 0/p
-        s/^\([0-9]*\) passed, \([0-9]*\) failed, \([0-9]*\) skipped$/\1 \2 \3/p' "$work/out" | tail -n 1)
-    # shellcheck disable=SC2086
-    set -- ${counts:-0 1 0}
-    [ "$status" -eq 0 ] || [ "$2" -gt 0 ] || set -- "$1" 1 "$3"
-    passed=$((passed + $1))
-    failed=$((failed + $2))
-    skipped=$((skipped + $3))
-}
-
-if ! sh "$top/bindings/build.sh"; then
-    echo "explore_bodies.sh: the library can't be built"
-    echo "0 passed, 1 failed"
-    exit 1
-fi
+sh "$top/bindings/build.sh" || give_up "the library can't be built"
 compiler=${CC:-cc}
 if ! command -v "$compiler" >/dev/null; then
     skip 'C and Python: there is no C compiler'

@@ -7,6 +7,13 @@ top=$(CDPATH='' cd -- "$(dirname -- "$0")/.." && pwd -P)
 . "$top/tests/counting.sh"
 program=$("$top/tools/built" test_rows) || give_up "test_rows can't be built"
 
+for words in '' --help blob_base 'test_rows more'; do
+    # shellcheck disable=SC2086
+    "$top/tools/built" $words >"$work/out" 2>"$work/err"
+    [ $? -eq 2 ] && [ ! -s "$work/out" ] && grep -q '^usage: ' "$work/err"
+    ok "tools/built with '$words'" [ $? -eq 0 ]
+done
+
 # check NAME STATUS OUTPUT FILE..: plays files of tests/rows.
 check() {
     name=$1
