@@ -22,7 +22,7 @@ to=${DESTDIR:-}$prefix
 # shellcheck source=tools/building.sh
 . "$top/tools/building.sh"
 
-for word in '' explain explore; do
+for word in '' explain explore files; do
     # shellcheck disable=SC2086
     "$top/blobcrash" build $word
 done
@@ -45,7 +45,7 @@ put() {
     mv -f "$3.new.$$" "$3"
 }
 
-for name in blobcrash blobcrash_explain blobcrash_explore; do
+for name in blobcrash blobcrash_explain blobcrash_explore blobcrash_files; do
     put 755 "$top/out/$name" "$to/libexec/blobcrash/$name"
 done
 cat >"$work/blobcrash" <<PROGRAM
@@ -58,7 +58,7 @@ case \$#:\${1:-} in
 $(help_of_all)
 HELP
     ;;
-*:explain | *:explore)
+*:explain | *:explore | *:files)
     name=blobcrash_\$1
     shift
     ;;

@@ -22,9 +22,9 @@ help_of() {
 
 # help_of_all [LINE ..]: the help of a launcher of all programs, with further lines.
 help_of_all() {
-    echo 'usage: blobcrash [explain|explore|resolve|help|version]'
+    echo 'usage: blobcrash [explain|explore|files|resolve|help|version]'
     echo
-    for of in blobcrash blobcrash_explain blobcrash_explore; do help_of "$of" | grep '^  '; done
+    for of in blobcrash blobcrash_explain blobcrash_explore blobcrash_files; do help_of "$of" | grep '^  '; done
     [ $# -eq 0 ] || printf '%s\n' "$@"
     echo
     help_of blobcrash | tail -n 1

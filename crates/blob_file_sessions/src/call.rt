@@ -92,6 +92,7 @@ impl FileReply {
             Reply::Found(binding) => FileReply::bound(binding, DONE, 0),
             Reply::Size(size) => FileReply::numbered(0, *size),
             Reply::Names(names) => FileReply::numbered(0, names.len() as u64),
+            Reply::Tree(entries) => FileReply::numbered(0, entries.len() as u64),
             Reply::Crashed(crash) => {
                 FileReply::numbered(crash.edits.len() as u64, crash.rows.rows().len() as u64)
             }

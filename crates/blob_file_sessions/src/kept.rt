@@ -10,9 +10,9 @@ use crate::kinds::{
     CLOSE, CRASH, CREATE, CREATE_AT, FIND, FIND_AT, INODE_OF, LINK, LINK_AT, LIST, LIST_AT,
     MAKE_DIRECTORY, MAKE_DIRECTORY_AT, OPEN, OPEN_INODE, OPEN_TRUNCATED, REMOVE_DIRECTORY,
     REMOVE_DIRECTORY_AT, RENAME, RENAME_AT, SETTLE, SIZE, SYNC, SYNC_ALL, SYNC_DATA,
-    SYNC_DIRECTORY, SYNC_DIRECTORY_AT, TRUNCATE, UNLINK, UNLINK_AT,
+    SYNC_DIRECTORY, SYNC_DIRECTORY_AT, TREE, TRUNCATE, UNLINK, UNLINK_AT,
 };
-use crate::reply::{Reply, crashed, done, found, inode, listed, opened, sized};
+use crate::reply::{Reply, crashed, done, found, inode, listed, opened, sized, walked};
 use crate::setting::read_file_setting;
 use blob_fs::{Descriptor, FileSystem, Rename};
 use blob_lab::ScriptedRng;
@@ -166,8 +166,14 @@ impl KeptFiles {
             SYNC_ALL => done(self.fs.sync_all()),
             SETTLE => done(self.fs.settle()),
             CRASH => crashed(self.fs.crash()),
+            TREE => walked(self.fs.tree()),
             _ => return None,
         })
+    }
+
+    /// Returns the reply to the last call, if there was one.
+    pub fn reply(&self) -> Option<&Reply> {
+        self.last.as_ref()
     }
 
     /// Returns the numbers of the reply to the last call. Before the first call it is `DONE`.

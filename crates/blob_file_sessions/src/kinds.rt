@@ -60,3 +60,5 @@ pub const SYNC_ALL: u32 = 48;
 pub const SETTLE: u32 = 49;
 /// Crashes and recovers.
 pub const CRASH: u32 = 50;
+/// Returns all paths with the bytes of files, without a draw.
+pub const TREE: u32 = 51;

@@ -13,6 +13,7 @@ pub mod paths;
 mod recovery;
 pub mod renames;
 pub mod syncs;
+pub mod whole;
 
 pub use blob_directory::{
     Binding, Change, Edit, Keeps, Kind, Profile, Settles, edit, profile, sector, table,
@@ -21,3 +22,4 @@ pub use crash::Crash;
 pub use error::FsError;
 pub use file_system::{Descriptor, FileSystem, Options, ROOT};
 pub use renames::Rename;
+pub use whole::TreeEntry;
