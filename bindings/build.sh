@@ -1,23 +1,17 @@
 #!/bin/sh
-# Proves and builds the library for other languages: out/libblobcrash.a for C and Rust and, if there is a C compiler,
-# out/libblobcrash.so for Python. Each depends only on the C library. Does nothing if they are current. `./test` calls it with
-# `--over-gate` after a gate that passed.
+# Proves and builds the library for other languages: out/libblobcrash.a for C and Rust, out/libblobcrash.so for Python. Each depends only
+# on the C library, and its bytes only on the sources and the toolchain, which also links. Does nothing if they are current. `./test`
+# calls it with `--over-gate` after a gate that passed.
 set -eu
 
 top=$(CDPATH='' cd -- "$(dirname -- "$0")/.." && pwd -P)
 out=$top/out
-compiler=${CC:-cc}
-command -v "$compiler" >/dev/null || compiler=
 
 # shellcheck source=tools/building.sh
 . "$top/tools/building.sh"
 
-has_shared() {
-    is_built "$out/libblobcrash.so" blob_c && grep -qF "$(soname)" "$out/libblobcrash.so"
-}
-
 are_built() {
-    is_built "$out/libblobcrash.a" blob_c && { [ -z "$compiler" ] || has_shared; }
+    is_built "$out/libblobcrash.a" blob_c && is_built "$out/libblobcrash.so" blob_c && grep -qF "$(soname)" "$out/libblobcrash.so"
 }
 
 ! are_built || exit 0
@@ -85,15 +79,15 @@ if ! build "$@"; then
     exit 1
 fi
 
-# The commands of `ar -M` can't name a path with spaces.
+# The commands of `llvm-ar -M` can't name a path with spaces.
 ln -s "$heap" "$work/heap.a"
-(cd "$work" && printf 'create whole.a\naddlib libblob_c.a\naddlib heap.a\nsave\nend\n' | ar -M)
+(cd "$work" && printf 'create whole.a\naddlib libblob_c.a\naddlib heap.a\nsave\nend\n' | "$kit/toolchain/bin/llvm-ar" -M)
 cp "$work/whole.a" "$out/libblobcrash.a.new"
-place "$out/libblobcrash.a" "$out/libblobcrash.a.new" "$sum" "$out/bindings.began"
 
-if [ -n "$compiler" ]; then
-    echo '{ global: blobcrash_*; local: *; };' >"$out/libblobcrash.map"
-    "$compiler" -shared -o "$out/libblobcrash.so.new" -Wl,-soname,"$(soname)" -Wl,--version-script="$out/libblobcrash.map" \
-        -Wl,--whole-archive "$library" -Wl,--no-whole-archive "$heap"
-    place "$out/libblobcrash.so" "$out/libblobcrash.so.new" "$sum" "$out/bindings.began"
-fi
+# The shared library exports the calls alone.
+echo '{ global: blobcrash_*; local: *; };' >"$work/exports"
+"$kit/toolchain/bin/ld.lld" -m elf_x86_64 -shared -soname "$(soname)" --version-script "$work/exports" -z defs -z relro -z now \
+    -z noexecstack --eh-frame-hdr --gc-sections --build-id=sha1 --fatal-warnings -o "$out/libblobcrash.so.new" \
+    --whole-archive "$library" --no-whole-archive "$heap" "$kit/toolchain/lib/libc.so.6"
+place "$out/libblobcrash.a" "$out/libblobcrash.a.new" "$sum" "$out/bindings.began"
+place "$out/libblobcrash.so" "$out/libblobcrash.so.new" "$sum" "$out/bindings.began"

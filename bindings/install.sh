@@ -1,7 +1,7 @@
 #!/bin/sh
-# bindings/install.sh PREFIX: installs the headers, both libraries, `blobcrash.pc`, the program and its manual page below PREFIX, an
-# absolute path of letters, digits and `/._+-`, since it is written into the launcher and `blobcrash.pc`. With DESTDIR they are put
-# below $DESTDIR$PREFIX, for a package. Builds first what isn't built; see out/*.log.
+# bindings/install.sh PREFIX: installs the headers, both libraries, `blobcrash.pc`, the programs with their manual page and completion for
+# bash, and the mount, if libfuse 3 is installed. PREFIX is an absolute path of letters, digits and `/._+-`, since it is written
+# into `blobcrash.pc`. With DESTDIR they are put below $DESTDIR$PREFIX, for a package. Builds first what isn't built; see out/*.log.
 set -eu
 
 top=$(CDPATH='' cd -- "$(dirname -- "$0")/.." && pwd -P)
@@ -22,17 +22,17 @@ to=${DESTDIR:-}$prefix
 # shellcheck source=tools/building.sh
 . "$top/tools/building.sh"
 
-for word in '' explain explore files; do
+for word in '' $(programs); do
     # shellcheck disable=SC2086
     "$top/blobcrash" build $word
 done
 sh "$top/bindings/build.sh"
-library=$top/out/libblobcrash.so
-if [ ! -f "$library" ]; then
-    echo "install.sh: there is no out/libblobcrash.so: it takes a C compiler" >&2
-    exit 1
-fi
 work=$(mktemp -d)
+tools='mount mountctl crash_run'
+if ! daemon=$(BLOBCRASH_ARCHIVE=$top/out/libblobcrash.a sh "$top/adapters/mount/build.sh" 2>"$work/said"); then
+    echo "install.sh: without the mount: $(tail -n 1 "$work/said")" >&2
+    tools=
+fi
 # Other users read what is installed.
 umask 022
 version=$("$top/out/blobcrash" version | sed 's/^blobcrash \([0-9.]*\).*/\1/')
@@ -45,35 +45,39 @@ put() {
     mv -f "$3.new.$$" "$3"
 }
 
-for name in blobcrash blobcrash_explain blobcrash_explore blobcrash_files; do
+for name in blobcrash $(programs | sed 's/^/blobcrash_/'); do
     put 755 "$top/out/$name" "$to/libexec/blobcrash/$name"
 done
-cat >"$work/blobcrash" <<PROGRAM
-#!/bin/sh
-# Runs the program, or that of its first argument.
-name=blobcrash
-case \$#:\${1:-} in
-1:help | 1:--help)
-    exec cat <<'HELP'
-$(help_of_all)
-HELP
-    ;;
-*:explain | *:explore | *:files)
-    name=blobcrash_\$1
-    shift
-    ;;
-esac
-exec "$prefix/libexec/blobcrash/\$name" "\$@"
-PROGRAM
-put 755 "$work/blobcrash" "$to/bin/blobcrash"
+put 755 "$top/bindings/launcher.sh" "$to/bin/blobcrash"
+help_of_all ${tools:+"$(mount_help)"} >"$work/help"
+put 644 "$work/help" "$to/share/blobcrash/help"
 for header in "$top"/bindings/c/*.h; do
     put 644 "$header" "$to/include/blobcrash/${header##*/}"
 done
 put 644 "$top/out/libblobcrash.a" "$to/lib/libblobcrash.a"
-put 755 "$library" "$to/lib/libblobcrash.so.$version"
+put 755 "$top/out/libblobcrash.so" "$to/lib/libblobcrash.so.$version"
 ln -sf "libblobcrash.so.$version" "$to/lib/$(soname)"
 ln -sf "$(soname)" "$to/lib/libblobcrash.so"
 put 644 "$top/bindings/blobcrash.1" "$to/share/man/man1/blobcrash.1"
+words=$(programs | tr '\n' ' ')$tools
+sed "s/@PROGRAMS@/${words% }/" "$top/bindings/blobcrash.bash" >"$work/completion"
+put 644 "$work/completion" "$to/share/bash-completion/completions/blobcrash"
+
+if [ -n "$tools" ]; then
+    put 755 "$daemon" "$to/libexec/blobcrash/blobcrash_mount"
+    for tool in $tools; do
+        put 755 "$top/tools/$tool" "$to/share/blobcrash/tools/$tool"
+    done
+    for module in "$top"/adapters/mount/*.py; do
+        put 644 "$module" "$to/share/blobcrash/adapters/mount/${module##*/}"
+    done
+    cat >"$work/build.sh" <<'BUILD'
+#!/bin/sh
+# The daemon of the mount is built.
+echo "$(CDPATH='' cd -- "$(dirname -- "$0")/../../../.." && pwd -P)/libexec/blobcrash/blobcrash_mount"
+BUILD
+    put 755 "$work/build.sh" "$to/share/blobcrash/adapters/mount/build.sh"
+fi
 
 mkdir -p "$to/lib/pkgconfig"
 cat >"$to/lib/pkgconfig/blobcrash.pc" <<PC

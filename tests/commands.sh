@@ -12,10 +12,6 @@ if ! has_python; then
 fi
 need_program explain
 sh "$top/bindings/build.sh" || give_up "the library can't be built"
-if [ ! -f "$top/out/libblobcrash.so" ]; then
-    skip 'all of it: the shared library is made by a C compiler'
-    finish
-fi
 BLOBCRASH=$program
 PYTHONPATH=$top/bindings/python
 PYTHONDONTWRITEBYTECODE=1
@@ -42,8 +38,18 @@ judge=$top/tools/judge
 shrink=$top/tools/shrink
 page=$top/tools/crash_page
 
-# Input that can't be read.
 : >"$work/in"
+# Help.
+for command in "$judge" "$shrink" 'python3 -m blobcrash' 'python3 -m blobcrash check' 'python3 -m blobcrash judge'; do
+    # shellcheck disable=SC2086
+    expect "${command##*/} --help" 0 '' $command --help
+    ok "what ${command##*/} --help prints" grep -q '^  judge   prints' "$work/out"
+done
+expect 'crash_page --help' 0 '' "$page" --help
+ok 'what crash_page --help prints' grep -q '^usage: crash_page' "$work/out"
+expect 'too many arguments' 2 'usage: python -m blobcrash' python3 -m blobcrash judge --help more
+
+# Input that can't be read.
 for command in "$judge" "$shrink"; do
     expect "${command##*/}: a missing file" 2 'No such file' "$command" "$work/none"
     expect "${command##*/}: a folder" 2 'Is a directory' "$command" "$work"

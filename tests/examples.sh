@@ -49,10 +49,6 @@ python3 "$top/examples/seeds.py" 1000 >"$work/kept"
 ok 'the log keeps its promise over 1,000 seeds' grep -qx '1000 seeds, none fails' "$work/kept"
 
 sh "$top/bindings/build.sh" || give_up "the library can't be built"
-if [ ! -f "$top/out/libblobcrash.so" ]; then
-    skip 'shrinking: the shared library is made by a C compiler'
-    finish
-fi
 python3 "$top/examples/seeds.py" 1000 --forget-sync >"$work/broken"
 ok 'a log that forgets its sync is found out' [ $? -eq 1 ]
 ok 'its seed is shown' grep -q '^seed [0-9]*: ' "$work/broken"

@@ -1,5 +1,5 @@
-"""What `explore`, `seeds` and `shrink` refuse of a body, what ends a run, and what reports say of paths and calls: by explored.sh, as
-explore_bodies.py. The last line is `N passed, M failed`. With the name of a test only that one is run."""
+"""What `explore`, `seeds` and `shrink` refuse of a body, what ends a run, and what reports say of paths and calls. explore_bodies.sh runs
+it. The last line is `N passed, M failed`. With the name of a test only that one is run."""
 
 import functools
 import gc

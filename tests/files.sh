@@ -6,8 +6,8 @@
 top=$(CDPATH='' cd -- "$(dirname -- "$0")/.." && pwd -P)
 # shellcheck source=tests/counting.sh
 . "$top/tests/counting.sh"
-if ! has_python || ! has "${CC:-cc}"; then
-    skip 'files in Python: they need Python 3.8 or later, and a C compiler, which makes the library'
+if ! has_python; then
+    skip 'files in Python: there is no Python 3.8 or later'
     finish
 fi
 sh "$top/bindings/build.sh" || give_up "the library can't be built"

@@ -4,13 +4,10 @@
 top=$(CDPATH='' cd -- "$(dirname -- "$0")/.." && pwd -P)
 # shellcheck source=tests/counting.sh
 . "$top/tests/counting.sh"
+release=$(sed -n 's/^const VERSION: &str = "blobcrash \([0-9.]*\),.*/\1/p' "$top/crates/blobcrash/src/main.rt")
 
 need_program explain explore
 sh "$top/bindings/build.sh" || give_up "the library can't be built"
-if [ ! -f "$top/out/libblobcrash.so" ]; then
-    skip 'all of it: the shared library is made by a C compiler'
-    finish
-fi
 prefix=$work/prefix
 ok 'it installs' sh "$top/bindings/install.sh" "$prefix"
 ok 'it installs again, over itself' sh "$top/bindings/install.sh" "$prefix/"
@@ -29,7 +26,7 @@ b'; do
     ok "a prefix that a shell would read: $hostile" expect_status 2 sh "$top/bindings/install.sh" "$work/$hostile"
 done
 
-cat >"$work/files" <<'FILES'
+cat >"$work/files" <<FILES
 bin/blobcrash
 include/blobcrash/blobcrash.h
 include/blobcrash/blobcrash_calls.h
@@ -41,14 +38,30 @@ include/blobcrash/fork.h
 include/blobcrash/power.h
 lib/libblobcrash.a
 lib/libblobcrash.so
-lib/libblobcrash.so.0.2
-lib/libblobcrash.so.0.2.0
+lib/libblobcrash.so.${release%.*}
+lib/libblobcrash.so.$release
 lib/pkgconfig/blobcrash.pc
 libexec/blobcrash/blobcrash
 libexec/blobcrash/blobcrash_explain
 libexec/blobcrash/blobcrash_explore
+share/bash-completion/completions/blobcrash
+share/blobcrash/help
 share/man/man1/blobcrash.1
 FILES
+if has pkg-config && pkg-config --atleast-version=3.10 fuse3; then
+    cat >>"$work/files" <<'FILES'
+libexec/blobcrash/blobcrash_mount
+share/blobcrash/adapters/mount/build.sh
+share/blobcrash/tools/crash_run
+share/blobcrash/tools/mount
+share/blobcrash/tools/mountctl
+FILES
+    (cd "$top" && ls adapters/mount/*.py) | sed 's|^|share/blobcrash/|' >>"$work/files"
+    ok 'the mount, from a folder that was moved' sh -c 'cp -R "$1" "$2" && "$2/bin/blobcrash" mountctl --help' sh "$prefix" "$work/moved"
+else
+    skip 'the mount: there is no libfuse 3'
+fi
+LC_ALL=C sort -o "$work/files" "$work/files"
 list() { (cd "$1" && find . ! -type d | sed 's|^\./||' | LC_ALL=C sort); }
 list "$prefix" >"$work/found"
 ok 'its files' diff "$work/files" "$work/found"
@@ -84,7 +97,7 @@ else
 fi
 if has readelf; then
     readelf -d "$prefix/lib/libblobcrash.so" >"$work/dynamic"
-    ok 'its SONAME' grep -q 'SONAME.*\[libblobcrash.so.0.2\]' "$work/dynamic"
+    ok 'its SONAME' grep -qF "[libblobcrash.so.${release%.*}]" "$work/dynamic"
 else
     skip 'its SONAME: there is no readelf'
 fi
@@ -98,7 +111,7 @@ if has pkg-config; then
     ok 'cc with pkg-config' "${CC:-cc}" -o first first.c $(pkg-config --cflags --libs blobcrash)
     LD_LIBRARY_PATH=$prefix/lib ./first >"$work/out"
     ok 'what it prints' grep -qx "$expected" "$work/out"
-    ok 'the version of pkg-config' [ "$(pkg-config --modversion blobcrash)" = 0.2.0 ]
+    ok 'the version of pkg-config' [ "$(pkg-config --modversion blobcrash)" = "$release" ]
 else
     skip 'pkg-config: it is missing'
 fi

@@ -1,5 +1,5 @@
 #!/bin/sh
-# The real LevelDB on the layer (bindings/leveldb): 20 seeds of each mode in which nothing may be lost; a lying sync and what
+# The real LevelDB on the layer (adapters/leveldb): 20 seeds of each mode in which nothing may be lost; a lying sync and what
 # docs/LEVELDB.md says of LevelDB 1.23 are found; the driver under the sanitizers. SEEDS is another number of seeds.
 # The last line is `N passed, M failed`, with `, K skipped` if a tool is missing.
 top=$(CDPATH='' cd -- "$(dirname -- "$0")/.." && pwd -P)
@@ -30,7 +30,7 @@ if ! echo '#include <leveldb/db.h>' | "$cxx" -x c++ -E - >/dev/null 2>&1; then
     skip "there is no $cxx with leveldb/db.h (Debian: g++, libleveldb-dev)"
     finish
 fi
-expect 'the driver is built' 0 sh bindings/leveldb/crash.sh --list
+expect 'the driver is built' 0 sh adapters/leveldb/crash.sh --list
 version=$(printf '#include <leveldb/db.h>\nint version = leveldb::kMajorVersion * 1000 + leveldb::kMinorVersion;\n' |
     "$cxx" -x c++ -E - | sed -n 's/.*\(kMajorVersion\|kMinorVersion\) = \([0-9]*\);.*/\2/p' | tr '\n' ' ')
 
@@ -66,7 +66,7 @@ sanitize='-O1 -g -fsanitize=address,undefined -fno-sanitize-recover=all'
 echo 'int main() { return 0; }' >"$work/empty.cc"
 # shellcheck disable=SC2086
 if "$cxx" $sanitize -o "$work/empty" "$work/empty.cc" 2>"$work/out" && "$work/empty"; then
-    expect 'the driver is built with sanitizers' 0 "$cxx" -std=c++17 $sanitize -Ibindings/c -o "$work/crash" bindings/leveldb/*.cc \
+    expect 'the driver is built with sanitizers' 0 "$cxx" -std=c++17 $sanitize -Ibindings/c -o "$work/crash" adapters/leveldb/*.cc \
         out/libblobcrash.a -lleveldb
     "$work/crash" 1 >"$work/table" 2>"$work/err"
     expect 'every mode, sanitized' 0 [ $? -le 1 ]

@@ -81,6 +81,25 @@ def test_names():
         check("names after a crash", tree(at) == before and os.stat(f"{at}/m").st_nlink == 2)
 
 
+def test_missing():
+    """The kernel may keep that a name is missing: a name that is made, or that a crash brings back, is found."""
+    with mounted("--keep", "0/1") as mount:
+        at = mount.at
+        os.mkdir(f"{at}/d")
+        put(f"{at}/f", A)
+        put(f"{at}/d/f", B)
+        mount.ask("settle")
+        os.unlink(f"{at}/f")
+        os.unlink(f"{at}/d/f")
+        os.rmdir(f"{at}/d")
+        check("names are missing", not any(os.path.exists(f"{at}/{name}") for name in ("f", "d", "d/f", "new")))
+        put(f"{at}/new", A)
+        check("a name that was missing", get(f"{at}/new") == A)
+        mount.ask("crash")
+        check("a crash brings names back", get(f"{at}/f") == A and get(f"{at}/d/f") == B)
+        check("and takes one", not os.path.exists(f"{at}/new"))
+
+
 def test_kinds():
     """Kinds, modes and owners survive with their inode."""
     with mounted("--keep", "0/1") as mount:
@@ -299,11 +318,10 @@ def test_kill():
 def main():
     """Runs all tests."""
     sanitized = sys.argv[2] if len(sys.argv) > 2 else None
-    tests = [lambda seed=seed: differential(seed, 400, PROGRAM) for seed in (1, 2, 3)]
-    if sanitized:
-        tests.append(lambda: differential(4, 400, sanitized))
+    programs = [PROGRAM] * 17 + [sanitized or PROGRAM] * 3
+    tests = [lambda seed=seed, program=program: differential(seed, 2500, program) for seed, program in enumerate(programs, 1)]
     tests.append(lambda: test_survivors(sanitized or PROGRAM))
-    tests += [test_profiles, test_stale, test_names, test_kinds, test_bytes, test_write_back, test_power, test_kill]
+    tests += [test_profiles, test_stale, test_names, test_missing, test_kinds, test_bytes, test_write_back, test_power, test_kill]
     for test in tests:
         began = time.time()
         try:

@@ -34,9 +34,33 @@ done
 run "$top/tools/mount" "$at" --frob
 ok 'no such option' [ "$status" -eq 2 ]
 
+# In a namespace of its own: without /dev/fuse, and as a user without a right to it.
+if [ "$(id -u)" -eq 0 ] && unshare -m true 2>/dev/null && has setpriv; then
+    run unshare -m sh -c 'mount -t tmpfs none /dev && exec "$0" "$1"' "$top/tools/mount" "$at"
+    docker='in a container: docker run --device /dev/fuse --cap-add SYS_ADMIN'
+    expect 'no /dev/fuse' 3 '' "mount: there is no /dev/fuse; $docker"
+    run unshare -m sh -c 'mount -t tmpfs none /dev && mknod -m 600 /dev/fuse c 10 229 && exec setpriv --reuid=65534 --clear-groups "$0" /' \
+        "$top/tools/mount"
+    expect 'no right' 3 '' "mount: no right to open /dev/fuse; $docker"
+else
+    leave_out 'a mount without /dev/fuse: this is not root, or there is no unshare or setpriv'
+fi
 if ! program=$(sh "$top/adapters/mount/build.sh" 2>"$work/err"); then
     cat "$work/err"
     give_up "the daemon can't be built"
+fi
+if [ "$(id -u)" -eq 0 ] && unshare -m true 2>/dev/null && has setpriv; then
+    # As another user, by fusermount3.
+    home=$(mktemp -d /tmp/blobcrash-user.XXXXXX)
+    mkdir "$home/m"
+    cp "$program" "$home/daemon"
+    chown -R 65534:65534 "$home"
+    # shellcheck disable=SC2016
+    run unshare -m sh -c 'mount -t tmpfs none /dev && mknod -m 666 /dev/fuse c 10 229 && mknod -m 666 /dev/null c 1 3 && cd "$0" &&
+        exec setpriv --reuid=65534 --regid=65534 --clear-groups sh -c "./daemon m --control s && echo hi >m/a && cat m/a && fusermount3 -u m"' \
+        "$home"
+    expect 'a mount without root' 0 "hi$line" ''
+    rm -rf "$home"
 fi
 run "$top/tools/mount" "$at"
 if [ "$status" -eq 3 ]; then
@@ -91,6 +115,29 @@ wait "$daemon" 2>/dev/null
 run "$top/tools/mountctl" "$at" umount
 expect 'umount after the daemon was killed' 0 '' ''
 ok 'the folder' ls "$at"
+# The fifo of LazyFS.
+"$top/tools/mount" "$at" --keep 0/1 --fifo "$work/fifo" --fifo-completed "$work/completed" --log "$work/fifo.log"
+# fifo COMMAND: writes it to the fifo, and waits until it is completed.
+fifo() {
+    echo "lazyfs::$1" >"$work/fifo"
+    run timeout 60 head -n 1 "$work/completed"
+    expect "fifo: $1" 0 "finished::$1$line" ''
+}
+ok 'the fifos are their owner'"'"'s alone' [ "$(stat -c '%a %F' "$work/fifo" "$work/completed" | sort -u)" = '600 fifo' ]
+echo kept >"$at/kept"
+fifo cache-checkpoint
+echo lost >"$at/lost"
+fifo unsynced-data-report
+ok 'what is unsynced' grep -qx 'unsynced: inode [0-9]* /lost 5 bytes' "$work/fifo.log"
+fifo clear-cache
+run ls "$at"
+expect 'a crash by the fifo' 0 "kept$line" ''
+fifo frob
+ok 'no such command of the fifo' grep -qx 'lazyfs::frob: error: no such command' "$work/fifo.log"
+run "$top/tools/mountctl" "$at" umount
+ok 'the fifos are removed' [ ! -e "$work/fifo" -a ! -e "$work/completed" ]
+run "$top/tools/mount" "$at" --fifo "$work/fifo.log"
+ok 'another file is no fifo' [ "$status" -eq 1 -a -f "$work/fifo.log" ]
 for bad in '--seed x' '--profile zfs' '--tear sectors' '--keep 3/2' '--keep 1' '--size 1X'; do
     # shellcheck disable=SC2086
     run "$top/tools/mount" "$at" $bad
@@ -121,6 +168,20 @@ ok 'the command that repeats a seed' [ -n "$again" ]
 (eval "$again") >"$work/again" 2>&1
 ok 'fails again' grep -q '^seed 3: lost$' "$work/again"
 ok 'with the same tree' diff -r "$work/tree" "$work/failed/seed-3/tree"
+# Seeds by an executor, as of a cluster.
+cat >"$work/cluster.py" <<'END'
+import sys
+from concurrent.futures import ProcessPoolExecutor
+
+sys.path.insert(0, "adapters/mount")
+from crash_seeds import main
+
+with ProcessPoolExecutor(2) as executor:
+    sys.exit(main(["--seeds", "3", "--work", "examples/mount_log.py append", "--check", "exit 2", "--out", sys.argv[1],
+                   "--stop-after", "9"], executor))
+END
+run python3 "$work/cluster.py" "$work/failed"
+ok 'an executor' grep -q '^| ext4 | 3 | 9 | [0-9]* | [0-9]* | 0 | 0 | 3 | 0 | 0 |$' "$work/out"
 run tools/crash_run --seeds 1 --work true --check false
 ok 'a check that fails without a crash' [ "$status" -eq 2 ]
 
@@ -136,6 +197,30 @@ if has sqlite3; then
     ok 'at FULL it loses a commit' grep -q '^seed .*: lost$' "$work/out"
 else
     skip 'SQLite: there is no sqlite3'
+fi
+# Real programs. PostgreSQL may refuse to start after a crash in its start, which is no loss (docs/MOUNT.md).
+# program NAME PROFILE SEEDS PATTERN: whether what programs.sh prints of held, lost, damaged and not started matches.
+program() {
+    run sh adapters/mount/programs.sh --profiles "$2" --seeds "$3" --jobs 1 "$1"
+    if grep -q '^programs.sh: skipped' "$work/err"; then
+        leave_out "$(tail -n 1 "$work/err")"
+        return
+    fi
+    ok "$1 on $2: $(tail -n 1 "$work/out")" grep -Eq "^\\| $1 \\| $2 \\| $3 \\| [0-9]+ \\| [0-9]+ \\| $4 \\| 0 \\|\$" "$work/out"
+}
+program postgres ext4 3 '[0-3] \| 0 \| 0 \| [0-3]'
+program postgres posix 2 '[0-2] \| 0 \| 0 \| [0-2]'
+program redis ext4 4 '4 \| 0 \| 0 \| 0'
+program sqlite-wal posix 2 '2 \| 0 \| 0 \| 0'
+program git-fsync ext4 3 '3 \| 0 \| 0 \| 0'
+program git ext4 4 '[0-3] \| [0-9] \| [0-9] \| 0'
+if has redis-server redis-cli; then
+    run sh examples/mount_redis.sh
+    ok 'examples/mount_redis.sh' [ "$(cat "$work/out")" = value ]
+    run sh examples/mount_redis.sh posix
+    ok 'and on posix' [ "$(cat "$work/out")" = '' ]
+else
+    skip 'Redis: there is no redis-server'
 fi
 run sh examples/mount.sh
 ok 'examples/mount.sh' grep -q '^ *4 .*/synced$' "$work/out"

@@ -36,10 +36,6 @@ python_with() {
 }
 
 sh "$top/bindings/build.sh" || give_up "the library can't be built"
-if [ ! -f "$top/out/libblobcrash.so" ]; then
-    skip 'all of it: the shared library is made by a C compiler'
-    finish
-fi
 python=$(python_with pip setuptools wheel)
 [ -n "$python" ] || python=$(python_with pip setuptools.command.bdist_wheel)
 if [ -z "$python" ]; then

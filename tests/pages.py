@@ -18,7 +18,7 @@ import sys
 
 LIST = "tests/pages.list"
 RATTLE = "docs/LOG.md"
-TESTS = "tests/README.md"
+TESTS = ["tests/README.md", "tests/ROWS.md"]
 BEGINNINGS = ("./", "cargo ", "cc ", "python3 ", "rt ", "sh ", "tools/")
 PYTHON = ("    from ", "    import ")
 TRIED = "<!-- tried in a scratch repository -->"
@@ -159,7 +159,7 @@ def is_script(way):
 def compare_with_list(pages):
     """Prints what a page has and no test runs, its dead links, and what the list has in vain."""
     wrong, on_pages, ways = [], set(), listed()
-    for page in [*pages, TESTS]:
+    for page in [*pages, *TESTS]:
         lines = read(page)
         on_pages |= named(lines)
         wrong += dead_links(page)

@@ -20,13 +20,19 @@ export BLOBCRASH
 # Python on the pages and some commands use the library. Its build may be under way: then this waits for it.
 sh bindings/build.sh || give_up "the library can't be built"
 
+# only_crates FILE: whether each name in the picture FILE that is monospaced is a crate of crates.txt.
+# shellcheck disable=SC2317
+only_crates() {
+    sed -n '/ui-monospace/ { s/<[^>]*>//g; s/, /\n/g; p; }' "$1" | sort -u >"$work/named"
+    sed -n 's/^\([a-z_]*\)[ :].*/\1/p' crates.txt | sort -u >"$work/crates"
+    comm -23 "$work/named" "$work/crates" >"$work/others"
+    cat "$work/others"
+    [ -s "$work/named" ] && [ ! -s "$work/others" ]
+}
+ok 'the picture of the layers names crates' only_crates docs/layers.svg
 ok 'every command and block of the pages is run' python3 tests/pages.py --listed README.md CONTRIBUTING.md docs/*.md
 for page in README.md CONTRIBUTING.md docs/*.md bindings/python/blobcrash/__init__.py; do
-    if [ "$page" = docs/GUIDE.md ] && [ ! -f out/libblobcrash.so ]; then
-        skip "$page: a C compiler makes the library for its Python"
-    else
-        ok "the commands and examples of $page" python3 tests/pages.py "$page"
-    fi
+    ok "the commands and examples of $page" python3 tests/pages.py "$page"
 done
 ok "the steps in Rattle of docs/LOG.md" python3 tests/pages.py --scratch "$work/scratch"
 python3 tests/pages.py --ways >"$work/ways"

@@ -51,4 +51,19 @@ tell $? 'a full device as output'
 [ $? -eq 1 ] && [ "$(cat "$work/shown")" = 'input failed' ] && [ ! -s "$work/out" ]
 tell $? 'closed input'
 
+# Two seconds of a processor are many times what these take. Four thousand files took 29 once, each compared with all others, and a
+# distant byte 3.6, with each stretch of zeros before it.
+# shellcheck disable=SC3045
+within_two_seconds() { (ulimit -t 2 && exec "${program}_explain" <"$work/in" >"$work/shown"); }
+{
+    echo 'config write 0 1 1 2 subset'
+    seq 0 3999 | awk '{ printf "open p %08x\nwrite %d 0 61\n", $1, $1 }'
+    echo crash
+} >"$work/in"
+within_two_seconds && [ "$(grep -c '^# p ' "$work/shown")" -eq 4000 ]
+tell $? 'four thousand files'
+printf 'config write 0 1 1 1 prefix\nopen p 62\nwrite 0 50000000 61\ncrash\n' >"$work/in"
+within_two_seconds && grep -q '^#     after .* 61$' "$work/shown"
+tell $? 'a byte far beyond the end'
+
 finish

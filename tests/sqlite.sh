@@ -1,5 +1,5 @@
 #!/bin/sh
-# The real SQLite on the layer (bindings/sqlite): 50 seeds of each mode at FULL and EXTRA, in which nothing may be lost; modes that
+# The real SQLite on the layer (adapters/sqlite): 50 seeds of each mode at FULL and EXTRA, in which nothing may be lost; modes that
 # may lose something, and a lying sync, which must be found out; the VFS from C, the extension from Python, the examples, and all
 # of the C under the sanitizers. BLOBCRASH_ARCHIVE names a library that is built already; SEEDS is another number of seeds.
 # The last line is `N passed, M failed`, with `, K skipped` if a tool is missing.
@@ -41,13 +41,13 @@ if ! echo '#include <sqlite3ext.h>' | "$compiler" -E - >/dev/null 2>&1; then
     finish
 fi
 
-check 'the driver and the extension are built' run 0 sh bindings/sqlite/build.sh
+check 'the driver and the extension are built' run 0 sh adapters/sqlite/build.sh
 archive=${BLOBCRASH_ARCHIVE:-$top/out/libblobcrash.a}
 mkdir -p "$work/a clone/out" "$work/a clone/tools"
-cp -R bindings "$work/a clone"
+cp -R adapters bindings "$work/a clone"
 cp tools/building.sh "$work/a clone/tools"
 cp "$archive" "$work/a clone/out"
-check 'in a path with spaces too' run 0 env BLOBCRASH_ARCHIVE="$work/a clone/out/${archive##*/}" sh "$work/a clone/bindings/sqlite/build.sh"
+check 'in a path with spaces too' run 0 env BLOBCRASH_ARCHIVE="$work/a clone/out/${archive##*/}" sh "$work/a clone/adapters/sqlite/build.sh"
 check 'and the driver runs there' run 0 "$work/a clone/out/sqlite/crash" 1 delete-full
 crash=$top/out/sqlite/crash
 seeds=${SEEDS:-50}
@@ -117,22 +117,22 @@ else
 fi
 
 # From C.
-flags="-std=c11 -D_XOPEN_SOURCE=700 -Wall -Wextra -Werror -g -DSQLITE_CORE -Ibindings/c -Ibindings/sqlite -Ibindings/sqlite/crash"
-vfs='bindings/sqlite/layer.c bindings/sqlite/store.c bindings/sqlite/directory.c bindings/sqlite/parameters.c bindings/sqlite/vfs.c'
+flags="-std=c11 -D_XOPEN_SOURCE=700 -Wall -Wextra -Werror -g -DSQLITE_CORE -Ibindings/c -Iadapters/sqlite -Iadapters/sqlite/crash"
+vfs='adapters/sqlite/layer.c adapters/sqlite/store.c adapters/sqlite/directory.c adapters/sqlite/parameters.c adapters/sqlite/vfs.c'
 sanitize='-O1 -fsanitize=address,undefined -fno-sanitize-recover=all'
 # A refused allocation returns NULL, as without the sanitizer.
 export ASAN_OPTIONS=allocator_may_return_null=1
 # shellcheck disable=SC2086
-check 'the tests of the VFS are built' run 0 $compiler $flags -o "$work/test_vfs" bindings/sqlite/test_vfs.c $vfs "$archive" -lsqlite3
+check 'the tests of the VFS are built' run 0 $compiler $flags -o "$work/test_vfs" adapters/sqlite/test_vfs.c $vfs "$archive" -lsqlite3
 check 'the tests of the VFS' run 0 "$work/test_vfs"
 echo 'int main(void) { return 0; }' >"$work/empty.c"
 # shellcheck disable=SC2086
 if run 0 $compiler $sanitize -o "$work/empty" "$work/empty.c" && run 0 "$work/empty"; then
     check 'the tests of the VFS are built with sanitizers' run 0 $compiler $flags $sanitize -o "$work/test_vfs.sanitized" \
-        bindings/sqlite/test_vfs.c $vfs "$archive" -lsqlite3
+        adapters/sqlite/test_vfs.c $vfs "$archive" -lsqlite3
     check 'the tests of the VFS, sanitized' run 0 "$work/test_vfs.sanitized"
     check 'the driver is built with sanitizers' run 0 $compiler $flags $sanitize -o "$work/crash.sanitized" \
-        bindings/sqlite/crash/*.c $vfs "$archive" -lsqlite3
+        adapters/sqlite/crash/*.c $vfs "$archive" -lsqlite3
     # shellcheck disable=SC2046
     "$work/crash.sanitized" 1 $("$crash" --list) >"$work/out" 2>"$work/err"
     check 'every mode, sanitized' [ $? -le 1 ]
@@ -149,7 +149,7 @@ for candidate in python3 /usr/bin/python3; do
     [ -n "$python" ] || ! "$candidate" -c "$loads" 2>/dev/null || python=$candidate
 done
 if [ -n "$python" ]; then
-    check 'the extension in Python' run 0 "$python" bindings/sqlite/test_extension.py
+    check 'the extension in Python' run 0 "$python" adapters/sqlite/test_extension.py
     check 'the transfers of an application' run 0 "$python" examples/sqlite_transfers.py
     check 'in a write-ahead log' run 0 "$python" examples/sqlite_transfers.py locking_mode=EXCLUSIVE journal_mode=WAL synchronous=FULL
     check 'and without syncs, which is found out' run 1 "$python" examples/sqlite_transfers.py synchronous=OFF

@@ -32,9 +32,11 @@ is_current() {
 mkdir -p "$out" "$top/out"
 lock mount
 if ! is_current; then
+    : >"$out/began"
     # shellcheck disable=SC2046,SC2086
     "$compiler" -std=c11 -D_XOPEN_SOURCE=700 -O2 -g -Wall -Wextra -Werror "-I$top/bindings/c" ${CFLAGS:-} \
         $(pkg-config --cflags fuse3) -o "$program.new" "$here"/*.c "$archive" $(pkg-config --libs fuse3) >&2
+    touch -r "$out/began" "$program.new" # a source may have changed since
     mv -f "$program.new" "$program"
 fi
 echo "$program"

@@ -17,6 +17,10 @@ void call_lookup(fuse_req_t req, fuse_ino_t parent, const char *name) {
     uint64_t inode;
     int error = layer_find(directory->inode, name, &inode);
     struct node *node = error ? NULL : nodes_find(inode);
+    if (error == ENOENT) {
+        call_reply_no_entry(req);
+        return;
+    }
     if (!node) {
         fuse_reply_err(req, error ? error : EIO);
         return;

@@ -9,8 +9,8 @@
 
 /*
  * The kernel's number of a node has the life in its upper bits, so numbers of an older life are refused. The root is 1 in each
- * life. The kernel may cache names and attributes for ever, since all changes come through it. After a crash the names in the root
- * are invalidated: then each path leads to nodes of the new life.
+ * life. The kernel may cache names, that a name is missing, and attributes for ever, since all changes come through it. After a crash
+ * the names in the root are invalidated: then each path leads to nodes of the new life.
  */
 enum { LIFE_SHIFT = 40 };
 #define FOREVER 86400.0
@@ -73,6 +73,11 @@ struct fuse_entry_param call_entry(const struct node *node) {
 
 void call_reply_entry(fuse_req_t req, const struct node *node) {
     struct fuse_entry_param entry = call_entry(node);
+    fuse_reply_entry(req, &entry);
+}
+
+void call_reply_no_entry(fuse_req_t req) {
+    struct fuse_entry_param entry = {.entry_timeout = FOREVER};
     fuse_reply_entry(req, &entry);
 }
 

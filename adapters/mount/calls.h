@@ -23,6 +23,8 @@ struct node *call_node(fuse_ino_t id);
 
 /* Replies with a node that a name leads to. */
 void call_reply_entry(fuse_req_t req, const struct node *node);
+/* Replies that no node has the name. */
+void call_reply_no_entry(fuse_req_t req);
 /* Replies with attributes. */
 void call_reply_attributes(fuse_req_t req, const struct node *node);
 /* Returns an entry for the kernel. */

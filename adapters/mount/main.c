@@ -5,6 +5,7 @@
 #define _GNU_SOURCE
 #include "calls.h"
 #include "control.h"
+#include "fifo.h"
 #include "layer.h"
 #include "power.h"
 #include "serve.h"
@@ -25,10 +26,11 @@ enum { FAILED = 1, BAD_OPTION = 2, NO_FUSE = 3 };
 
 static const char usage_text[] =
     "usage: blobcrash_mount DIR --control SOCKET [--seed N] [--profile ext4|xfs|btrfs|posix] [--tear prefix|subset|sectorsN]\n"
-    "                       [--keep N/D] [--size BYTES] [--allow-other] [--foreground]";
+    "                       [--keep N/D] [--size BYTES] [--fifo FIFO] [--fifo-completed FIFO] [--log FILE] [--allow-other]\n"
+    "                       [--foreground]";
 
 static struct {
-    const char *directory, *control, *seed, *profile, *tear, *keep;
+    const char *directory, *control, *seed, *profile, *tear, *keep, *fifo, *completed, *log;
     uint64_t size;
     bool allows_other, stays;
 } options = {.seed = "1", .profile = "ext4", .tear = "sectors512", .keep = "1/2", .size = (uint64_t)1 << 30};
@@ -59,6 +61,8 @@ static void read_options(int count, char **words) {
         {"control", required_argument, NULL, 'c'}, {"seed", required_argument, NULL, 's'},
         {"profile", required_argument, NULL, 'p'}, {"tear", required_argument, NULL, 't'},
         {"keep", required_argument, NULL, 'k'},    {"size", required_argument, NULL, 'z'},
+        {"fifo", required_argument, NULL, 'F'},    {"fifo-completed", required_argument, NULL, 'C'},
+        {"log", required_argument, NULL, 'l'},
         {"allow-other", no_argument, NULL, 'o'},   {"foreground", no_argument, NULL, 'f'},
         {NULL, 0, NULL, 0}};
     for (int option; (option = getopt_long(count, words, "", names, NULL)) != -1;) {
@@ -69,12 +73,16 @@ static void read_options(int count, char **words) {
         case 't': options.tear = optarg; break;
         case 'k': options.keep = optarg; break;
         case 'z': options.size = size_of(optarg); break;
+        case 'F': options.fifo = optarg; break;
+        case 'C': options.completed = optarg; break;
+        case 'l': options.log = optarg; break;
         case 'o': options.allows_other = true; break;
         case 'f': options.stays = true; break;
         default: end(BAD_OPTION, "%s", usage_text);
         }
     }
     if (optind + 1 != count || !options.control) end(BAD_OPTION, "%s", usage_text);
+    if (!options.fifo && (options.completed || options.log)) end(BAD_OPTION, "--fifo-completed and --log belong to --fifo");
     options.directory = words[optind];
 }
 
@@ -119,6 +127,12 @@ static void need_fuse(void) {
     close(fd);
 }
 
+/* Removes the socket and the fifos. */
+static void end_paths(void) {
+    control_end();
+    fifo_end();
+}
+
 static struct fuse_session *mount_it(char *name) {
     char *words[] = {name, "-o", options.allows_other ? "default_permissions,fsname=blobcrash,subtype=blobcrash,allow_other"
                                                       : "default_permissions,fsname=blobcrash,subtype=blobcrash", NULL};
@@ -126,7 +140,7 @@ static struct fuse_session *mount_it(char *name) {
     struct fuse_session *session = fuse_session_new(&arguments, &calls, sizeof calls, NULL);
     if (!session || fuse_set_signal_handlers(session)) end(FAILED, "no session");
     if (fuse_session_mount(session, options.directory)) {
-        control_end();
+        end_paths();
         end(NO_FUSE, "no right to mount. In a container: docker run --device /dev/fuse --cap-add SYS_ADMIN; without root: the "
                      "package fuse3");
     }
@@ -140,9 +154,14 @@ int main(int count, char **words) {
     begin_layer();
     int error = control_begin(options.control);
     if (error) end(FAILED, "the control socket %s: %s", options.control, strerror(error));
+    error = options.fifo ? fifo_begin(options.fifo, options.completed, options.log) : 0;
+    if (error) {
+        end_paths();
+        end(FAILED, "--fifo: %s", strerror(error));
+    }
     char *directory = realpath(options.directory, NULL);
     if (!directory) {
-        control_end();
+        end_paths();
         end(FAILED, "%s: %s", options.directory, strerror(errno));
     }
     options.directory = directory;
@@ -152,7 +171,7 @@ int main(int count, char **words) {
     if (!options.stays && daemon(0, 0)) end(FAILED, "the background: %s", strerror(errno));
     error = serve(session);
     fuse_session_unmount(session);
-    control_end();
+    end_paths();
     fuse_remove_signal_handlers(session);
     fuse_session_destroy(session);
     layer_end();

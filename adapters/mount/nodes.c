@@ -159,6 +159,11 @@ int node_sync(struct node *node, bool only_data) {
     return error;
 }
 
+void nodes_visit(void (*visit)(const struct node *node, void *data), void *data) {
+    for (size_t at = 0; at < table_size; at++)
+        for (const struct node *node = table[at]; node; node = node->next) visit(node, data);
+}
+
 void nodes_write_back(void) {
     for (size_t at = 0; at < table_size; at++)
         for (struct node *node = table[at]; node; node = node->next)

@@ -58,6 +58,8 @@ static inline bool is_directory(const struct node *node) { return S_ISDIR(node->
 
 /* Makes the root's node. ENOMEM. */
 int nodes_begin(uid_t owner, gid_t group);
+/* Calls `visit` with each node. */
+void nodes_visit(void (*visit)(const struct node *node, void *data), void *data);
 /* Returns the node of an inode, or NULL. */
 struct node *nodes_find(uint64_t inode);
 /* Returns a new node that isn't in the table yet, or NULL. The caller adds it or frees it. */

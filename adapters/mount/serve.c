@@ -1,7 +1,6 @@
 #include "serve.h"
 
 #include "calls.h"
-#include "control.h"
 #include "power.h"
 
 #include <errno.h>
@@ -10,18 +9,69 @@
 #include <signal.h>
 #include <stdlib.h>
 #include <string.h>
+#include <sys/epoll.h>
 #include <sys/prctl.h>
 #include <unistd.h>
 
-/* The most calls that a crash ends. A program that goes on after a power loss may make calls without end. */
-enum { ENDED_MOST = 1 << 16 };
+enum {
+    ENDED_MOST = 1 << 16, /* calls that a crash ends. A program that goes on after a power loss may make calls without end */
+    WATCHED_MOST = 32,
+    READY_MOST = 8
+};
 
 static struct fuse_session *session;
+static int events = -1;
+static struct watched {
+    int fd;
+    void (*ready)(int fd);
+} watched[WATCHED_MOST];
+static size_t watched_count;
 
-/* Makes one call of the kernel. */
+int serve_watch(int fd, void (*ready)(int fd)) {
+    struct epoll_event event = {.events = EPOLLIN, .data.fd = fd};
+    if (events < 0 && (events = epoll_create1(EPOLL_CLOEXEC)) < 0) return errno;
+    if (watched_count == WATCHED_MOST) return EMFILE;
+    if (epoll_ctl(events, EPOLL_CTL_ADD, fd, &event)) return errno;
+    watched[watched_count++] = (struct watched){fd, ready};
+    return 0;
+}
+
+void serve_unwatch(int fd) {
+    epoll_ctl(events, EPOLL_CTL_DEL, fd, NULL);
+    for (size_t at = 0; at < watched_count; at++) {
+        if (watched[at].fd != fd) continue;
+        watched[at] = watched[--watched_count];
+        return;
+    }
+}
+
+static void call_ready(int fd) {
+    for (size_t at = 0; at < watched_count; at++) {
+        if (watched[at].fd != fd) continue;
+        watched[at].ready(fd);
+        return;
+    }
+}
+
+/* Makes one call of the kernel, if one waits. */
 static void take_call(void) {
     static struct fuse_buf buffer; /* the library allocates it once */
     if (fuse_session_receive_buf(session, &buffer) > 0) fuse_session_process_buf(session, &buffer);
+}
+
+static void take_call_of(int fd) {
+    (void)fd;
+    take_call();
+}
+
+/* While the power is off no call is taken. An unmount is reported all the same. */
+static void follow_power(void) {
+    static bool is_off;
+    if (is_off == power.is_off) return;
+    is_off = power.is_off;
+    int fd = fuse_session_fd(session);
+    struct epoll_event event = {.events = is_off ? 0 : EPOLLIN, .data.fd = fd};
+    epoll_ctl(events, EPOLL_CTL_MOD, fd, &event);
 }
 
 /* Ends the calls that wait. */
@@ -31,32 +81,54 @@ static void end_calls(void) {
     for (int ended = 0; ended < ENDED_MOST && !fuse_session_exited(session) && poll(&wait, 1, 0) > 0; ended++) take_call();
 }
 
-/* Lets the kernel forget names in the root, and what it knows of the root. */
-static void forget_names(const struct layer_name *names, size_t count) {
-    for (size_t at = 0; at < count; at++)
-        fuse_lowlevel_notify_inval_entry(session, FUSE_ROOT_ID, names[at].name, strlen(names[at].name));
-    fuse_lowlevel_notify_inval_inode(session, FUSE_ROOT_ID, -1, 0);
+/* Names in the root. */
+struct names {
+    struct layer_name *list;
+    size_t count;
+};
+
+static void forget_name(const char *name) { fuse_lowlevel_notify_inval_entry(session, FUSE_ROOT_ID, name, strlen(name)); }
+
+/* Lets the kernel forget names in the root, and that names are missing which a crash brought back. Both lists are sorted. */
+static void forget_names(const struct names *before, const struct names *after) {
+    size_t at = 0;
+    for (size_t next = 0; next < after->count; next++) {
+        const char *name = after->list[next].name;
+        while (at < before->count && strcmp(before->list[at].name, name) < 0) forget_name(before->list[at++].name);
+        if (at < before->count && strcmp(before->list[at].name, name) == 0) at++;
+        forget_name(name);
+    }
+    while (at < before->count) forget_name(before->list[at++].name);
+}
+
+/* Crashes, and lists the names in the root before and after. */
+static int crash_between(struct layer_crash *crash, struct names *before, struct names *after) {
+    int error = layer_list(ROOT, &before->list, &before->count);
+    if (!error) error = power_crash(crash);
+    if (!error) error = layer_list(ROOT, &after->list, &after->count);
+    return error;
 }
 
 int serve_crash(struct layer_crash *crash, pid_t *child) {
-    struct layer_name *names;
-    size_t count;
+    struct names before = {NULL, 0}, after = {NULL, 0};
     end_calls();
-    int error = layer_list(ROOT, &names, &count);
-    if (error) return error;
-    error = power_crash(crash);
+    int error = crash_between(crash, &before, &after);
     if (!error) {
         *child = fork();
         if (*child < 0) error = errno;
-        if (*child == 0 && prctl(PR_SET_PDEATHSIG, SIGKILL) == 0) forget_names(names, count);
+        if (*child == 0 && prctl(PR_SET_PDEATHSIG, SIGKILL) == 0) {
+            forget_names(&before, &after);
+            fuse_lowlevel_notify_inval_inode(session, FUSE_ROOT_ID, -1, 0);
+        }
     }
-    free(names);
+    free(before.list);
+    free(after.list);
     return error;
 }
 
 void serve_end(void) { fuse_session_exit(session); }
 
-/* A killed program may take its call back between poll and read. */
+/* A killed program may take its call back before it is read. */
 static int do_not_block(int fd) {
     int flags = fcntl(fd, F_GETFL);
     return flags < 0 || fcntl(fd, F_SETFL, flags | O_NONBLOCK) < 0 ? errno : 0;
@@ -66,17 +138,17 @@ int serve(struct fuse_session *mounted) {
     session = mounted;
     signal(SIGCHLD, SIG_IGN); /* no child is waited for */
     int error = do_not_block(fuse_session_fd(session));
+    if (!error) error = serve_watch(fuse_session_fd(session), take_call_of);
     while (!error && !fuse_session_exited(session)) {
-        struct pollfd waits[1 + CONTROL_WAITS];
-        /* An unmount is reported without events too. */
-        waits[0] = (struct pollfd){.fd = fuse_session_fd(session), .events = power.is_off ? 0 : POLLIN};
-        control_waits(waits + 1);
-        if (poll(waits, 1 + CONTROL_WAITS, -1) < 0) {
-            if (errno != EINTR) error = errno;
-            continue;
+        struct epoll_event ready[READY_MOST];
+        follow_power();
+        int count = epoll_wait(events, ready, READY_MOST, -1);
+        if (count < 0 && errno != EINTR) error = errno;
+        for (int at = 0; at < count; at++) {
+            /* A command before it may have switched the power off. */
+            if (ready[at].data.fd != fuse_session_fd(session) || !power.is_off || ready[at].events & EPOLLERR)
+                call_ready(ready[at].data.fd);
         }
-        if (waits[0].revents) take_call();
-        control_serve(waits + 1);
     }
     return error;
 }

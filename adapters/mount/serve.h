@@ -8,7 +8,12 @@
 
 struct fuse_session;
 
-/* Serves calls and lines of the control socket until the end. Returns 0 or a number of errno. */
+/* Makes the loop call `ready` when a descriptor can be read. Returns 0 or a number of errno. */
+int serve_watch(int fd, void (*ready)(int fd));
+/* Ends that. Call it before the descriptor is closed. */
+void serve_unwatch(int fd);
+
+/* Serves calls of the kernel, and what is watched, until the end. Returns 0 or a number of errno. */
 int serve(struct fuse_session *session);
 /* Ends the loop. */
 void serve_end(void);

@@ -1,5 +1,5 @@
-"""Puts the shared library into the package: `$BLOBCRASH_LIBRARY`, or the one that `sh bindings/build.sh` built. The rest is in
-pyproject.toml."""
+"""Puts the shared library into the package: `$BLOBCRASH_LIBRARY`, or the one that `sh bindings/build.sh` built. The wheel has the platform
+tag `$BLOBCRASH_PLATFORM`, or that of this machine. The rest is in pyproject.toml."""
 
 import os
 import shutil
@@ -42,7 +42,7 @@ class AnyPython(bdist_wheel):
     """The library calls nothing of Python, so that it is for every version."""
 
     def get_tag(self):
-        return "py3", "none", super().get_tag()[2]
+        return "py3", "none", os.environ.get("BLOBCRASH_PLATFORM") or super().get_tag()[2]
 
 
 setup(cmdclass={"build_py": BuildWithLibrary, "bdist_wheel": AnyPython}, distclass=OfPlatform)

@@ -11,14 +11,29 @@ from .errors import BadLine
 from .layers import run
 
 _COMMANDS = {"check": check_command, "judge": judge_command, "shrink": shrink_command}
+USAGE = "usage: python -m blobcrash [check|judge] [FILE], or shrink SCRIPT [COMMAND ..]"
+HELP = f"""{USAGE}
+
+Runs a script, from a file or from standard input, and prints its replies.
+
+  check   prints which lines aren't calls, and why
+  judge   prints what acknowledged content the script loses
+  shrink  prints a short script that still fails: COMMAND ends with a status other than 0, or `judge` finds a loss
+
+docs/GUIDE.md has more, docs/FORMATS.md the lines and the replies.
+"""
 
 
 def main(arguments: list) -> int:
     command = _COMMANDS.get(arguments[0]) if arguments else None
+    is_help = arguments[0 if command is None else 1 :] == ["--help"]
     if command is not shrink_command and len(arguments) > (1 if command is None else 2):
-        print("usage: python -m blobcrash [check|judge] [FILE], or shrink SCRIPT [COMMAND ..]", file=sys.stderr)
+        print(USAGE, file=sys.stderr)
         return 2
     try:
+        if is_help:
+            write(HELP.encode())
+            return 0
         return command(arguments[1:]) if command is not None else run_command(arguments)
     except OSError as error:
         print(f"input failed: {error}", file=sys.stderr)

@@ -9,7 +9,7 @@ from typing import Dict, NamedTuple, Optional
 from .errors import LibraryMissing
 from .foreign import Ran, ScriptRan, library, loaded
 
-# The kinds of calls by their words in a script. tests/files.py compares each of these numbers with the C header.
+# The kinds of calls by their words in a script. tests/files_header.py compares each of these numbers with the C header.
 KINDS = {
     "create": 0,
     "open": 1,

@@ -68,10 +68,14 @@ def options_of(arguments):
 
 def main(arguments):
     options = options_of(arguments)
-    if options is None:
+    is_help = arguments == ["--help"]
+    if options is None and not is_help:
         sys.stderr.write(USAGE)
         return 2
     try:
+        if is_help:
+            write(f"{USAGE}\n{__doc__}")
+            return 0
         return show(options)
     except UnicodeDecodeError:
         why = "what was explored isn't UTF-8"

@@ -1,4 +1,6 @@
 //! Paths and names as tokens of a line.
+ghost use Rattle.std.specs.Prelude.{◌<◌, IfSome};
+
 use blob_lab::script::RefusedLine;
 use std::alloc::{AllocError, Global};
 
@@ -12,7 +14,9 @@ fn is_plain(byte: u8) -> bool {
 }
 
 /// Returns the value of a hex digit.
-fn digit(byte: u8) -> Option<u8> {
+fn digit(byte: u8) -> Option<u8>
+    ensures { IfSome result (λ value. value < 16) }
+{
     match byte {
         b'0'..=b'9' => Some(byte - b'0'),
         b'a'..=b'f' => Some(byte - b'a' + 10),

@@ -5,14 +5,26 @@ ghost use Rattle.blob_fs.specs.Journals.{FindsKept};
 
 use crate::error::FsError;
 use crate::file_system::FileSystem;
+use crate::places::find_places;
 use blob_faulty::Selections;
 use rand_core::Rng;
+
+/// Where a pending write was.
+#[derive(Clone, Copy, Debug, PartialEq, Eq)]
+pub struct Place {
+    /// The file's inode. `None`: an edit in the journal.
+    pub inode: Option<u64>,
+    /// The offset in bytes in the file or in the journal.
+    pub offset: u64,
+}
 
 /// What a crash kept.
 #[derive(Drop)]
 pub struct Crash {
     /// The rows of the layer's crash: of each pending write, which bytes were kept.
     pub rows: Selections,
+    /// Of each row, where the write was.
+    pub places: Vec<Place>,
     /// Of each edit that nothing had settled, in order, whether it was kept.
     pub edits: Vec<bool>,
 }
@@ -29,11 +41,18 @@ impl<R: Rng + Drop> FileSystem<R> {
         ensures found { IfOk result (λ crash. FindsKept self.old crash.rows self.new) }
         ensures refused { OnErr result (KeepsNames self.old self.new) }
     {
+        let pending = self.pending_places()?;
+        let mut places = Vec::with_capacity(self.alloc, pending.len())?;
         let rows = self.store.crash()?;
+        find_places(&rows, &pending, &mut places);
         self.is_down = true;
         self.store.set_config(blob_faulty::Config::default());
         let edits = self.recover()?;
         self.is_down = false;
-        Ok(Crash { rows, edits })
+        Ok(Crash {
+            rows,
+            places,
+            edits,
+        })
     }
 }

@@ -6,6 +6,8 @@ ghost use Rattle.blob_directory.specs.Names.{Same, edit_of, entry};
 use crate::error::FsError;
 use crate::journal::Journal;
 use crate::path::check_name;
+use crate::switches::{FailedSync, FailedWrite, Syncs};
+use crate::unlinked::Gone;
 use blob_base::Probability;
 use blob_directory::edit::{Binding, Edit, Kind, entry_of};
 use blob_directory::profile::Profile;
@@ -43,6 +45,9 @@ pub struct Options {
     pub max_bytes: u64,
     /// The most files that may be there.
     pub max_files: u64,
+    pub failed_sync: FailedSync,
+    pub syncs: Syncs,
+    pub failed_write: FailedWrite,
 }
 
 /// An open file. It refers to the inode, not to a name. After a crash it is stale.
@@ -65,6 +70,10 @@ pub(crate) struct File {
     pub(crate) is_changed: bool,
     /// An open truncated it.
     pub(crate) is_truncated: bool,
+    /// What reads return in place of the blob's bytes, after a sync that failed and dropped some.
+    pub(crate) shown: Option<Vec<u8>>,
+    /// No name and no descriptor refers to it, but a crash may give it a name again.
+    pub(crate) is_gone: bool,
 }
 
 /// Files with names over a fault wrapper.
@@ -82,6 +91,8 @@ pub struct FileSystem<R> {
     pub(crate) next_inode: u64,
     pub(crate) next_open: u64,
     pub(crate) next_edit: u64,
+    /// The files that are gone, in the order in which they went.
+    pub(crate) gone: Vec<Gone>,
     /// How many bytes all files have.
     pub(crate) used: u64,
     pub(crate) is_down: bool,
@@ -126,6 +137,7 @@ impl<R: Rng + Drop> FileSystem<R> {
             next_inode: ROOT + 1,
             next_open: 0,
             next_edit: 0,
+            gone: Vec::new(alloc),
             used: 0,
             is_down: false,
         })
@@ -186,6 +198,7 @@ impl<R: Rng + Drop> FileSystem<R> {
     {
         self.names.prepare(&edit)?;
         self.unsettled.reserve(1)?;
+        self.gone.reserve(1)?;
         let number = self.next_edit;
         let Some(next) = number.checked_add(1) else {
             return Err(FsError::NoSpace);
@@ -216,10 +229,18 @@ impl<R: Rng + Drop> FileSystem<R> {
     pub fn kind_of(&self, inode: u64) -> Option<Kind> {
         if self.directories.contains_key(&inode) {
             Some(Kind::Directory)
-        } else if self.files.contains_key(&inode) {
+        } else if self.file(inode).is_some() {
             Some(Kind::File)
         } else {
             None
+        }
+    }
+
+    /// Returns a file that isn't gone.
+    pub(crate) fn file(&self, inode: u64) -> Option<&File> {
+        match self.files.get(&inode) {
+            Some(file) if !file.is_gone => Some(file),
+            _ => None,
         }
     }
 }

@@ -3,7 +3,9 @@ ghost use Rattle.blob_fs.specs.Files.{KeepsNames};
 
 use crate::error::FsError;
 use crate::file_system::{Descriptor, File, FileSystem, Handle};
-use blob_base::{Blob, WriteOptions};
+use crate::switches::Syncs;
+use crate::writes::write_blob;
+use blob_base::Blob;
 use blob_directory::edit::Kind;
 use blob_faulty::Config;
 use rand_core::Rng;
@@ -19,12 +21,22 @@ impl File {
             grown: 0,
             is_changed: false,
             is_truncated: false,
+            shown: None,
+            is_gone: false,
+        }
+    }
+
+    /// Returns the size that calls see.
+    pub(crate) fn size(&self) -> u64 {
+        match &self.shown {
+            None => self.blob.size(),
+            Some(bytes) => bytes.len() as u64,
         }
     }
 }
 
 impl<R: Rng + Drop> FileSystem<R> {
-    /// Opens a file by its number.
+    /// Opens a file by its number. If a failed sync dropped bytes of it, reads don't return them any more.
     ///
     /// # Errors
     ///
@@ -35,17 +47,34 @@ impl<R: Rng + Drop> FileSystem<R> {
         if self.directories.contains_key(&inode) {
             return Err(FsError::IsDirectory);
         }
-        let Some(file) = self.files.get_mut(&inode) else {
+        if self.file(inode).is_none() {
             return Err(FsError::NotFound);
-        };
+        }
         let number = self.next_open;
         let Some(next) = number.checked_add(1) else {
             return Err(FsError::NoSpace);
         };
         self.opens.insert(number, inode)?;
-        file.opens = file.opens.saturating_add(1);
+        if let Some(file) = self.files.get_mut(&inode) {
+            file.opens = file.opens.saturating_add(1);
+        }
         self.next_open = next;
+        self.show_blob(inode);
         Ok(Descriptor { number })
+    }
+
+    /// Opens a file by its number and makes it empty. If that fails, the file isn't open, and its bytes are as the layer's
+    /// resize left them. The errors are those of `open_inode` and of `truncate`.
+    pub fn open_inode_truncated(&mut self, inode: u64) -> Result<Descriptor, FsError>
+        ensures { KeepsNames self.old self.new }
+    {
+        self.begin_call()?;
+        let file = self.open_inode(inode)?;
+        if let Err(error) = self.clear(file) {
+            self.close(file)?;
+            return Err(error);
+        }
+        Ok(file)
     }
 
     /// Returns the number of an open file's inode.
@@ -61,16 +90,18 @@ impl<R: Rng + Drop> FileSystem<R> {
     }
 
     /// Closes a file. Its bytes stay as they are, synced or not. If an open truncated it and the profile flushes, they are made
-    /// durable first.
+    /// durable first. The bytes of a file without a name stop to count when its last descriptor closes, and its blob is removed
+    /// once all edits from before that are settled.
     ///
     /// # Errors
     ///
-    /// `Stale`, and `Memory` of a flush. The file is still open.
+    /// `Stale`, `Memory`. The file is still open.
     pub fn close(&mut self, file: Descriptor) -> Result<(), FsError>
         ensures { KeepsNames self.old self.new }
     {
         self.begin_call()?;
         let inode = self.inode_of(file)?;
+        self.gone.reserve(1)?;
         if self.options.profile.flushes && self.is_truncated(inode) {
             self.flush(inode)?;
         }
@@ -78,6 +109,8 @@ impl<R: Rng + Drop> FileSystem<R> {
         if let Some(found) = self.files.get_mut(&inode) {
             found.opens = found.opens.saturating_sub(1);
         }
+        self.let_go(inode);
+        self.remove_gone();
         Ok(())
     }
 
@@ -92,6 +125,9 @@ impl<R: Rng + Drop> FileSystem<R> {
     pub(crate) fn flush(&mut self, inode: u64) -> Result<(), FsError>
         ensures { KeepsNames self.old self.new }
     {
+        if self.options.syncs == Syncs::Lie {
+            return Ok(());
+        }
         self.store.set_config(Config::default());
         let Some(file) = self.files.get_mut(&inode) else {
             return Ok(());
@@ -111,7 +147,15 @@ impl<R: Rng + Drop> FileSystem<R> {
         let inode = self.inode_of(file)?;
         match self.files.get(&inode) {
             None => Err(FsError::Stale),
-            Some(found) => Ok(found.blob.size()),
+            Some(found) => Ok(found.size()),
+        }
+    }
+
+    /// Returns a file's size in bytes by its inode, 0 for a directory and for a number of none.
+    pub fn size_of(&self, inode: u64) -> u64 {
+        match self.file(inode) {
+            None => 0,
+            Some(file) => file.size(),
         }
     }
 
@@ -128,13 +172,13 @@ impl<R: Rng + Drop> FileSystem<R> {
         let Some(found) = self.files.get(&inode) else {
             return Err(FsError::Stale);
         };
-        let left = found.blob.size().saturating_sub(offset);
+        let left = found.size().saturating_sub(offset);
         let count = (buf.len() as u64).min(left) as usize;
         if count == 0 {
             return Ok(0);
         }
         let part = &mut buf[..count];
-        found.blob.read_into(&mut self.store, offset, part)?;
+        found.read_into(&mut self.store, offset, part)?;
         Ok(count)
     }
 
@@ -148,7 +192,7 @@ impl<R: Rng + Drop> FileSystem<R> {
     }
 
     /// Counts a file that had one size and has another.
-    fn count(&mut self, size: u64, now: u64)
+    pub(crate) fn count(&mut self, size: u64, now: u64)
         ensures { KeepsNames self.old self.new }
     {
         self.used = self.used.saturating_sub(size).saturating_add(now);
@@ -165,17 +209,27 @@ impl<R: Rng + Drop> FileSystem<R> {
         self.begin_call()?;
         let inode = self.inode_of(file)?;
         let size = self.size(file)?;
-        self.check_room(size, offset.saturating_add(bytes.len() as u64))?;
+        let end = offset.saturating_add(bytes.len() as u64);
+        self.check_room(size, end)?;
         let grown = self.next_edit;
+        let how = self.options.failed_write;
         let Some(found) = self.files.get_mut(&inode) else {
             return Err(FsError::Stale);
         };
+        found.reserve_shown(end)?;
         found.is_changed = true;
-        let options = WriteOptions::default();
-        let written = found
-            .blob
-            .write_from(&mut self.store, offset, bytes, options);
-        let now = found.blob.size();
+        let written = write_blob(
+            &mut found.blob,
+            &mut self.store,
+            how,
+            &self.options.faults,
+            offset,
+            bytes,
+        );
+        if written.is_ok() {
+            found.show_write(offset, bytes);
+        }
+        let now = found.size();
         if now > size {
             found.grown = grown;
         }
@@ -199,10 +253,14 @@ impl<R: Rng + Drop> FileSystem<R> {
         let Some(found) = self.files.get_mut(&inode) else {
             return Err(FsError::Stale);
         };
+        found.reserve_shown(length)?;
         found.is_changed = true;
         found.grown = grown;
         let resized = found.blob.resize(&mut self.store, length);
-        let now = found.blob.size();
+        if resized.is_ok() {
+            found.show_size(length);
+        }
+        let now = found.size();
         self.count(size, now);
         Ok(resized?)
     }

@@ -3,6 +3,7 @@
 
 pub mod access;
 pub mod crash;
+mod drops;
 pub mod error;
 pub mod file_system;
 pub mod files;
@@ -10,16 +11,21 @@ mod journal;
 pub mod names;
 pub mod path;
 pub mod paths;
+mod places;
 mod recovery;
 pub mod renames;
+pub mod switches;
 pub mod syncs;
+mod unlinked;
+mod writes;
 pub mod whole;
 
 pub use blob_directory::{
     Binding, Change, Edit, Keeps, Kind, Profile, Settles, edit, profile, sector, table,
 };
-pub use crash::Crash;
+pub use crash::{Crash, Place};
 pub use error::FsError;
 pub use file_system::{Descriptor, FileSystem, Options, ROOT};
 pub use renames::Rename;
+pub use switches::{FailedSync, FailedWrite, Syncs};
 pub use whole::TreeEntry;

@@ -37,7 +37,7 @@ impl<R: Rng + Drop> FileSystem<R> {
     {
         let inode = self.next_inode;
         let next = inode.checked_add(1).ok_or(FsError::NoSpace)?;
-        let count = self.files.len() as u64;
+        let count = self.files.len().saturating_sub(self.gone.len()) as u64;
         let count = count.saturating_add(self.directories.len() as u64);
         if count > self.options.max_files {
             return Err(FsError::NoSpace);
@@ -67,7 +67,7 @@ impl<R: Rng + Drop> FileSystem<R> {
         let edit = Edit::one(entry, Some(Binding { inode, kind }));
         if let Err(error) = self.make(edit, about(inode, directory)) {
             self.opens.remove(&descriptor.number);
-            self.files.remove(&inode);
+            self.remove_file(inode);
             return Err(error);
         }
         self.next_inode = next;
@@ -82,7 +82,7 @@ impl<R: Rng + Drop> FileSystem<R> {
         match self.open_inode(inode) {
             Ok(descriptor) => Ok(descriptor),
             Err(error) => {
-                self.files.remove(&inode);
+                self.remove_file(inode);
                 Err(error)
             }
         }
@@ -128,7 +128,7 @@ impl<R: Rng + Drop> FileSystem<R> {
         if self.directories.contains_key(&inode) {
             return Err(FsError::IsDirectory);
         }
-        let links = match self.files.get(&inode) {
+        let links = match self.file(inode) {
             None => return Err(FsError::NotFound),
             Some(file) => file.links,
         };
@@ -152,13 +152,14 @@ impl<R: Rng + Drop> FileSystem<R> {
         }
     }
 
-    /// Takes one name off a file's count.
+    /// Takes one name off a file's count. An edit was made just before, so `gone` has capacity.
     pub(crate) fn drop_link(&mut self, inode: u64)
         ensures { KeepsNames self.old self.new }
     {
         if let Some(file) = self.files.get_mut(&inode) {
             file.links = file.links.saturating_sub(1);
         }
+        self.let_go(inode);
     }
 
     /// Removes a name of a file. The file lives on while it has a name or is open.

@@ -62,15 +62,12 @@ impl<R: Rng + Drop> FileSystem<R> {
         self.open_inode(found.inode)
     }
 
-    /// Opens a file that is there and makes it empty. If that fails, the file isn't open, and its bytes are as the layer's
-    /// resize left them. The errors are those of `open` and of `truncate`.
+    /// Opens a file that is there and makes it empty, as `open_inode_truncated`. The errors are those of `open` and of
+    /// `truncate`.
     pub fn open_truncated(&mut self, path: &[u8]) -> Result<Descriptor, FsError> {
-        let file = self.open(path)?;
-        if let Err(error) = self.clear(file) {
-            self.close(file)?;
-            return Err(error);
-        }
-        Ok(file)
+        self.begin_call()?;
+        let found = self.find(path)?;
+        self.open_inode_truncated(found.inode)
     }
 
     /// Gives the file of a path a second path. The errors are those of `directory_of` and of `link_at`.

@@ -162,5 +162,6 @@ impl<R: Rng + Drop> FileSystem<R> {
         self.journal = journal;
         self.opens.clear();
         self.unsettled.clear();
+        self.gone.clear();
     }
 }

@@ -4,6 +4,7 @@ ghost use Rattle.blob_fs.specs.Files.{KeepsNames};
 use crate::error::FsError;
 use crate::file_system::{Descriptor, FileSystem, Store};
 use crate::journal::Journal;
+use crate::switches::{FailedSync, Syncs};
 use blob_base::{Blob, Error};
 use blob_directory::profile::Settles;
 use blob_directory::unsettled::{Synced, Unsettled, want};
@@ -30,6 +31,7 @@ impl<R: Rng + Drop> FileSystem<R> {
     {
         settle_marked(&mut self.store, &mut self.journal, &self.unsettled)?;
         self.unsettled.retain(|edit| !edit.is_wanted);
+        self.remove_gone();
         Ok(())
     }
 
@@ -48,7 +50,9 @@ impl<R: Rng + Drop> FileSystem<R> {
         let Some(file) = self.files.get_mut(&inode) else {
             return Err(FsError::Stale);
         };
-        file.blob.sync(&mut self.store)?;
+        if let Err(error) = file.blob.sync(&mut self.store) {
+            return self.fail_sync(inode, error);
+        }
         let synced = Synced::File {
             inode,
             grown: file.grown,
@@ -58,6 +62,16 @@ impl<R: Rng + Drop> FileSystem<R> {
         file.is_changed = false;
         file.is_truncated = false;
         Ok(synced)
+    }
+
+    /// Returns the error of a sync of a file's bytes that failed. If the options say so, the bytes are dropped.
+    fn fail_sync(&mut self, inode: u64, error: Error) -> Result<Synced, FsError>
+        ensures { KeepsNames self.old self.new }
+    {
+        if self.options.failed_sync == FailedSync::Drops && matches!(error, Error::Injected) {
+            self.drop_unsynced(inode)?;
+        }
+        Err(FsError::Store(error))
     }
 
     /// Says that a file has changed since its last sync.
@@ -74,12 +88,15 @@ impl<R: Rng + Drop> FileSystem<R> {
     /// # Errors
     ///
     /// `Stale`, `Injected` of the layer's sync, `Memory`. The names and bytes that the calls see stay. Some of the edits may be
-    /// settled.
+    /// settled. After `Injected` with `FailedSync::Drops`, what was unsynced is dropped.
     pub fn sync(&mut self, file: Descriptor) -> Result<(), FsError>
         ensures { KeepsNames self.old self.new }
     {
         self.begin_call()?;
         let inode = self.inode_of(file)?;
+        if self.options.syncs == Syncs::Lie {
+            return Ok(());
+        }
         let synced = self.sync_bytes(inode)?;
         let settled = self.settle_by(self.options.profile.settles, synced);
         if settled.is_err() {
@@ -99,6 +116,9 @@ impl<R: Rng + Drop> FileSystem<R> {
     {
         self.begin_call()?;
         let inode = self.inode_of(file)?;
+        if self.options.syncs == Syncs::Lie {
+            return Ok(());
+        }
         let (is_resized, is_changed) = match self.files.get(&inode) {
             None => return Err(FsError::Stale),
             Some(found) => (found.synced != found.blob.size(), found.is_changed),
@@ -133,6 +153,9 @@ impl<R: Rng + Drop> FileSystem<R> {
         if !self.directories.contains_key(&directory) {
             return Err(FsError::NotFound);
         }
+        if self.options.syncs == Syncs::Lie {
+            return Ok(());
+        }
         self.settle_by(self.options.profile.settles, Synced::Directory(directory))
     }
 
@@ -152,6 +175,9 @@ impl<R: Rng + Drop> FileSystem<R> {
         ensures { KeepsNames self.old self.new }
     {
         self.begin_call()?;
+        if self.options.syncs == Syncs::Lie {
+            return Ok(());
+        }
         let inodes = self.inodes()?;
         for inode in &inodes {
             self.sync_bytes(*inode)?;
@@ -161,13 +187,16 @@ impl<R: Rng + Drop> FileSystem<R> {
 
     fn inodes(&self) -> Result<Vec<u64>, FsError> {
         let mut inodes = Vec::new(self.alloc);
-        for (inode, _) in &self.files {
-            inodes.push(*inode)?;
+        for (inode, file) in &self.files {
+            if !file.is_gone {
+                inodes.push(*inode)?;
+            }
         }
         Ok(inodes)
     }
 
-    /// Makes the bytes of all files and all names durable, and draws nothing: the state before a test.
+    /// Makes the bytes of all files and all names durable, and draws nothing: the state before a test. Bytes that a failed sync
+    /// dropped are gone, and syncs that lie don't matter here.
     ///
     /// # Errors
     ///
@@ -180,6 +209,7 @@ impl<R: Rng + Drop> FileSystem<R> {
         self.store.set_config(blob_faulty::Config::default());
         for inode in &inodes {
             self.sync_bytes(*inode)?;
+            self.show_blob(*inode);
         }
         self.settle_names()
     }

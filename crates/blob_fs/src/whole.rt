@@ -3,7 +3,6 @@ ghost use Rattle.blob_fs.specs.Files.{KeepsNames};
 
 use crate::error::FsError;
 use crate::file_system::{FileSystem, ROOT};
-use blob_base::Blob;
 use blob_directory::edit::{Binding, Kind};
 use blob_faulty::Config;
 use rand_core::Rng;
@@ -58,12 +57,12 @@ impl<R: Rng + Drop> FileSystem<R> {
             return Err(FsError::NotFound);
         };
         let mut bytes = Vec::new(self.alloc);
-        let Ok(len) = usize::try_from(file.blob.size()) else {
+        let Ok(len) = usize::try_from(file.size()) else {
             return Err(AllocError.into());
         };
         bytes.resize(len, 0)?;
         if len > 0 {
-            file.blob.read_into(&mut self.store, 0, &mut bytes)?;
+            file.read_into(&mut self.store, 0, &mut bytes)?;
         }
         Ok(bytes)
     }

@@ -1,0 +1,69 @@
+#include "commands.h"
+
+#include "layer.h"
+#include "nodes.h"
+#include "power.h"
+#include "serve.h"
+
+#include <errno.h>
+#include <inttypes.h>
+#include <stdio.h>
+#include <stdlib.h>
+#include <string.h>
+
+static void print_status(char *reply, size_t capacity) {
+    snprintf(reply, capacity,
+             "ok power %s life %" PRIu64 " calls %" PRIu64 " changing %" PRIu64 " bytes %" PRIu64 "/%" PRIu64 " files %" PRIu64
+             "/%" PRIu64 " unsynced %" PRIu64 " names-changed %" PRIu64 "/%" PRIu64 " write-backs %" PRIu64 " stale %" PRIu64,
+             power.is_off ? "off" : "on", power.life, power.calls, power.changing_calls, node_counts.bytes, node_limits.bytes,
+             node_counts.files, node_limits.files, node_counts.unsynced, node_counts.changes, node_limits.changes,
+             power.write_backs, power.stale_calls);
+}
+
+static int settle(void) {
+    int error = layer_settle();
+    if (!error) nodes_synced();
+    return error;
+}
+
+static int crash(char *reply, size_t capacity, pid_t *child) {
+    struct layer_crash kept;
+    int error = serve_crash(&kept, child);
+    if (error) return error;
+    snprintf(reply, capacity,
+             "ok life %" PRIu64 " writes %" PRIu64 " kept-bytes %" PRIu64 " lost-bytes %" PRIu64 " edits %" PRIu64 " kept-edits %" PRIu64,
+             power.life, kept.writes, kept.kept_bytes, kept.lost_bytes, kept.edits, kept.kept_edits);
+    return 0;
+}
+
+/* Lets the power go off after some changing calls. */
+static int crash_after(const char *text) {
+    char *end;
+    errno = 0;
+    unsigned long long count = strtoull(text, &end, 10);
+    if (*text < '0' || *text > '9' || *end || errno) return EINVAL;
+    power.calls_left = count;
+    power.is_counting = count > 0;
+    if (count == 0) power.is_off = true;
+    return 0;
+}
+
+static bool begins(const char *line, const char *word) { return strncmp(line, word, strlen(word)) == 0; }
+
+pid_t command_run(const char *line, char *reply, size_t capacity) {
+    int error = 0;
+    pid_t child = 0;
+    snprintf(reply, capacity, "ok");
+    if (!strcmp(line, "status")) print_status(reply, capacity);
+    else if (!strcmp(line, "settle")) error = settle();
+    else if (!strcmp(line, "off")) power.is_off = true;
+    else if (!strcmp(line, "on")) power_on();
+    else if (!strcmp(line, "crash")) error = crash(reply, capacity, &child);
+    else if (!strcmp(line, "umount")) serve_end();
+    else if (begins(line, "crash-after ")) error = crash_after(line + strlen("crash-after "));
+    else if (begins(line, "config ") || begins(line, "profile ") || begins(line, "keep ")) error = layer_set(line);
+    else error = ENOSYS;
+    if (error == ENOSYS) snprintf(reply, capacity, "error: no such command");
+    else if (error) snprintf(reply, capacity, "error: %s", strerror(error));
+    return error ? 0 : child;
+}

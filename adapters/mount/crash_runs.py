@@ -1,0 +1,223 @@
+"""One seed of tools/crash_run: a program is run on a mount, the power goes off, and what is left is checked."""
+
+import os
+import random
+import shutil
+import signal
+import subprocess
+import tempfile
+import time
+
+from mounting import Mount
+
+MOUNT_OPTIONS = ("profile", "tear", "keep", "size")
+VERDICTS = ("held", "lost", "damaged", "not started", "too slow")
+# The status of a check that finds damage.
+DAMAGED = 2
+
+
+class Broken(Exception):
+    """The commands fail without a crash, or there is no mount."""
+
+
+def processes():
+    """Returns the parent of each process."""
+    parents = {}
+    for name in os.listdir("/proc"):
+        if name.isdigit():
+            try:
+                with open(f"/proc/{name}/stat", "rb") as file:
+                    parents[int(name)] = int(file.read().rpartition(b")")[2].split()[1])
+            except (OSError, IndexError):
+                pass
+    return parents
+
+
+def started(spared):
+    """Returns the processes that come from this one, apart from one and what comes from it."""
+    parents, found = processes(), []
+    for process in parents:
+        above = process
+        while above not in (os.getpid(), spared, 0, None):
+            above = parents.get(above)
+        if above == os.getpid() and process != above:
+            found.append(process)
+    return found
+
+
+def kill_started(spared, seconds):
+    """
+    Kills what was started, and waits for its end. Returns whether all of it has ended. While the power is off, a program may have to
+    wait for the last pages that it mapped. Its orphans are children of this process, which is their reaper.
+    """
+    until, empty = time.monotonic() + seconds, 0
+    while True:
+        left = started(spared)
+        empty = 0 if left else empty + 1
+        for process in left:
+            try:
+                os.kill(process, signal.SIGKILL)
+                os.waitpid(process, os.WNOHANG)
+            except (ProcessLookupError, ChildProcessError):
+                pass
+        if empty == 2 or time.monotonic() > until:  # one whose parent has just ended may be missed once
+            return not left
+        time.sleep(0.002)
+
+
+class Run:
+    """One seed. This process is the reaper of all that it starts, and starts nothing else meanwhile."""
+
+    def __init__(self, options, program, seed):
+        self.options = options
+        self.random = random.Random(seed)
+        self.crashes = 0
+        other = ["--allow-other"] if options.allow_other else []
+        words = [word for name in MOUNT_OPTIONS if getattr(options, name) for word in ("--" + name, getattr(options, name))]
+        self.mount = Mount(program, "--seed", str(seed), *other, *words)
+        self.folder = tempfile.mkdtemp(prefix="blobcrash-run-")
+        self.log = open(os.path.join(self.folder, "log"), "wb")
+        if options.allow_other:
+            os.chmod(self.mount.folder, 0o711)
+        self.environment = {**os.environ, "MOUNT": self.mount.at, "SEED": str(seed),
+                            "ACKNOWLEDGED": os.path.join(self.folder, "acknowledged")}
+        with open(self.environment["ACKNOWLEDGED"], "wb"):
+            pass
+
+    def command(self, name):
+        """Runs a command, until it ends or the power goes off. Returns its status, or None: the power is off, or `too slow`."""
+        text = getattr(self.options, name)
+        if not text:
+            return 0
+        self.log.write(f"# {name}\n".encode())
+        self.log.flush()
+        process = subprocess.Popen(["sh", "-c", text], env=self.environment, stdin=subprocess.DEVNULL, stdout=self.log,
+                                   stderr=self.log, start_new_session=True)
+        until = time.monotonic() + self.options.timeout
+        while True:
+            try:
+                return process.wait(0.004)
+            except subprocess.TimeoutExpired:
+                if self.mount.control.is_off():
+                    return None
+                if time.monotonic() > until:
+                    return "too slow"
+
+    def prepare(self):
+        """Makes what is durable before the program starts."""
+        source = self.options.from_folder
+        if source and subprocess.run(["cp", "-a", "--", os.path.join(source, "."), self.mount.at]).returncode:
+            raise Broken(f"{source} can't be copied")
+        status = self.command("prepare")
+        if status != 0:
+            raise Broken(f"--prepare: {status}{self.tail()}")
+        self.mount.ask("settle")
+
+    def crash(self):
+        """Kills what runs, and crashes."""
+        self.mount.ask("off")
+        kill_started(self.mount.daemon.pid, 0.2)
+        self.mount.ask("crash")
+        if not kill_started(self.mount.daemon.pid, 20):
+            raise Broken("a process can't be killed")
+        self.crashes += 1
+
+    def recover(self):
+        """Starts the program and checks it. Returns the verdict, or None if the power went off."""
+        for name, bad in (("start", "not started"), ("check", "lost")):
+            status = self.command(name)
+            if status is None or status == "too slow":
+                return status
+            if status != 0:
+                return "damaged" if name == "check" and status == DAMAGED else bad
+        return "held"
+
+    def changing_calls(self):
+        """Returns how many changing calls were made."""
+        return int(self.mount.control.status()["changing"])
+
+    def measure(self):
+        """Runs without a crash. Returns how many changing calls the start and the workload make."""
+        self.prepare()
+        before = self.changing_calls()
+        for name in ("start", "work"):
+            status = self.command(name)
+            if status != 0:
+                raise Broken(f"--{name} without a crash: {status}{self.tail()}")
+        calls = self.changing_calls() - before
+        status = self.command("check")
+        if status != 0:
+            raise Broken(f"--check without a crash: {status}{self.tail()}")
+        return calls
+
+    def judge(self, calls):
+        """Crashes, recovers and checks. Returns the verdict."""
+        self.prepare()
+        self.mount.ask(f"crash-after {self.random.randint(1, max(calls, 1))}")
+        if self.command("start") == 0:
+            self.command("work")
+        self.crash()
+        if self.random.random() < 1 / 3:
+            self.mount.ask(f"crash-after {self.random.randint(1, max(calls // 4, 4))}")
+            verdict = self.recover()
+            if verdict is not None and verdict != "held":
+                return verdict
+            self.crash()
+        self.keep_tree()
+        verdict = self.recover()
+        if verdict is None:
+            raise Broken("the power went off without a command")
+        return verdict
+
+    def keep_tree(self):
+        """Copies what is durable."""
+        command = ["cp", "-a", "--", os.path.join(self.mount.at, "."), os.path.join(self.folder, "tree")]
+        if subprocess.run(command, stderr=self.log).returncode:
+            self.log.write(b"# the tree isn't complete\n")
+
+    def acknowledged(self):
+        """Returns how many operations were acknowledged."""
+        with open(self.environment["ACKNOWLEDGED"], "rb") as file:
+            return file.read().count(b"\n")
+
+    def tail(self):
+        """Returns the last lines of the commands."""
+        self.log.flush()
+        with open(self.log.name, "rb") as file:
+            return "".join("\n  " + line for line in file.read().decode(errors="replace").splitlines()[-6:])
+
+    def close(self, kept=None):
+        """Ends the mount. Moves the log, the acknowledgements and the tree to a folder, or removes them."""
+        kill_started(self.mount.daemon.pid, 20)
+        self.mount.close()
+        self.log.close()
+        if kept:
+            shutil.rmtree(kept, ignore_errors=True)
+            shutil.move(self.folder, kept)
+        else:
+            shutil.rmtree(self.folder, ignore_errors=True)
+
+
+def measure(options, program):
+    """Runs the first seed without a crash. Returns how many changing calls it makes."""
+    run = Run(options, program, options.first)
+    try:
+        return run.measure()
+    finally:
+        run.close()
+
+
+def judge(options, program, calls):
+    """
+    Runs the first seed. Returns its verdict, its crashes, its acknowledged operations, the end of its log, and the folder that has
+    what is kept of a failure.
+    """
+    run, kept, tail = Run(options, program, options.first), None, ""
+    try:
+        verdict, acknowledged = run.judge(calls), run.acknowledged()
+        if verdict != "held":
+            os.makedirs(options.out, exist_ok=True)
+            kept, tail = os.path.join(options.out, f"seed-{options.first}"), run.tail()
+    finally:
+        run.close(kept)
+    return {"verdict": verdict, "crashes": run.crashes, "acknowledged": acknowledged, "tail": tail, "kept": kept}

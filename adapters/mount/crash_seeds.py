@@ -1,0 +1,171 @@
+"""
+tools/crash_run --work CMD --check CMD [options]: crashes a program on a mount, once or twice for each seed, and checks what is left.
+
+For each seed: a new mount; CMD of --prepare, after which everything is durable; CMD of --start, then CMD of --work, until the power
+goes off after a call that the seed draws. What runs is killed, the layer crashes, and the program is started again and checked. In
+a third of the seeds the power goes off in that recovery too.
+
+  --seeds N          how many seeds (20)
+  --first N          the first of them (1)
+  --jobs N           how many of them run at once (1)
+  --prepare CMD      makes what is durable before the program starts
+  --from FOLDER      copies a folder in before that
+  --start CMD        starts the program, and returns when it serves; not needed if the other commands do that
+  --work CMD         the workload. It acknowledges by lines in the file $ACKNOWLEDGED, which is outside the mount
+  --check CMD        exits with 0 if all that was acknowledged is found, 2 if what is found is damaged, otherwise with 1
+  --stop-after N     the power goes off after one of the first N changing calls (as many as a run without a crash makes)
+  --timeout SECONDS  how long a command may take (60)
+  --out FOLDER       where failures are kept (out/crash_run)
+  --profile, --tear, --keep, --size, --allow-other   as for tools/mount
+
+A command is run by sh in this folder, with MOUNT, the folder of the mount, ACKNOWLEDGED and SEED in the environment.
+Exit statuses: 0 if nothing failed; 1 if a seed failed; 2 for bad options, or if the check fails without a crash; 3 without FUSE.
+
+From Python: `main(words, executor)` of this module with the words of a command line and an executor of `concurrent.futures`, which may
+be that of a cluster: each seed is a process of its own on one of its workers. The repository has the same path on each of them.
+"""
+
+import argparse
+import ctypes
+import itertools
+import json
+import os
+import shlex
+import subprocess
+import sys
+import time
+from concurrent.futures import ThreadPoolExecutor
+
+from crash_runs import MOUNT_OPTIONS, VERDICTS, Broken, judge, measure
+from mounting import Failed
+
+TOP = os.path.dirname(os.path.dirname(os.path.dirname(os.path.realpath(__file__))))
+# Where failures are kept: an installed tool keeps them in the current folder.
+KEPT = os.path.join(TOP if os.path.isdir(os.path.join(TOP, "crates")) else os.getcwd(), "out", "crash_run")
+TOOL = os.path.join(TOP, "tools", "crash_run")
+SET_CHILD_SUBREAPER = 36
+
+
+def parse(words):
+    """Returns the options."""
+    parser = argparse.ArgumentParser(prog="crash_run", usage=__doc__.strip(), add_help=False, allow_abbrev=False)
+    parser.add_argument("--seeds", type=int, default=20)
+    parser.add_argument("--first", type=int, default=1)
+    parser.add_argument("--from", dest="from_folder")
+    parser.add_argument("--jobs", type=int, default=1)
+    parser.add_argument("--stop-after", type=int)
+    parser.add_argument("--timeout", type=float, default=60)
+    parser.add_argument("--out", default=KEPT)
+    parser.add_argument("--allow-other", action="store_true")
+    for name in ("prepare", "start", *MOUNT_OPTIONS):
+        parser.add_argument("--" + name)
+    for name in ("work", "check"):
+        parser.add_argument("--" + name, required=True)
+    parser.add_argument("--one", choices=("measure", "judge"), help=argparse.SUPPRESS)  # by a worker: one seed, with a line of JSON
+    options = parser.parse_args(words)
+    if options.seeds < 1 or options.first < 0 or options.jobs < 1:
+        parser.error("--seeds and --jobs are at least 1, and --first at least 0")
+    return options
+
+
+def of_seed(words, seed, calls):
+    """Returns the words of a command line for one seed."""
+    kept, skips = [], False
+    for word in words:
+        name = word.split("=")[0]
+        if skips or name in ("--seeds", "--first", "--stop-after", "--jobs"):
+            skips = not skips and "=" not in word
+        else:
+            kept.append(word)
+    return ["--first", str(seed), "--seeds", "1", *(["--stop-after", str(calls)] if calls else []), *kept]
+
+
+def run_one(options):
+    """Runs one seed in this process, and prints its result."""
+    ctypes.CDLL(None).prctl(SET_CHILD_SUBREAPER, 1, 0, 0, 0)  # the parent of all orphans that come from it
+    try:
+        built = program()
+        result = {"calls": measure(options, built)} if options.one == "measure" else judge(options, built, options.stop_after)
+    except (Broken, Failed) as error:
+        result = {"error": str(error)}
+    print(json.dumps(result))
+    return 0
+
+
+def program():
+    """Returns the path of the daemon."""
+    built = subprocess.run(["sh", os.path.join(TOP, "adapters", "mount", "build.sh")], stdout=subprocess.PIPE, text=True)
+    if built.returncode:
+        sys.exit(built.returncode)
+    return built.stdout.strip()
+
+
+def start(executor, words, one):
+    """Gives one seed to a worker."""
+    command = [sys.executable, TOOL, "--one", one, *words]
+    return executor.submit(subprocess.run, command, cwd=os.getcwd(), stdin=subprocess.DEVNULL, stdout=subprocess.PIPE, text=True)
+
+
+def result_of(task):
+    """Waits for the result of a seed."""
+    ran = task.result()
+    try:
+        result = json.loads(ran.stdout.splitlines()[-1])
+    except (IndexError, ValueError):
+        raise Broken(f"a run ended with status {ran.returncode}") from None
+    if "error" in result:
+        raise Broken(result["error"])
+    return result
+
+
+def judge_all(executor, words, seeds, calls, at_once):
+    """Yields each seed with its result, in order. At most so many are under way or wait for their turn."""
+    waiting, tasks = iter(seeds), {}
+    for seed in seeds:
+        for next_one in itertools.islice(waiting, max(0, at_once - len(tasks))):
+            tasks[next_one] = start(executor, of_seed(words, next_one, calls), "judge")
+        yield seed, result_of(tasks.pop(seed))
+
+
+def run_all(options, words, executor, at_once):
+    """Runs the seeds. Returns the number of each verdict, of crashes and of acknowledgements, and among how many calls each stopped."""
+    calls = options.stop_after or result_of(start(executor, of_seed(words, options.first, None), "measure"))["calls"]
+    counts, crashes, acknowledged, shown_at = dict.fromkeys(VERDICTS, 0), 0, 0, time.monotonic()
+    seeds = range(options.first, options.first + options.seeds)
+    for seed, result in judge_all(executor, words, seeds, calls, at_once):
+        counts[result["verdict"]] += 1
+        crashes += result["crashes"]
+        acknowledged += result["acknowledged"]
+        if result["kept"]:
+            print(f"seed {seed}: {result['verdict']}{result['tail']}\n  the durable tree: {result['kept']}/tree", flush=True)
+            tool = os.path.relpath(TOOL) if os.path.samefile(TOP, ".") else TOOL
+            print(f"  again: {shlex.join([tool, *of_seed(words, seed, calls)])}", flush=True)
+        if time.monotonic() > shown_at + 2:
+            shown_at, number = time.monotonic(), sum(counts.values())
+            print(f"crash_run: {number} of {options.seeds} seeds, {number - counts['held']} failed", file=sys.stderr)
+    return counts, crashes, acknowledged, calls
+
+
+def main(words, executor=None):
+    """Runs all. Returns the exit status."""
+    if words == ["--help"]:
+        print(__doc__.strip())
+        return 0
+    options = parse(words)
+    if options.one:
+        return run_one(options)
+    program()
+    own = ThreadPoolExecutor(options.jobs) if executor is None else None
+    at_once = options.jobs if own else 2 * (getattr(executor, "_max_workers", None) or 64)
+    try:
+        counts, crashes, acknowledged, calls = run_all(options, words, own or executor, at_once)
+    except (Broken, Failed) as error:
+        print(f"crash_run: {error}", file=sys.stderr)
+        return 3 if "docker run" in str(error) else 2
+    finally:
+        if own:
+            own.shutdown()
+    print(f"| profile | seeds | calls | crashes | acknowledged | {' | '.join(VERDICTS)} |\n|---|{'---|' * (4 + len(VERDICTS))}")
+    row = [options.profile or "ext4", options.seeds, calls, crashes, acknowledged, *counts.values()]
+    print("| " + " | ".join(map(str, row)) + " |")
+    return int(counts["held"] != options.seeds)

@@ -1,0 +1,100 @@
+#!/bin/sh
+# Times calls on the mount, on passthrough_ll of libfuse's examples (one thread, over tmpfs), and on tmpfs itself, in turn in one run.
+# Prints microseconds an operation, the fastest of three rounds, and the daemon's time as a multiple of passthrough_ll's; transactions a
+# second of pgbench, if there is a PostgreSQL; what a crash takes; with valgrind, the instructions of the daemon for an operation. Goes
+# to standard error. No test compares a time. The argument is the seconds of a round, 0.5 if none is given.
+# On a busy machine compare the instructions.
+set -eu
+
+top=$(CDPATH='' cd -- "$(dirname -- "$0")/.." && pwd -P)
+seconds=${1:-0.5}
+memory=/dev/shm
+[ -w "$memory" ] || memory=/tmp
+work=$(mktemp -d)
+plain=$(mktemp -d "$memory/blobcrash.XXXXXX")
+chmod 711 "$work" "$plain"
+example=/usr/share/doc/libfuse3-dev/examples/passthrough_ll.c
+
+finish() {
+    for at in passthrough ours counted; do umount "$work/$at" 2>/dev/null || true; done
+    rm -rf "$work" "$plain"
+}
+trap finish EXIT
+exec 1>&2
+
+program=$(sh "$top/adapters/mount/build.sh")
+cc -std=c11 -O2 -o "$work/times" "$top/benches/mount_times.c"
+mkdir "$plain/below" "$plain/tmpfs" "$work/passthrough" "$work/ours" "$work/counted"
+"$program" "$work/ours" --size 4G --allow-other --control "$work/socket"
+set -- "$plain/tmpfs" "$work/ours"
+if [ -f "$example" ]; then
+    # shellcheck disable=SC2046
+    cc -O2 $(pkg-config --cflags fuse3) -o "$work/passthrough_ll" "$example" $(pkg-config --libs fuse3)
+    "$work/passthrough_ll" -s -o "source=$plain/below,cache=always,allow_other" "$work/passthrough"
+    set -- "$plain/tmpfs" "$work/passthrough" "$work/ours"
+    echo '| us | tmpfs | passthrough_ll | mount | mount / passthrough_ll |'
+    echo '|---|---|---|---|---|'
+else
+    echo "there is no $example (Debian: libfuse3-dev)"
+fi
+"$work/times" "$seconds" "$@" | awk -F '\t' '
+    NF == 4 { printf "| %s | %s | %s | %s | %.2f |\n", $1, $2, $3, $4, $4 / $3 }
+    NF == 3 { printf "| %s | %s | none | %s | |\n", $1, $2, $3 }'
+
+# pgbench's own transactions, one client, with the cluster in a folder.
+transactions() {
+    driver="python3 $top/adapters/mount/programs/postgres.py"
+    mkdir "$1/cluster-of"
+    chmod 755 "$1/cluster-of"
+    export MOUNT="$1/cluster-of" ACKNOWLEDGED="$work/acknowledged"
+    $driver prepare && $driver start >"$work/log" 2>&1 || return 0
+    $driver pgbench "$seconds"
+}
+
+if ls /usr/lib/postgresql/*/bin/postgres >/dev/null 2>&1; then
+    for folder; do echo "pgbench on $(stat -f -c %T "$folder") ${folder##*/}: $(transactions "$folder") transactions a second"; done
+fi
+
+# crash: prints what a crash kept, and how long it took.
+crash() {
+    began=$(date +%s%N)
+    "$top/tools/mountctl" "$work/socket" crash
+    echo "  $((($(date +%s%N) - began) / 1000000)) ms"
+}
+settle() { "$top/tools/mountctl" "$work/socket" settle; }
+
+settle
+echo 'a crash with 512 MB unsynced:'
+dd if=/dev/zero of="$work/ours/big" bs=1M count=512 status=none
+crash
+rm -f "$work/ours/big"
+echo 'a crash with 20,000 files of 1,000 bytes, settled and written again:'
+fill() { python3 -c 'import sys
+for number in range(20000):
+    with open(f"{sys.argv[1]}/{number}", "w") as file: file.write("x" * 1000)' "$work/ours"; }
+fill
+settle
+fill
+crash
+
+command -v valgrind >/dev/null || exit 0
+echo 'instructions of the daemon for an operation:'
+valgrind --tool=callgrind --callgrind-out-file="$work/counts" "$program" "$work/counted" --control "$work/counted-socket" --foreground \
+    >/dev/null 2>&1 &
+daemon=$!
+until "$top/tools/mountctl" "$work/counted-socket" status >/dev/null 2>&1; do sleep 0.1; done
+# instructions NAME COUNT: prints those of opening the files and COUNT operations, the second time.
+instructions() {
+    "$work/times" "$1" 1 "$work/counted"
+    callgrind_control -z "$daemon" >/dev/null 2>&1
+    "$work/times" "$1" "$2" "$work/counted"
+    callgrind_control -d "$daemon" >/dev/null 2>&1
+    last=$(find "$work" -name 'counts.*' | sort -t. -k2n | tail -n 1)
+    sed -n 's/^\(totals\|summary\): *//p' "$last" | tail -n 1
+}
+for name in '4 KB write, fdatasync' '4 KB write' '100 bytes appended, fsync' '1 MB write, in sequence' \
+    'create, write, fsync, rename, fsync of the folder'; do
+    less=$(instructions "$name" 128)
+    more=$(instructions "$name" 384)
+    echo "  $name: $(((more - less) / 256))"
+done

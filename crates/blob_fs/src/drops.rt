@@ -1,0 +1,109 @@
+//! A sync that fails and drops what was unsynced: what reads return after it.
+ghost use Rattle.blob_fs.specs.Files.{KeepsNames};
+
+use crate::error::FsError;
+use crate::file_system::{FILES, File, FileSystem, Store};
+use blob_base::{Blob, Error, Storage};
+use blob_faulty::Config;
+use rand_core::Rng;
+use std::alloc::{AllocError, Global};
+
+impl File {
+    /// Returns a copy of the bytes that reads return.
+    fn shown_bytes<R: Rng>(&self, alloc: Global, store: &mut Store<R>) -> Result<Vec<u8>, Error> {
+        let mut bytes = Vec::new(alloc);
+        bytes.resize(self.size() as usize, 0)?;
+        let buf = bytes.as_mut_slice();
+        self.read_into(store, 0, buf)?;
+        Ok(bytes)
+    }
+
+    /// Reads bytes from an offset on, as many as the buffer takes. Draws as the layer's read.
+    pub(crate) fn read_into<R: Rng>(
+        &self,
+        store: &mut Store<R>,
+        offset: u64,
+        buf: &mut [u8],
+    ) -> Result<(), Error> {
+        let Some(shown) = &self.shown else {
+            return self.blob.read_into(store, offset, buf);
+        };
+        self.blob.read_into(store, 0, &mut [])?;
+        for i in 0..buf.len() {
+            let at = offset.saturating_add(i as u64) as usize;
+            buf[i] = shown.get(at).copied().unwrap_or(0);
+        }
+        Ok(())
+    }
+
+    /// Reserves capacity for what a call shows up to a position.
+    pub(crate) fn reserve_shown(&mut self, end: u64) -> Result<(), AllocError> {
+        if let Some(shown) = &mut self.shown {
+            let more = end.saturating_sub(shown.len() as u64);
+            shown.reserve(more as usize)?;
+        }
+        Ok(())
+    }
+
+    /// Shows a write that returned Ok. There is capacity for it.
+    pub(crate) fn show_write(&mut self, offset: u64, bytes: &[u8]) {
+        let Some(shown) = &mut self.shown else {
+            return;
+        };
+        let start = offset as usize;
+        let end = start.saturating_add(bytes.len());
+        if !bytes.is_empty() && end > shown.len() {
+            let _ = shown.resize(end, 0);
+        }
+        for (i, byte) in bytes.iter().enumerate() {
+            let at = start.saturating_add(i);
+            if at < shown.len() {
+                shown[at] = *byte;
+            }
+        }
+    }
+
+    /// Shows a truncation that returned Ok. There is capacity for it.
+    pub(crate) fn show_size(&mut self, length: u64) {
+        if let Some(shown) = &mut self.shown {
+            let _ = shown.resize(length as usize, 0);
+        }
+    }
+}
+
+impl<R: Rng + Drop> FileSystem<R> {
+    /// Drops a file's unsynced bytes: its handle is opened again, and its pending writes are discarded. Reads return what they
+    /// did. Makes no draw.
+    ///
+    /// # Errors
+    ///
+    /// `Memory`. The bytes are unsynced as before.
+    pub(crate) fn drop_unsynced(&mut self, inode: u64) -> Result<(), FsError>
+        ensures { KeepsNames self.old self.new }
+    {
+        self.store.set_config(Config::default());
+        let Some(file) = self.files.get_mut(&inode) else {
+            return Ok(());
+        };
+        let shown = file.shown_bytes(self.alloc, &mut self.store)?;
+        let name = inode.to_be_bytes();
+        let (blob, _) = self.store.open(FILES, &name)?;
+        let _ = self.store.admit(FILES, &name);
+        file.blob = blob;
+        file.shown = Some(shown);
+        Ok(())
+    }
+
+    /// Lets reads return the blob's bytes again.
+    pub(crate) fn show_blob(&mut self, inode: u64)
+        ensures { KeepsNames self.old self.new }
+    {
+        let Some(file) = self.files.get_mut(&inode) else {
+            return;
+        };
+        let size = file.size();
+        file.shown = None;
+        let now = file.size();
+        self.count(size, now);
+    }
+}

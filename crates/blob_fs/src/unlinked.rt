@@ -1,0 +1,63 @@
+//! Files that no name and no descriptor refers to.
+ghost use Rattle.blob_fs.specs.Files.{KeepsNames};
+
+use crate::file_system::{FILES, FileSystem};
+use blob_base::Storage;
+use blob_faulty::Config;
+use rand_core::Rng;
+
+/// A file that is gone. A crash that loses an edit from before that may find it again.
+#[derive(Clone, Copy)]
+pub(crate) struct Gone {
+    inode: u64,
+    /// The number of the next edit when it went.
+    edit: u64,
+}
+
+impl<R: Rng + Drop> FileSystem<R> {
+    /// Lets a file go if no name and no descriptor refers to it: its bytes don't count any more. `gone` has capacity.
+    pub(crate) fn let_go(&mut self, inode: u64)
+        ensures { KeepsNames self.old self.new }
+    {
+        let edit = self.next_edit;
+        let Some(file) = self.files.get_mut(&inode) else {
+            return;
+        };
+        if file.links > 0 || file.opens > 0 || file.is_gone {
+            return;
+        }
+        let size = file.size();
+        file.is_gone = true;
+        let _ = self.gone.push(Gone { inode, edit });
+        self.count(size, 0);
+    }
+
+    /// Removes the files that are gone, if all edits from before that are settled. Makes no draw.
+    pub(crate) fn remove_gone(&mut self)
+        ensures { KeepsNames self.old self.new }
+    {
+        let settled = match self.unsettled.first() {
+            None => u64::MAX,
+            Some(edit) => edit.number,
+        };
+        for i in 0..self.gone.len() {
+            let Some(gone) = self.gone.get(i).copied() else {
+                break;
+            };
+            if gone.edit > settled {
+                break;
+            }
+            self.remove_file(gone.inode);
+        }
+        self.gone.retain(|gone| gone.edit > settled);
+    }
+
+    /// Removes a file and its blob. If memory is refused, the blob stays until the next crash.
+    pub(crate) fn remove_file(&mut self, inode: u64)
+        ensures { KeepsNames self.old self.new }
+    {
+        self.store.set_config(Config::default());
+        self.files.remove(&inode);
+        let _ = self.store.remove(FILES, Some(&inode.to_be_bytes()));
+    }
+}

@@ -1,0 +1,130 @@
+#!/bin/sh
+# Tests of explorations of code: in C (bindings/c/explore.c, a log with power losses in explore_log.c, and programs on files in
+# explore_files.c), in Python (tests/explore_bodies.py, explore_bounds.py), and the log of examples/log.py over
+# every outcome of small runs, with planted bugs (tests/explore_log.py). The last line is `N passed, M failed`.
+set -u
+
+top=$(CDPATH='' cd -- "$(dirname -- "$0")/.." && pwd -P)
+work=$(mktemp -d)
+trap 'rm -rf "$work"' EXIT
+passed=0
+failed=0
+skipped=0
+
+skip() {
+    echo "explore_bodies.sh: skipped: $1"
+    skipped=$((skipped + 1))
+    if [ "${CI:-}" = true ]; then failed=$((failed + 1)); fi
+}
+
+tell() {
+    if [ "$1" -eq 0 ]; then
+        passed=$((passed + 1))
+    else
+        failed=$((failed + 1))
+        echo "explore_bodies.sh: FAILED: $2"
+        tail -n 40 "$work/out"
+    fi
+}
+
+finish() {
+    if [ "$skipped" -gt 0 ]; then
+        echo "$passed passed, $failed failed, $skipped skipped"
+    else
+        echo "$passed passed, $failed failed"
+    fi
+    [ "$failed" -eq 0 ]
+    exit
+}
+
+# with_distributed: the Python that has Dask's executor, if one has.
+with_distributed() {
+    for python in python3 /usr/bin/python3; do
+        if "$python" -c 'import distributed' >/dev/null 2>&1; then
+            echo "$python"
+            return
+        fi
+    done
+    echo python3
+}
+
+# add COMMAND..: runs a test, and adds its counts.
+add() {
+    "$@" >"$work/out" 2>&1
+    status=$?
+    cat "$work/out"
+    counts=$(sed -n 's/^\([0-9]*\) passed, \([0-9]*\) failed$/\1 \2 0/p
+        s/^\([0-9]*\) passed, \([0-9]*\) failed, \([0-9]*\) skipped$/\1 \2 \3/p' "$work/out" | tail -n 1)
+    # shellcheck disable=SC2086
+    set -- ${counts:-0 1 0}
+    [ "$status" -eq 0 ] || [ "$2" -gt 0 ] || set -- "$1" 1 "$3"
+    passed=$((passed + $1))
+    failed=$((failed + $2))
+    skipped=$((skipped + $3))
+}
+
+if ! sh "$top/bindings/build.sh"; then
+    echo "explore_bodies.sh: the library can't be built"
+    echo "0 passed, 1 failed"
+    exit 1
+fi
+compiler=${CC:-cc}
+if ! command -v "$compiler" >/dev/null; then
+    skip 'C and Python: there is no C compiler'
+    finish
+fi
+
+if "$compiler" -std=c11 -Wall -Wextra -Werror -O2 -I"$top/bindings/c" -o "$work/explore" "$top/bindings/c/explore.c" \
+    "$top/out/libblobcrash.a" >"$work/out" 2>&1; then
+    add "$work/explore"
+else
+    tell 1 'bindings/c/explore.c'
+fi
+# The log in C. One run without a power loss; one for a loss at each of the two opens, of the two writes of two appends and of the four
+# opens of two recoveries; four for each of the two syncs, since the crash then keeps 0 to 3 bytes of the record.
+explore_log() {
+    "$@" >"$work/out" 2>&1
+    status=$?
+}
+for sanitize in '' '-g -fsanitize=address,undefined'; do
+    # shellcheck disable=SC2086
+    if ! "$compiler" -std=c11 -Wall -Wextra -Werror -pedantic -O2 $sanitize -I"$top/bindings/c" -o "$work/explore_log" \
+        "$top/bindings/c/explore_log.c" "$top/out/libblobcrash.a" >"$work/out" 2>&1; then
+        if [ -n "$sanitize" ]; then skip 'explore_log.c under the address sanitizer'; else tell 1 'explore_log.c'; fi
+        continue
+    fi
+    explore_log "$work/explore_log"
+    [ "$status" -eq 0 ] && [ "$(cat "$work/out")" = '19 runs, all of them' ]
+    tell $? "explore_log.c $sanitize: the log loses nothing"
+    explore_log "$work/explore_log" forget-sync "$work/script"
+    [ "$status" -eq 1 ] && grep -q 'acknowledged is lost' "$work/out" && grep -qx crash "$work/script" && ! grep -q sync "$work/script"
+    tell $? "explore_log.c $sanitize: a forgotten sync is found"
+    # The head is durable before the record: only a power loss between them loses the record.
+    explore_log "$work/explore_log" seeds head-first
+    [ "$status" -eq 0 ]
+    tell $? "explore_log.c $sanitize: a head that is written first is not found without power losses"
+    explore_log "$work/explore_log" head-first "$work/script"
+    [ "$status" -eq 1 ] && grep -q 'acknowledged is lost' "$work/out" && grep -qx '# power loss' "$work/script"
+    tell $? "explore_log.c $sanitize: it is found with a power loss"
+    # Files: bugs that lose data, and the same programs without them.
+    # shellcheck disable=SC2086
+    if "$compiler" -std=c11 -Wall -Wextra -Werror -pedantic -O2 $sanitize -I"$top/bindings/c" -o "$work/explore_files" \
+        "$top/bindings/c/explore_files.c" "$top/out/libblobcrash.a" >"$work/out" 2>&1; then
+        add "$work/explore_files"
+    else
+        tell 1 "explore_files.c $sanitize"
+    fi
+done
+python=$(with_distributed)
+export PYTHONDONTWRITEBYTECODE=1
+add "$python" "$top/tests/explore_bodies.py"
+add "$python" "$top/tests/explore_bounds.py"
+add "$python" "$top/tests/explore_log.py"
+
+# The example finds nothing in the log, and a lost record if the log forgets its sync.
+"$python" "$top/examples/explore_log.py" >"$work/out" 2>&1 && grep -q '^[0-9]* runs, all of them$' "$work/out"
+tell $? 'examples/explore_log.py'
+"$python" "$top/examples/explore_log.py" --forget-sync >"$work/out" 2>&1
+[ $? -eq 1 ] && grep -q 'acknowledged records' "$work/out" && grep -q '^    words ' "$work/out"
+tell $? 'examples/explore_log.py --forget-sync'
+finish
