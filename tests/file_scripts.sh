@@ -34,7 +34,7 @@ played() {
 }
 
 # Each line has the call before `=>`, and its reply after it. A call by a path takes the number of a descriptor too; the crash draws
-# for the last write and the edit of the last create, which are mutations 13 and 14.
+# for the last write, of which it keeps the byte, and for the edit of the last create, which it loses.
 cat >"$work/rows" <<'ROWS'
 words 0 max => 
 profile posix => ok
@@ -52,7 +52,7 @@ write /a 2 64 => ok
 read /a 0 4 => bytes 616264
 size /a => size 3
 inode_of 0 => inode 2
-find /a => found file 2
+find /a => found file 2 3
 mkdir /d => ok
 find /d => found directory 3
 mkdir_at 3 e\x20f => inode 4
@@ -81,6 +81,11 @@ write 7 0 00 => error Stale
 open_truncated /a => opened 5
 open_inode 2 => opened 6
 open_inode 3 => error IsDirectory
+open_inode_truncated 3 => error IsDirectory
+failed_sync drops => ok
+syncs honest => ok
+failed_write prefix => ok
+failed_write mode => ok
 close 6 => ok
 close 6 => error Stale
 fsync 0 => ok
@@ -93,7 +98,7 @@ settle => ok
 tree => tree /a=- /d/ /d/e\x20f/ /d/e\x20f/g=616264
   write   0   0   7a    # tokens are separated by spaces => ok
 create /c => opened 8
-crash => crashed 0 13:0..1/1 14:-/1024
+crash => crashed 0 2:0..1:0..1
 ROWS
 sed 's/ => .*//' "$work/rows" >"$work/script"
 sed -n 's/.* => \(.\)/\1/p' "$work/rows" >"$work/replies"
@@ -131,6 +136,10 @@ link_at 1 2
 keep 2 1
 keep 1 0
 profile zfs
+failed_sync
+failed_sync maybe
+syncs lies
+failed_write none
 space 1
 config write 1 2
 open p 61
@@ -160,7 +169,7 @@ expect 'no call' 0 "# 1 leaf, which draws no words
 printf 'create /a\ncreate /b\ncrash\n' >"$work/in"
 played explore --limit 1 --last <"$work/in"
 expect 'a limit' 0 "# 1 leaf, first: words 0 0
-crashed 11 0:0..1024/1024 1:0..1024/1024
+crashed 11
 # 1 leaf, not all of them: the limit was reached; 1 outcome
 " ''
 played more <"$work/in"

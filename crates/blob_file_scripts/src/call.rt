@@ -69,6 +69,7 @@ fn shape_of(word: &str) -> Option<(u32, Shape)> {
         "listdir_at" => (kinds::LIST_AT, Shape::Number),
         "fsyncdir_at" => (kinds::SYNC_DIRECTORY_AT, Shape::Number),
         "open_inode" => (kinds::OPEN_INODE, Shape::Number),
+        "open_inode_truncated" => (kinds::OPEN_INODE_TRUNCATED, Shape::Number),
         "close" => (kinds::CLOSE, Shape::Number),
         "inode_of" => (kinds::INODE_OF, Shape::Number),
         "size" => (kinds::SIZE, Shape::File),

@@ -2,7 +2,7 @@
 use crate::path_text::print_path;
 use blob_base::RefusalLine;
 use blob_file_sessions::Reply;
-use blob_fs::{Binding, Crash, FsError, Kind, TreeEntry};
+use blob_fs::{Binding, Crash, FsError, Kind, Place, TreeEntry};
 use std::alloc::AllocError;
 
 /// Appends bytes in lower-case hex, or `-` if there are none.
@@ -46,10 +46,10 @@ fn print_refusal(error: &FsError, line: &mut String) -> Result<(), AllocError> {
     }
 }
 
-fn print_binding(binding: &Binding, line: &mut String) -> Result<(), AllocError> {
+fn print_binding(binding: &Binding, size: u64, line: &mut String) -> Result<(), AllocError> {
     let inode = binding.inode;
     match binding.kind {
-        Kind::File => write!(line, "found file {inode}"),
+        Kind::File => write!(line, "found file {inode} {size}"),
         Kind::Directory => write!(line, "found directory {inode}"),
     }
 }
@@ -82,29 +82,38 @@ fn print_tree(entries: &[TreeEntry], line: &mut String) -> Result<(), AllocError
     Ok(())
 }
 
-/// Appends the runs of kept bytes of a write, each as `START..END`, or `-` if none was kept.
-fn print_runs(choices: &[bool], line: &mut String) -> Result<(), AllocError> {
-    let mut start = 0;
+/// Appends the runs of kept bytes of a write at an offset, each as `START..END`, or `-` if none was kept.
+fn print_runs(offset: u64, choices: &[bool], line: &mut String) -> Result<(), AllocError> {
     let mut was_kept = false;
-    let mut runs = 0usize;
-    for (i, is_kept) in choices.iter().enumerate() {
+    let mut has_run = false;
+    let mut at = offset;
+    for is_kept in choices {
         if *is_kept && !was_kept {
-            let comma = if runs > 0 { "," } else { "" };
-            write!(line, "{comma}{i}..")?;
-            runs = runs.saturating_add(1);
-            start = i;
+            let comma = if has_run { "," } else { "" };
+            write!(line, "{comma}{at}..")?;
+            has_run = true;
         } else if was_kept && !*is_kept {
-            write!(line, "{i}")?;
+            write!(line, "{at}")?;
         }
         was_kept = *is_kept;
+        at = at.saturating_add(1);
     }
-    let _ = start;
-    let end = choices.len();
-    match (was_kept, runs) {
-        (true, _) => write!(line, "{end}"),
-        (false, 0) => line.push('-'),
-        (false, _) => Ok(()),
+    match (was_kept, has_run) {
+        (true, _) => write!(line, "{at}"),
+        (false, false) => line.push('-'),
+        (false, true) => Ok(()),
     }
+}
+
+/// Appends what a crash kept of a write to a file. An edit's sector isn't told: its digit is.
+fn print_row(place: &Place, choices: &[bool], line: &mut String) -> Result<(), AllocError> {
+    let Some(inode) = place.inode else {
+        return Ok(());
+    };
+    let start = place.offset;
+    let end = start.saturating_add(choices.len() as u64);
+    write!(line, " {inode}:{start}..{end}:")?;
+    print_runs(start, choices, line)
 }
 
 fn print_crash(crash: &Crash, line: &mut String) -> Result<(), AllocError> {
@@ -115,11 +124,8 @@ fn print_crash(crash: &Crash, line: &mut String) -> Result<(), AllocError> {
     for is_kept in &crash.edits {
         line.push(if *is_kept { '1' } else { '0' })?;
     }
-    for (number, choices) in crash.rows.rows() {
-        let len = choices.len();
-        write!(line, " {number}:")?;
-        print_runs(choices, line)?;
-        write!(line, "/{len}")?;
+    for (place, (_, choices)) in crash.places.iter().zip(crash.rows.rows().iter()) {
+        print_row(place, choices, line)?;
     }
     Ok(())
 }
@@ -133,7 +139,7 @@ pub fn print_reply(reply: &Reply, line: &mut String) -> Result<(), AllocError> {
             write!(line, "opened {number}")
         }
         Reply::Inode(inode) => write!(line, "inode {inode}"),
-        Reply::Found(binding) => print_binding(binding, line),
+        Reply::Found(binding, size) => print_binding(binding, *size, line),
         Reply::Size(size) => write!(line, "size {size}"),
         Reply::Names(names) => {
             line.push_str("names")?;
