@@ -62,6 +62,7 @@ file_reply (replies.Inode inode) = numbered inode 0
 file_reply (replies.Found binding size) = bound_reply binding DONE size
 file_reply (replies.Size size) = numbered 0 size
 file_reply (replies.Names names) = numbered 0 (length names.items)
+file_reply (replies.Tree entries) = numbered 0 (length entries.items)
 file_reply (replies.Crashed crash) = numbered (length crash.edits.items) (length (rows_of crash.rows))
 file_reply (replies.Refused error) = no_reply (file_status error)
 

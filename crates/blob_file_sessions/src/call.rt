@@ -102,6 +102,7 @@ impl FileReply {
             Reply::Found(binding, size) => FileReply::bound(binding, DONE, *size),
             Reply::Size(size) => FileReply::numbered(0, *size),
             Reply::Names(names) => FileReply::numbered(0, names.len() as u64),
+            Reply::Tree(entries) => FileReply::numbered(0, entries.len() as u64),
             Reply::Crashed(crash) => {
                 FileReply::numbered(crash.edits.len() as u64, crash.rows.rows().len() as u64)
             }

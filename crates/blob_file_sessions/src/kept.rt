@@ -12,7 +12,7 @@ use crate::kinds::{
     REMOVE_DIRECTORY, REMOVE_DIRECTORY_AT, RENAME, RENAME_AT, SETTLE, SIZE, SYNC, SYNC_ALL,
     SYNC_DATA, SYNC_DIRECTORY, SYNC_DIRECTORY_AT, TRUNCATE, UNLINK, UNLINK_AT,
 };
-use crate::reply::{Reply, crashed, done, found, inode, listed, opened, sized};
+use crate::reply::{Reply, crashed, done, found, inode, listed, opened, sized, walked};
 use crate::setting::read_file_setting;
 use blob_fs::{Binding, Descriptor, FileSystem, FsError, Rename};
 use blob_lab::ScriptedRng;
@@ -175,6 +175,19 @@ impl KeptFiles {
             CRASH => crashed(self.fs.crash()),
             _ => return None,
         })
+    }
+
+    /// Reads all paths and the bytes of files, without a draw. That is then the last call.
+    pub fn tree(&mut self)
+        ensures { KeepsNames (fs_of self.old) (fs_of self.new) }
+    {
+        let entries = self.fs.tree();
+        self.last = Some(walked(entries));
+    }
+
+    /// Returns the reply to the last call, if there was one.
+    pub fn reply(&self) -> Option<&Reply> {
+        self.last.as_ref()
     }
 
     /// Returns the numbers of the reply to the last call. Before the first call it is `DONE`.

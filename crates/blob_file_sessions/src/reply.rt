@@ -1,5 +1,5 @@
 // What a call on files returned, before it becomes numbers.
-use blob_fs::{Binding, Crash, Descriptor, FsError};
+use blob_fs::{Binding, Crash, Descriptor, FsError, TreeEntry};
 
 /// What a call returned.
 #[derive(Drop)]
@@ -13,6 +13,8 @@ pub enum Reply {
     Size(u64),
     /// The names of a directory with their bindings, in the order of their bytes.
     Names(Vec<(Vec<u8>, Binding)>),
+    /// Each path that the root reaches.
+    Tree(Vec<TreeEntry>),
     Crashed(Crash),
     Refused(FsError),
 }
@@ -62,6 +64,13 @@ pub(crate) fn listed(ended: Result<Vec<(Vec<u8>, Binding)>, FsError>) -> Reply {
 pub(crate) fn crashed(ended: Result<Crash, FsError>) -> Reply {
     match ended {
         Ok(crash) => Reply::Crashed(crash),
+        Err(error) => Reply::Refused(error),
+    }
+}
+
+pub(crate) fn walked(ended: Result<Vec<TreeEntry>, FsError>) -> Reply {
+    match ended {
+        Ok(entries) => Reply::Tree(entries),
         Err(error) => Reply::Refused(error),
     }
 }

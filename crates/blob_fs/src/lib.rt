@@ -18,6 +18,7 @@ pub mod switches;
 pub mod syncs;
 mod unlinked;
 mod writes;
+pub mod whole;
 
 pub use blob_directory::{
     Binding, Change, Edit, Keeps, Kind, Profile, Settles, edit, profile, sector, table,
@@ -27,3 +28,4 @@ pub use error::FsError;
 pub use file_system::{Descriptor, FileSystem, Options, ROOT};
 pub use renames::Rename;
 pub use switches::{FailedSync, FailedWrite, Syncs};
+pub use whole::TreeEntry;
