@@ -1,7 +1,7 @@
 #!/bin/sh
 # `blobcrash files` and `blobcrash files explore`: the scripts of examples/files, whose outcomes were worked out by hand from the rules of
-# docs/FILES.md, each call's reply, bad lines, statuses, arguments, failing streams, and replies before the next line is due. The last
-# line is `N passed, M failed`.
+# docs/FILES.md, each call's reply, bad lines, statuses, arguments, failing streams, replies before the next line is due, and lines of files in Python made again
+# (tests/file_scripts.py). The last line is `N passed, M failed`.
 top=$(CDPATH='' cd -- "$(dirname -- "$0")/.." && pwd -P)
 # shellcheck source=tests/counting.sh
 . "$top/tests/counting.sh"
@@ -198,4 +198,13 @@ if has mkfifo; then
     ok 'replies by pipe' [ "$first $second" = 'opened 0 ok' ]
     exec 8<&-
 fi
+
+# The lines of files in Python are made again.
+if ! has_python; then
+    skip 'lines of files in Python: there is no Python 3.8 or later'
+    finish
+fi
+sh "$top/bindings/build.sh" || give_up "the library can't be built"
+export PYTHONDONTWRITEBYTECODE=1
+add python3 "$top/tests/file_scripts.py" "$files"
 finish

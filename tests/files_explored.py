@@ -62,7 +62,7 @@ def test_each_outcome():
 def test_choices_and_paths():
     failed = raises(Failed, explore, forgets, files="xfs")
     assert failed.path == "0/2 max" and failed.reason == "AssertionError: the name is lost", (failed.path, failed.reason)
-    assert "its calls:" in str(failed) and "    create /f is 0" in str(failed), failed
+    assert "its calls:" in str(failed) and "    create /f # is 0" in str(failed), failed
     assert failed.script[:2] == ["words max", "profile xfs"], failed.script
     again = raises(Failed, explore, forgets, files="xfs", under=[failed.path])
     assert again.script == failed.script and again.run == 1

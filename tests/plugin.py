@@ -83,7 +83,7 @@ def test_syncs(blobcrash_files):
     assert ran.counted("passed") >= 8 and 0 < ran.counted("failed") < 8 and ran.status == 1, ran.text
     assert len(ran.scripts) == ran.counted("failed") + 1, ran.scripts.keys()
     script = ran.short()
-    assert script[:2] == ["profile xfs", "create /0 is 0"] and "crash" in script, script
+    assert script[:2] == ["profile xfs", "create /0 # is 0"] and "crash" in script, script
     assert "a smaller run that fails, of 3 calls" in ran.text, ran.text
 
 

@@ -9,8 +9,8 @@ from typing import Any, List, NamedTuple, Optional, Tuple
 from .foreign_files import REFUSALS, REPLACES, Refusal
 from .grammar import hex_of
 
-# A text of a path in a line: printable ASCII but the space and the backslash.
-_PLAIN = re.compile(rb"[!-\[\]-~]+")
+# A text of a path in a line: printable ASCII but the space, the number sign and the backslash.
+_PLAIN = re.compile(rb"[!\"$-\[\]-~]+")
 _HOW = ("", " noreplace", " exchange")
 # The calls with one path, with two, with a number, and with none.
 _ON_PATH = frozenset(("create", "open", "open_truncated", "unlink", "mkdir", "rmdir", "listdir", "fsync_directory", "find"))
@@ -30,7 +30,8 @@ class FileCall(NamedTuple):
 
     def __str__(self) -> str:
         if self.word in _ON_PATH:
-            return f"{self.word} {path_text(self.path)}"
+            word = "fsyncdir" if self.word == "fsync_directory" else self.word
+            return f"{word} {path_text(self.path)}"
         if self.word in _ON_NUMBER:
             return f"{self.word} {self.number}"
         if self.word == "write":
@@ -80,17 +81,17 @@ def _runs(digits: str) -> str:
 
 
 def path_text(path: bytes) -> str:
-    """A path as one token of a line, with `\\xNN` for a byte that isn't printable ASCII, a space or a backslash."""
+    """A path as one token of a line, with `\\xNN` for a byte that isn't printable ASCII, a space, a number sign or a backslash."""
     if _PLAIN.fullmatch(path):
         return path.decode()
     return "".join(chr(byte) if _PLAIN.fullmatch(bytes([byte])) else f"\\x{byte:02x}" for byte in path) or '""'
 
 
 def reply_text(asked: FileCall, reply: Any) -> str:
-    """What a line says of a reply: the descriptor of an opened file, or the name of a refusal."""
+    """What a comment at the end of a line says of a reply: the descriptor of an opened file, or the name of a refusal."""
     if isinstance(reply, Refusal):
-        return f" is {reply.name}"
-    return f" is {reply.number}" if asked.word in _OPENS else ""
+        return f" # is {reply.name}"
+    return f" # is {reply.number}" if asked.word in _OPENS else ""
 
 
 def refusal_of(status: int) -> Refusal:

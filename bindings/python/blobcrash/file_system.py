@@ -90,7 +90,8 @@ class Files:
 
     @property
     def script(self) -> List[str]:
-        """The lines of all calls, and notes, to read: each with the descriptor that it opened, or the name of its refusal."""
+        """The lines of all calls, as `blobcrash files` reads them, and notes. A comment says which descriptor a call opened, or the name
+        of its refusal."""
         lines = self._words_line()
         for line in self._lines:
             if isinstance(line, str):

@@ -100,7 +100,7 @@ fn what_a_name_is() -> Result<(), Error> {
     let entry = &files.read_dir("/d")?[0];
     assert_eq!(entry.file_name(), OsStr::from_bytes(b"\xff \n\\\x01"));
     assert_eq!(entry.path(), path);
-    let line = "create /d/\\xff\\x20\\x0a\\x5c\\x01 is 2\n";
+    let line = "create /d/\\xff\\x20\\x0a\\x5c\\x01 # is 2\n";
     assert!(files.script().contains(line), "{}", files.script());
     Ok(())
 }

@@ -215,8 +215,8 @@ impl Files {
         self.lock().session.note(text);
     }
 
-    /// Returns the record: what the files began with, and a line for each call, to be read by people. A line says which descriptor a call
-    /// opened, or why it was refused; those after a crash say what it kept. Empty for files that are `unrecorded`.
+    /// Returns the record: what the files began with, and a line for each call, as `blobcrash files` reads them. Comments say which
+    /// descriptor a call opened, or why it was refused, and what a crash kept. Empty for files that are `unrecorded`.
     ///
     /// ```
     /// # fn main() -> Result<(), blobcrash::Error> {
@@ -224,7 +224,7 @@ impl Files {
     /// files.write("/f", b"abc")?;
     /// files.rename("/f", "/g")?;
     /// let begin = "seed 7\nprofile ext4\n";
-    /// let calls = "create /f is 0\nwrite 0 0 616263\nclose 0\nrename /f /g\n";
+    /// let calls = "create /f # is 0\nwrite 0 0 616263\nclose 0\nrename /f /g\n";
     /// assert_eq!(files.script(), begin.to_owned() + calls);
     /// # Ok(())
     /// # }

@@ -1,4 +1,4 @@
-//! Calls on files, and the record of those that were made: a line for each, to be read by people. No program makes them again.
+//! Calls on files, and the record of those that were made: a line for each, as `blobcrash files` reads it.
 use super::foreign::{Kind, Reply};
 use crate::power::Effect;
 use crate::script::push_hex;
@@ -65,7 +65,7 @@ impl Call<'_> {
             Kind::MakeDirectory => "mkdir",
             Kind::RemoveDirectory => "rmdir",
             Kind::List => "listdir",
-            Kind::SyncDirectory => "fsync_directory",
+            Kind::SyncDirectory => "fsyncdir",
             Kind::Find => "find",
             Kind::Close => "close",
             Kind::Truncate => "truncate",
@@ -103,11 +103,11 @@ impl Call<'_> {
     }
 }
 
-/// Adds a path as one token, with `\xNN` for a byte that isn't printable ASCII, a space or a backslash.
+/// Adds a path as one token, with `\xNN` for a byte that isn't printable ASCII, a space, a number sign or a backslash.
 fn push_path(line: &mut String, path: &[u8]) {
     line.push(' ');
     for byte in path {
-        let is_plain = byte.is_ascii_graphic() && *byte != b'\\';
+        let is_plain = byte.is_ascii_graphic() && *byte != b'\\' && *byte != b'#';
         let _ = match is_plain {
             true => write!(line, "{}", *byte as char),
             false => write!(line, "\\x{byte:02x}"),
@@ -118,11 +118,11 @@ fn push_path(line: &mut String, path: &[u8]) {
     }
 }
 
-/// What a line says of a reply: a number, or the name of a refusal.
+/// What a comment at the end of a line says of a reply: a number, or the name of a refusal.
 fn told<T>(outcome: &Result<T, Error>, number: impl FnOnce(&T) -> Option<u64>) -> String {
     match outcome {
-        Err(error) => format!(" is {error:?}"),
-        Ok(reply) => number(reply).map_or_else(String::new, |number| format!(" is {number}")),
+        Err(error) => format!(" # is {error:?}"),
+        Ok(reply) => number(reply).map_or_else(String::new, |number| format!(" # is {number}")),
     }
 }
 
