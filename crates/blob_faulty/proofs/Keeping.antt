@@ -26,7 +26,7 @@ use Rattle.blob_draws.specs.Recorded.{kept_entries}
 use Rattle.blob_faulty.specs.Wrapper.{Adds, Stands, inner_of}
 
 -- another name's incarnation
-here_beside : (d : Directory) (p n : List ℕ) (file : Option File) (o : Place) → (current d p n ≡ Some o → ⊥) → current d o.partition o.name ≡ Some o → place_in o.partition o.name (with_file d.file p n file o.partition o.name) ≡ Some o
+pub here_beside : (d : Directory) (p n : List ℕ) (file : Option File) (o : Place) → (current d p n ≡ Some o → ⊥) → current d o.partition o.name ≡ Some o → place_in o.partition o.name (with_file d.file p n file o.partition o.name) ≡ Some o
 here_beside d p n file o other here =
     ⊎_elim
     (λ y. ⊎_elim

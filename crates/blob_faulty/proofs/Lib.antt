@@ -10,6 +10,10 @@ pub mod Exclusives
 pub mod FailedSteps
 pub mod Fated
 pub mod Fating
+pub mod FittingDraws
+pub mod FittingWrites
+pub mod Following
+pub mod FoundSteps
 pub mod Fronts
 pub mod Keeping
 pub mod Laying

@@ -5,8 +5,11 @@ pub mod Asked
 pub mod Certain
 pub mod Crashes
 pub mod Exclusive
+pub mod FitLaws
+pub mod Fits
 pub mod HandleLeaves
 pub mod Keeps
+pub mod Leaves
 pub mod Lends
 pub mod Names
 pub mod New

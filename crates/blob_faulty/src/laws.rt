@@ -3,7 +3,9 @@ ghost use Rattle.blob_faulty.specs.Certain.{IsQuiet, DrawsFaults, FailsCertainly
 ghost use Rattle.blob_faulty.specs.Wrapper.{KeepsFiles};
 
 pub mod current_handles;
+pub mod fits;
 pub mod keeps;
+pub mod leaves;
 pub mod names;
 pub mod outcomes;
 
