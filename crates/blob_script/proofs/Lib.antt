@@ -4,6 +4,7 @@ pub mod HexLanes
 pub mod HexParts
 pub mod Numbers
 pub mod OtherWords
+pub mod Readers
 pub mod SaidLines
 pub mod Through
 pub mod Tokens

@@ -3,8 +3,11 @@ pub mod CallLines
 pub mod Forms
 pub mod Lines
 pub mod Pairs
+pub mod Preambles
+pub mod Readers
 pub mod Reads
 pub mod Replies
+pub mod Scripts
 pub mod SettingLines
 pub mod Settings
 pub mod Tokens
