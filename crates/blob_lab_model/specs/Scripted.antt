@@ -3,6 +3,7 @@ use Rattle.std.specs.Prelude.{ℕ, List, [], ◌∷◌, Option, Some, None}
 use Rattle.rand_core.specs.Stream.{Stream}
 use Rattle.rand_core.specs.Steps.{stream_of, steps_u64_low}
 use Rattle.rand_xoshiro.specs.Xoshiro256.{plus_plus}
+pub use Rattle.blob_script.specs.Preambles.{Words, only, behind_seeded}
 
 -- the remaining words, then xoshiro256++ from this state, or zeros forever
 abbrev pub Left : Type 0
@@ -17,16 +18,3 @@ next_of ([], Some state) = ((plus_plus state).0, ([], Some (plus_plus state).1))
 -- a draw of 32 bits is the low half of one word
 abbrev pub scripted_stream : Left → Stream
 scripted_stream = stream_of (steps_u64_low next_of)
-
--- the words of a script, and the seed of the words after them
-pub record Words : Type 0 where
-  pub given : List ℕ
-  pub seed : Option ℕ
-
--- these words, then zeros forever
-abbrev pub only : List ℕ → Words
-only given = record { given = given; seed = None }
-
--- these words, then those of a seed
-abbrev pub behind_seeded : List ℕ → ℕ → Words
-behind_seeded given seed = record { given = given; seed = Some seed }

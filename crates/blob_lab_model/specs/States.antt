@@ -10,6 +10,7 @@ use Rattle.blob_opens.specs.OpenNames.{OpenNames, Registration, none_open}
 use Rattle.rand_xoshiro.specs.SplitMix64.{splitmix_seed}
 use Rattle.rand_xoshiro.specs.Xoshiro256.{of_seed}
 use Rattle.blob_lab_model.specs.Scripted.{Words, scripted_stream}
+pub use Rattle.blob_script.specs.Preambles.{Image}
 
 -- an open handle
 pub record Held : Type 0 where
@@ -35,10 +36,6 @@ abbrev pub held_on : Files → Option Registration → Place → Held
 held_on f registration o = record { place = o; live = durable_at f o; size = length (durable_at f o); registration = registration }
 
 -- The start.
-
--- a raw blob: partition, name and bytes
-abbrev pub Image : Type 0
-Image = List ℕ × List ℕ × List ℕ
 
 abbrev pub empty_directory : Directory
 empty_directory = record { has_partition = λ p. false; file = λ p n. None; next = 0 }

@@ -12,7 +12,8 @@ use Rattle.blob_memory.specs.Store.{place, live}
 use Rattle.blob_lab_store.specs.declared.lab.handles.Handle.{Handle}
 use Rattle.blob_lab_store.specs.declared.lab.handles.Handles.{Handles}
 use Rattle.blob_lab_store.specs.declared.lab.syncs.Syncs.{Syncs}
-use Rattle.blob_lab_model.specs.States.{Held, Started, Image}
+use Rattle.blob_lab_model.specs.States.{Held, Started}
+pub use Rattle.blob_script.specs.Preambles.{images_of}
 
 abbrev pub as_held : Handle → Held
 as_held h = record { place = place (inside h.blob); live = live (inside h.blob); size = size_of h.blob; registration = h.registration }
@@ -25,10 +26,6 @@ started_by h = record { outcome = error_of (outcome_of h) }
 
 abbrev pub syncs_of : Syncs → List (Option Started)
 syncs_of syncs = map (option_map started_by) syncs.slots.items
-
--- images that a laboratory is made of
-abbrev pub images_of : List (String Global × Vec ℕ Global × Vec ℕ Global) → List Image
-images_of images = map (λ i. (string_bytes i.0, i.1.items, i.2.items)) images
 
 -- the first and the last version of a range
 abbrev pub version_bounds : RangeInclusive BlobVersion → ℕ × ℕ

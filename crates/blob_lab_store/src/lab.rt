@@ -1,6 +1,7 @@
 //! The laboratory: a faulty memory store, its open handles and started syncs, and calls as data.
 ghost use Rattle.std.specs.Prelude.{◌≡◌, IfOk, OnErr};
 ghost use Rattle.blob_header.specs.Refusals.{IsMemory};
+ghost use Rattle.blob_script.specs.Preambles.{words_of};
 ghost use Rattle.blob_lab_model.specs.Scripted.{behind_seeded, only, scripted_stream};
 ghost use Rattle.blob_lab_model.specs.States.{start, start_on};
 ghost use Rattle.blob_lab_store.specs.LabRuns.{PersistsExclusively, RunsTo, StartsAt};
@@ -19,6 +20,7 @@ use crate::ScriptedRng;
 use blob_base::Error;
 use blob_faulty::Config;
 use blob_opens::Opens;
+use blob_script::script::Preamble;
 use blob_script::{Call, Reply};
 use handles::Handles;
 pub use standing::Stands;
@@ -65,6 +67,22 @@ impl Lab {
         ensures memory { OnErr result (IsMemory result) }
     {
         Lab::drawing(images, ScriptedRng::seeded(words, seed), config)
+    }
+
+    /// Returns a laboratory with the images, the words and the seed of a script's preamble. The only error is `Memory`.
+    pub fn from_preamble(preamble: Preamble, config: Config) -> Result<Lab, Error>
+        ensures stands { StartsAt result (start (images_of preamble.images.items) (words_of preamble) config) }
+        ensures memory { OnErr result (IsMemory result) }
+    {
+        let Preamble {
+            images,
+            words,
+            seed,
+        } = preamble;
+        match seed {
+            None => Lab::new(images, words, config),
+            Some(seed) => Lab::seeded(images, words, seed, config),
+        }
     }
 
     fn drawing(

@@ -68,6 +68,22 @@ impl ScriptedRng {
         }
     }
 
+    /// Returns a generator that gives the same words from here on.
+    pub fn fork(&self) -> Result<ScriptedRng, AllocError>
+        ensures { IfOk result (λ fork. fork ≡ self.now) }
+    {
+        let words = Vec::from_slice(*self.words.allocator(), &self.words[self.at..])?;
+        let behind = match &self.behind {
+            None => None,
+            Some(rng) => Some(rng.clone()?),
+        };
+        Ok(ScriptedRng {
+            words,
+            at: 0,
+            behind,
+        })
+    }
+
     /// Returns a generator of these words, followed by those of `Xoshiro256PlusPlus::seed_from_u64`.
     pub fn seeded(words: Vec<u64>, seed: u64) -> ScriptedRng
         ensures { result ≡ (words.items, Some (of_seed (splitmix_seed 32 seed))) }

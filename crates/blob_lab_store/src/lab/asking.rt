@@ -99,7 +99,8 @@ impl Lab {
         }
     }
 
-    pub(crate) fn size(&self, number: usize) -> Reply
+    /// Makes the call `Call::Size`. Makes no draw.
+    pub fn size(&self, number: usize) -> Reply
         ensures { Performs self.now (Through number Size) result self.now }
     {
         match self.handles.get(number) {
