@@ -1,4 +1,5 @@
 pub mod InHand
+pub mod ReaderSteps
 pub mod Reading
 pub mod ResolvedLines
 pub mod ScriptEnds

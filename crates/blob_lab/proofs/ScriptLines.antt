@@ -5,7 +5,6 @@ use Rattle.std.proofs.lemmas.Bool.{eqb-true, lt-ltb}
 use Rattle.std.specs.Io.BufRead.{DropsThrough, take_through, drop_through, strip_last, first_piece}
 use Rattle.std.specs.Io.{StopsAt}
 use Rattle.std.specs.Io.KnownBytes.{Consumes}
-use Rattle.blob_script.specs.Lines.{Said, line_of}
 use Rattle.blob_lab.specs.ScriptReading.{OfLines, TakesLine, TakesOne, with_part_first}
 use Rattle.blob_lab.specs.Scripts.{lines_of}
 use Rattle.std.specs.List.{onto_first}
@@ -37,14 +36,13 @@ pub lines_cons : (b : ℕ) (bs : List ℕ) → lines_of (b ∷ bs) ≡ first_pie
 lines_cons b bs = first_is b bs (b == 10) refl
 
 -- a line was read
-pub takes_line : (old new : Option (List ℕ)) (line : List ℕ) (said : Option Said) → IfSome old (λ xs. line ≡ first_piece 10 xs) → DropsThrough old new 10
-    → IfSome old (λ xs. xs ≢ []) → line_of line ≡ said → OfLines old new (TakesLine said)
-takes_line None new line said first drops some says = tt
-takes_line (Some []) new line said first drops some says = absurd (some refl)
-takes_line (Some (b ∷ bs)) None line said first drops some says = absurd (cc)
-takes_line (Some (b ∷ bs)) (Some ys) line said first drops some says =
+pub takes_line : (old new : Option (List ℕ)) (line : List ℕ) → IfSome old (λ xs. line ≡ first_piece 10 xs) → DropsThrough old new 10 → IfSome old (λ xs. xs ≢ []) → OfLines old new (TakesLine line)
+takes_line None new line first drops some = tt
+takes_line (Some []) new line first drops some = absurd (some refl)
+takes_line (Some (b ∷ bs)) None line first drops some = absurd (cc)
+takes_line (Some (b ∷ bs)) (Some ys) line first drops some =
     let left : ys ≡ drop_through 10 (b ∷ bs) = cc drops in
-    (line, lines_cons b bs ∙ ap (λ l. l ∷ lines_of (drop_through 10 (b ∷ bs))) (sym first) ∙ ap (λ zs. line ∷ lines_of zs) (sym left), says)
+    lines_cons b bs ∙ ap (λ l. l ∷ lines_of (drop_through 10 (b ∷ bs))) (sym first) ∙ ap (λ zs. line ∷ lines_of zs) (sym left)
 
 -- A part of a line.
 
@@ -76,7 +74,7 @@ takes_one (Some xs) None (part, one, is) = absurd is
 takes_one (Some xs) (Some ys) (part, one, is) = subst (λ bytes. TakesOne (lines_of bytes) (lines_of ys)) (sym is) (begun part ys one)
 
 -- one line was taken
-pub taken_whole : (old new : Option (List ℕ)) (said : Option Said) → OfLines old new (TakesLine said) → OfLines old new TakesOne
-taken_whole None new said taken = tt
-taken_whole (Some xs) None said taken = absurd taken
-taken_whole (Some xs) (Some ys) said (line, is, says) = inl (line, is)
+pub taken_whole : (old new : Option (List ℕ)) (line : List ℕ) → OfLines old new (TakesLine line) → OfLines old new TakesOne
+taken_whole None new line taken = tt
+taken_whole (Some xs) None line taken = absurd taken
+taken_whole (Some xs) (Some ys) line taken = inl (line, taken)

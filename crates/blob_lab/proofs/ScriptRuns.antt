@@ -13,7 +13,8 @@ use Rattle.blob_lab_store.specs.declared.lab.Lab.{Lab}
 use Rattle.blob_script.specs.declared.reply.Reply.{Reply}
 use Rattle.blob_script.specs.Acts.{Act, act_of}
 use Rattle.blob_lab_store.specs.LabStands.{LabStandsFor, Performs}
-use Rattle.blob_lab.specs.ScriptReading.{OfLines, AddsCall, TakesCall, TakesBadCall, TakesPart, Begins, HasReplies, PrintsFront, PrintsBefore, PrintsUpTo, printed_reply, with_call}
+use Rattle.blob_lab.specs.ScriptReading.{OfLines, AddsCall, TakesCall, TakesBadCall, TakesPart, Begins, HasReplies, PrintsFront, PrintsBefore, PrintsUpTo, printed_reply}
+use Rattle.blob_script.specs.Scripts.{with_call}
 use Rattle.blob_lab.specs.Scripts.{Script, IsPrinted, Prints, lines_of, with_lines}
 use Rattle.blob_script.specs.Settings.{no_rates}
 use Rattle.blob_lab_model.specs.States.{State, start}
@@ -88,10 +89,10 @@ module _ (s : Script) (first : ℕ) (old : Option (List ℕ)) (all : List (List 
     added = Appends-kept old mid new a.printed a.added kept;
   }
 
-  pub settled_part : (next : ℕ) (lab : Lab) (config : Config) (new : Option (List ℕ)) (lines left : List (List ℕ)) → Settled s first next lab config old new all lines → ((t : Script) → TakesPart t t lines left)
+  pub settled_part : (next : ℕ) (lab : Lab) (config : Config) (new : Option (List ℕ)) (lines left : List (List ℕ)) → Settled s first next lab config old new all lines → ((t : Script) → t.config ≡ config → t.calls ≢ [] → TakesPart t t lines left)
       → PrintsFront s Appends all left old new
   settled_part next lab config new lines left a part =
-      let p = part a.t in
+      let p = part a.t a.config_is a.some in
       record {
         front = a.taken.front ++ p.front;
         rest = p.rest;
@@ -190,17 +191,17 @@ module _ (s : Script) (first : ℕ) (old : Option (List ℕ)) (all : List (List 
   -- What is read after it.
 
   pub settled_over : (next : ℕ) (lab : Lab) (config : Config) (mid new : Option (List ℕ)) (rest : List (List ℕ)) → Settled s first next lab config old mid all rest → Keeps mid new
-      → ((t : Script) → with_lines t rest ≡ Some t) → Prints (with_lines s all) old new
+      → ((t : Script) → t.config ≡ config → t.calls ≢ [] → with_lines t rest ≡ Some t) → Prints (with_lines s all) old new
   settled_over next lab config mid new rest a kept over = (
     a.printed,
-    printed_of (with_lines s all) a.t a.printed a.w (ap (with_lines s) a.taken.parts ∙ more_lines s a.t a.taken.front rest a.taken.makes ∙ over a.t) a.answered,
+    printed_of (with_lines s all) a.t a.printed a.w (ap (with_lines s) a.taken.parts ∙ more_lines s a.t a.taken.front rest a.taken.makes ∙ over a.t a.config_is a.some) a.answered,
     Appends-kept old mid new a.printed a.added kept,
   )
 
   pub settled_call : (n n' : ℕ) (lab : Lab) (act : Act) (config config' : Config) (mid new : Option (List ℕ)) (lines rest : List (List ℕ)) → Settled s first (n + 1) lab config old mid all lines → Keeps mid new
-      → ((t : Script) → t.config ≡ config → TakesCall t t (n + 1) n' act config' lines rest) → Awaiting s first n' lab act config' old new all rest
+      → ((t : Script) → t.config ≡ config → t.calls ≢ [] → TakesCall t t (n + 1) n' act config' lines rest) → Awaiting s first n' lab act config' old new all rest
   settled_call n n' lab act config config' mid new lines rest a kept next =
-      let call = next a.t a.config_is in
+      let call = next a.t a.config_is a.some in
       record {
         t = a.t;
         line = call.line;
@@ -219,9 +220,9 @@ module _ (s : Script) (first : ℕ) (old : Option (List ℕ)) (all : List (List 
       }
 
   pub settled_bad : (n number : ℕ) (lab : Lab) (config : Config) (new : Option (List ℕ)) (lines rest : List (List ℕ)) → Settled s first (n + 1) lab config old new all lines
-      → ((t : Script) → t.calls ≢ [] → TakesBadCall t t (n + 1) number lines rest) → (before : PrintsBefore s first number all old new) × (before.rest ≡ rest)
+      → ((t : Script) → t.config ≡ config → t.calls ≢ [] → TakesBadCall t t (n + 1) number lines rest) → (before : PrintsBefore s first number all old new) × (before.rest ≡ rest)
   settled_bad n number lab config new lines rest a next =
-      let call = next a.t a.some in (
+      let call = next a.t a.config_is a.some in (
         record {
           front = a.taken.front ++ call.front;
           bad = call.bad;
@@ -244,7 +245,7 @@ module _ (s : Script) (first : ℕ) (old : Option (List ℕ)) (all : List (List 
       )
 
   settled_cut : (ending : Ending) (n : ℕ) (lab : Lab) (config : Config) (new : Option (List ℕ)) (lines left : List (List ℕ)) → Settled s first (n + 1) lab config old new all lines
-      → ((number : ℕ) → ending ≡ BadCall number → (t : Script) → t.calls ≢ [] → TakesBadCall t t (n + 1) number lines left) → ((t : Script) → TakesPart t t lines left) → PrintsUpTo ending s first all left old new
+      → ((number : ℕ) → ending ≡ BadCall number → (t : Script) → t.config ≡ config → t.calls ≢ [] → TakesBadCall t t (n + 1) number lines left) → ((t : Script) → t.config ≡ config → t.calls ≢ [] → TakesPart t t lines left) → PrintsUpTo ending s first all left old new
   settled_cut (BadCall number) n lab config new lines left a bad part = settled_bad n number lab config new lines left a (bad number refl)
   settled_cut InputFailed n lab config new lines left a bad part = settled_part (n + 1) lab config new lines left a part
   settled_cut NoMemory n lab config new lines left a bad part = settled_part (n + 1) lab config new lines left a part
@@ -265,28 +266,28 @@ module _ (s : Script) (first : ℕ) (old : Option (List ℕ)) (line : List ℕ) 
       settle s first old (line ∷ lines_of xs) number lab lab' call reply config mid new (lines_of ys) awaits performs more
 
   pub awaits_next : (a b c : Option (List ℕ)) (n n' : ℕ) (lab : Lab) (act : Act) (config config' : Config) (mid new : Option (List ℕ))
-      → OfLines a b (λ all rest. Settled s first (n + 1) lab config old mid (line ∷ all) rest) → Keeps mid new → ((t : Script) → t.config ≡ config → OfLines b c (TakesCall t t (n + 1) n' act config'))
+      → OfLines a b (λ all rest. Settled s first (n + 1) lab config old mid (line ∷ all) rest) → Keeps mid new → ((t : Script) → t.config ≡ config → t.calls ≢ [] → OfLines b c (TakesCall t t (n + 1) n' act config'))
       → OfLines a c (λ all rest. Awaiting s first n' lab act config' old new (line ∷ all) rest)
   awaits_next None b c n n' lab act config config' mid new settled kept next = tt
   awaits_next (Some xs) None c n n' lab act config config' mid new settled kept next = absurd settled
-  awaits_next (Some xs) (Some ys) None n n' lab act config config' mid new settled kept next = absurd (next settled.t settled.config_is)
+  awaits_next (Some xs) (Some ys) None n n' lab act config config' mid new settled kept next = absurd (next settled.t settled.config_is settled.some)
   awaits_next (Some xs) (Some ys) (Some zs) n n' lab act config config' mid new settled kept next =
       settled_call s first old (line ∷ lines_of xs) n n' lab act config config' mid new (lines_of ys) (lines_of zs) settled kept next
 
   pub prints_all : (a b c : Option (List ℕ)) (next : ℕ) (lab : Lab) (config : Config) (mid new : Option (List ℕ)) → OfLines a b (λ all rest. Settled s first next lab config old mid (line ∷ all) rest) → Keeps mid new
-      → ((t : Script) → OfLines b c (λ lines _. with_lines t lines ≡ Some t)) → IfSome a (λ input. Prints (with_lines s (line ∷ lines_of input)) old new)
+      → ((t : Script) → t.config ≡ config → t.calls ≢ [] → OfLines b c (λ lines _. with_lines t lines ≡ Some t)) → IfSome a (λ input. Prints (with_lines s (line ∷ lines_of input)) old new)
   prints_all None b c next lab config mid new settled kept over = tt
   prints_all (Some xs) None c next lab config mid new settled kept over = absurd settled
-  prints_all (Some xs) (Some ys) None next lab config mid new settled kept over = absurd (over s)
+  prints_all (Some xs) (Some ys) None next lab config mid new settled kept over = absurd (over settled.t settled.config_is settled.some)
   prints_all (Some xs) (Some ys) (Some zs) next lab config mid new settled kept over = settled_over s first old (line ∷ lines_of xs) next lab config mid new (lines_of ys) settled kept over
 
   -- the next call wasn't read
   pub unread : (ending : Ending) (a b c : Option (List ℕ)) (n : ℕ) (lab : Lab) (config : Config) (mid new : Option (List ℕ)) → OfLines a b (λ all rest. Settled s first (n + 1) lab config old mid (line ∷ all) rest) → Keeps mid new
-      → ((number : ℕ) → ending ≡ BadCall number → (t : Script) → t.calls ≢ [] → OfLines b c (TakesBadCall t t (n + 1) number)) → ((t : Script) → OfLines b c (TakesPart t t))
+      → ((number : ℕ) → ending ≡ BadCall number → (t : Script) → t.config ≡ config → t.calls ≢ [] → OfLines b c (TakesBadCall t t (n + 1) number)) → ((t : Script) → t.config ≡ config → t.calls ≢ [] → OfLines b c (TakesPart t t))
       → OfLines a c (λ all left. PrintsUpTo ending s first (line ∷ all) left old new)
   unread ending None b c n lab config mid new settled kept bad part = tt
   unread ending (Some xs) None c n lab config mid new settled kept bad part = absurd settled
-  unread ending (Some xs) (Some ys) None n lab config mid new settled kept bad part = absurd (part s)
+  unread ending (Some xs) (Some ys) None n lab config mid new settled kept bad part = absurd (part settled.t settled.config_is settled.some)
   unread ending (Some xs) (Some ys) (Some zs) n lab config mid new settled kept bad part =
       let all = line ∷ lines_of xs in
       settled_cut s first old all ending n lab config new (lines_of ys) (lines_of zs) (settled_kept s first old all (n + 1) lab config mid new (lines_of ys) settled kept) bad part

@@ -8,25 +8,15 @@ use Rattle.blob_draws.specs.declared.config.Config.{Config}
 use Rattle.blob_lab.specs.declared.ending.Ending.{Ending}
 use Rattle.blob_lab.specs.declared.ending.Ending.TheVariants.{Done, InputFailed, OutputFailed, BadCall, BadImage, Usage, NoMemory}
 use Rattle.blob_lab_store.specs.declared.lab.Lab.{Lab}
-use Rattle.blob_lab.specs.declared.scripts.lines.Preamble.{Preamble}
 use Rattle.blob_script.specs.Acts.{Act}
 use Rattle.blob_lab_store.specs.LabStands.{LabStandsFor}
-use Rattle.blob_lab.specs.ScriptReading.{OfLines, TakesCall, TakesBadCall, TakesOne, TakesPart, Begins, PrintsFront, PrintsBefore, PrintsUpTo, preamble_of}
+use Rattle.blob_lab.specs.ScriptReading.{OfLines, TakesCall, TakesBadCall, TakesOne, TakesPart, Begins, PrintsFront, PrintsBefore, PrintsUpTo}
 use Rattle.blob_lab.specs.Scripts.{Script, IsPrinted, Prints, lines_of, no_script, script_of, with_lines}
 use Rattle.blob_lab.specs.Streams.{AppendsPart}
-use Rattle.blob_lab_model.specs.Scripted.{only}
 use Rattle.blob_script.specs.Settings.{no_rates}
 use Rattle.blob_lab_model.specs.States.{start}
-use Rattle.blob_lab_store.specs.Tables.{images_of}
 use Rattle.blob_lab.proofs.ScriptRuns.{kept_Appends, part_of_taken, printed_of}
 use Rattle.blob_lab.proofs.ScriptSteps.{more_lines, one_line}
-
-pub empty_preamble : (p : Preamble) (config : Config) → p.images.items ≡ [] → p.words.items ≡ [] → p.seed ≡ None → config ≡ no_rates → preamble_of p config ≡ no_script
-empty_preamble p config images words seed same =
-    ap (λ is. record { images = images_of is; words = record { given = p.words.items; seed = p.seed }; config = config; calls = [] }) images
-    ∙ ap (λ ws. record { images = []; words = record { given = ws; seed = p.seed }; config = config; calls = [] }) words
-    ∙ ap (λ n. record { images = []; words = record { given = []; seed = n }; config = config; calls = [] }) seed
-    ∙ ap (λ c. record { images = []; words = only []; config = c; calls = [] }) same
 
 -- No call has a reply.
 

@@ -6,6 +6,7 @@ use Rattle.blob_lab.specs.declared.ending.Ending.{Ending}
 use Rattle.blob_lab.specs.declared.ending.Ending.TheVariants.{Done, InputFailed, OutputFailed, BadCall, BadImage, Usage, NoMemory}
 use Rattle.blob_lab.specs.declared.streams.Input.{Input}
 use Rattle.blob_lab.specs.declared.streams.Output.{Output}
+use Rattle.blob_lab.specs.Endings.{is_cut, is_of_stream}
 use Rattle.blob_lab.specs.Streams.{has_line, write_failed, StaySound, NamesFailed, ToldEnding, ToldOutput}
 
 module _ {R W : Type 0} (i m i' : Input R) (o p o' : Output W) (sound : StaySound i m o p) where
@@ -56,3 +57,17 @@ any_error (Err e) P p = p
 pub line_ready : (bytes : List ℕ) (found : Option ℕ) → IsFirstByte (is_byte 10) bytes found → is_none found ≡ false → has_line bytes ≡ true
 line_ready bytes None first some = cc some
 line_ready bytes (Some place) (first, is) some = list_any_at (λ b. b == 10) bytes place 0 first.high is
+
+-- a read or a write that failed has no bad line, and cuts a run short
+
+pub no_bad_line : (ending : Ending) (number : ℕ) → is_of_stream ending ≡ true → ending ≡ BadCall number → ⊥
+no_bad_line ending number stream e = let t : is_of_stream (BadCall number) ≡ true = subst (λ (x : Ending). is_of_stream x ≡ true) e stream in cc
+
+pub stream_cut : (ending : Ending) → is_of_stream ending ≡ true → is_cut ending ≡ true
+stream_cut InputFailed h = refl
+stream_cut OutputFailed h = refl
+stream_cut NoMemory h = refl
+stream_cut Done h = cc
+stream_cut (BadCall number) h = cc
+stream_cut BadImage h = cc
+stream_cut Usage h = cc

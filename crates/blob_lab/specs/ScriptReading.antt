@@ -4,25 +4,24 @@ use Rattle.std.specs.List.{flat_map}
 use Rattle.std.specs.Io.Iter.{u64_saturate}
 use Rattle.std.specs.Io.KnownBytes.{Appends}
 use Rattle.blob_draws.specs.declared.config.Config.{Config}
+use Rattle.blob_script.specs.declared.call.Call.{Call}
+use Rattle.blob_script.specs.declared.reply.Reply.{Reply}
+use Rattle.blob_script.specs.declared.script.reader.Reader.{Reader}
+use Rattle.blob_script.specs.Acts.{Act, act_of}
+use Rattle.blob_script.specs.Readers.{HasRead, config_of, has_begun, lines_read, preamble_of, with_preamble}
+use Rattle.blob_script.specs.Replies.{reply_line}
+use Rattle.blob_script.specs.Scripts.{with_call}
+use Rattle.blob_script.specs.Settings.{no_rates}
+use Rattle.blob_lab_model.specs.Runs.{LeadsTo}
+use Rattle.blob_lab_model.specs.States.{State, start}
 use Rattle.blob_lab_store.specs.declared.lab.Lab.{Lab}
-use Rattle.blob_lab.specs.declared.scripts.lines.Lines.{Lines}
-use Rattle.blob_lab.specs.declared.scripts.lines.Preamble.{Preamble}
+use Rattle.blob_lab_store.specs.LabStands.{LabStandsFor, Performs}
 use Rattle.blob_lab.specs.declared.ending.Ending.{Ending}
 use Rattle.blob_lab.specs.declared.ending.Ending.TheVariants.{BadCall, InputFailed, OutputFailed, NoMemory}
 use Rattle.blob_lab.specs.declared.streams.Input.{Input}
 use Rattle.blob_lab.specs.declared.streams.Output.{Output}
-use Rattle.blob_script.specs.declared.call.Call.{Call}
-use Rattle.blob_script.specs.declared.reply.Reply.{Reply}
-use Rattle.blob_script.specs.Acts.{Act, act_of}
-use Rattle.blob_lab_store.specs.LabStands.{LabStandsFor}
-use Rattle.blob_script.specs.Lines.{Said, line_of}
-use Rattle.blob_script.specs.Replies.{reply_line}
 use Rattle.blob_lab.specs.Scripts.{IsPrinted, Prints, Run, Script, lines_of, no_script, with_line, with_lines}
 use Rattle.blob_lab.specs.Streams.{AppendsPart, OfBytes, reader_of}
-use Rattle.blob_script.specs.Settings.{no_rates}
-use Rattle.blob_lab_model.specs.Runs.{LeadsTo}
-use Rattle.blob_lab_model.specs.States.{State, start}
-use Rattle.blob_lab_store.specs.Tables.{images_of}
 
 -- if a reader's bytes before are known, they are known afterwards, and P holds of the lines of both
 abbrev pub OfLines : Option (List ℕ) → Option (List ℕ) → (List (List ℕ) → List (List ℕ) → Type 0) → Type 0
@@ -31,9 +30,6 @@ OfLines old new P = IfSome old (λ bytes. IsSomeAnd new (λ left. P (lines_of by
 -- the same for a reader before and after
 abbrev pub OfRead : {R : Type 0} → (R → Option (List ℕ)) → Input R → Input R → (List (List ℕ) → List (List ℕ) → Type 0) → Type 0
 OfRead remaining i i' P = OfLines (remaining (reader_of i)) (remaining (reader_of i')) P
-
-abbrev pub with_call : Script → Act → Script
-with_call s act = record s { calls = s.calls ++ act ∷ [] }
 
 -- the lines with `part` before the first one, if there is one
 abbrev pub with_part_first : List ℕ → List (List ℕ) → List (List ℕ)
@@ -44,9 +40,9 @@ with_part_first part (line ∷ lines) = (part ++ line) ∷ lines
 abbrev pub TakesOne : List (List ℕ) → List (List ℕ) → Type 0
 TakesOne lines left = ((line : List ℕ) × (lines ≡ line ∷ left)) ⊎ ((part : List ℕ) × (lines ≡ with_part_first part left))
 
--- one line with this meaning was taken; None is a bad line
-abbrev pub TakesLine : Option Said → List (List ℕ) → List (List ℕ) → Type 0
-TakesLine said lines rest = (line : List ℕ) × (lines ≡ line ∷ rest) × (line_of line ≡ said)
+-- this line was taken
+abbrev pub TakesLine : List ℕ → List (List ℕ) → List (List ℕ) → Type 0
+TakesLine line lines rest = lines ≡ line ∷ rest
 
 -- a line adds this call, and results in this configuration
 abbrev pub AddsCall : Script → List ℕ → Act → Config → Type 0
@@ -85,44 +81,38 @@ pub record Begins (lab : Lab) (s : Script) (line : List ℕ) (act : Act) (config
   pub adds : AddsCall s line act config
   pub stands : LabStandsFor lab (start s.images s.words no_rates)
 
--- a laboratory was created from a script's images and words, without rates
-abbrev pub IsCreatedFrom : Lab → Script → Type 0
-IsCreatedFrom lab s = LabStandsFor lab (start s.images s.words no_rates)
+-- What reading up to a call takes, given the streams' reader before and after, and what was read of the script, whatever
+-- script that is.
 
--- the script of the preamble so far
-abbrev pub preamble_of : Preamble → Config → Script
-preamble_of preamble config = record { images = images_of preamble.images.items; words = record { given = preamble.words.items; seed = preamble.seed }; config = config; calls = [] }
+-- the lines up to the next call
+abbrev pub ReadsToCall : {R : Type 0} → (R → Option (List ℕ)) → Input R → Input R → Reader → Reader → Call → Type 0
+ReadsToCall remaining i i' before after call = (s : Script) → HasRead before s → OfRead remaining i i'
+    (TakesCall s (with_preamble (has_begun before) (preamble_of after) s) (lines_read before + 1) (lines_read after) (act_of call) (config_of after))
 
--- What reading up to a call takes, given the reader before and after, and the lines so far.
+-- only lines without a call
+abbrev pub ReadsToEnd : {R : Type 0} → (R → Option (List ℕ)) → Input R → Input R → Reader → Reader → Type 0
+ReadsToEnd remaining i i' before after = (s : Script) → HasRead before s → OfRead remaining i i'
+    (λ lines _. with_lines s lines ≡ Some (with_preamble (has_begun before) (preamble_of after) s))
 
--- the lines of a preamble and the first call
-abbrev pub ReadsToCall : {R : Type 0} → (R → Option (List ℕ)) → Input R → Input R → Preamble → Preamble → Lines → Lines → Call → Type 0
-ReadsToCall remaining i i' before after old new call = OfRead remaining i i'
-    (TakesCall (preamble_of before old.config) (preamble_of after old.config) (old.number + 1) new.number (act_of call) new.config)
+-- such lines, then a line of this number that isn't allowed there
+abbrev pub ReadsBadCall : {R : Type 0} → (R → Option (List ℕ)) → Input R → Input R → Reader → Reader → ℕ → Type 0
+ReadsBadCall remaining i i' before after number = (s : Script) → HasRead before s → OfRead remaining i i'
+    (TakesBadCall s (with_preamble (has_begun before) (preamble_of after) s) (lines_read before + 1) number)
 
--- only lines of a preamble
-abbrev pub ReadsPreamble : {R : Type 0} → (R → Option (List ℕ)) → Input R → Input R → Preamble → Preamble → Lines → Type 0
-ReadsPreamble remaining i i' before after old = OfRead remaining i i'
-    (λ lines _. with_lines (preamble_of before old.config) lines ≡ Some (preamble_of after old.config))
-
--- a preamble, then a line of this number that isn't allowed there
-abbrev pub ReadsBadStart : {R : Type 0} → (R → Option (List ℕ)) → Input R → Input R → Preamble → Preamble → Lines → ℕ → Type 0
-ReadsBadStart remaining i i' before after old number = OfRead remaining i i'
-    (TakesBadCall (preamble_of before old.config) (preamble_of after old.config) (old.number + 1) number)
-
--- a part of a preamble
-abbrev pub ReadsPreamblePart : {R : Type 0} → (R → Option (List ℕ)) → Input R → Input R → Preamble → Lines → Type 0
-ReadsPreamblePart remaining i i' before old = (t : Script) × (t.calls ≡ []) × OfRead remaining i i' (TakesPart (preamble_of before old.config) t)
-
--- the next line, which is a bad line
-abbrev pub ReadsBadLine : {R : Type 0} → (R → Option (List ℕ)) → Input R → Input R → Lines → ℕ → Type 0
-ReadsBadLine remaining i i' old number = (number ≡ u64_saturate (old.number + 1)) × OfRead remaining i i' (TakesLine None)
+-- such lines, and at most one more or a part of it
+abbrev pub ReadsPart : {R : Type 0} → (R → Option (List ℕ)) → Input R → Input R → Reader → Reader → Type 0
+ReadsPart remaining i i' before after = (s : Script) → HasRead before s → OfRead remaining i i'
+    (TakesPart s (with_preamble (has_begun before) (preamble_of after) s))
 
 -- The output for lines after those of script s.
 
 -- a reply as a line with its line feed
 abbrev pub printed_reply : Reply → List ℕ
 printed_reply reply = reply_line reply ++ 10 ∷ []
+
+-- a call was made, and this is its reply as a line with its line feed
+abbrev pub AnswersCall : Lab → Call → Lab → List ℕ → Type 0
+AnswersCall lab call lab' text = (reply : Reply) × Performs lab (act_of call) reply lab' × (text ≡ printed_reply reply)
 
 -- the script's calls may have these printed replies, and may lead to this state
 pub record HasReplies (s : Script) (printed : List ℕ) (w : State) : Type 0 where
@@ -172,15 +162,15 @@ PrintsInputUpTo remaining contents i i' o o' ending = Run remaining contents i i
 -- The output of the calls from the first one on, after the lines that created the laboratory.
 
 -- all of it
-abbrev pub PrintsFrom : {R W : Type 0} → (R → Option (List ℕ)) → (W → Option (List ℕ)) → Lab → Call → Lines → Input R → Output W → Output W → Type 0
-PrintsFrom remaining contents lab first lines i o o' = (s : Script) (line : List ℕ) → Begins lab s line (act_of first) lines.config
+abbrev pub PrintsFrom : {R W : Type 0} → (R → Option (List ℕ)) → (W → Option (List ℕ)) → Lab → Call → Reader → Input R → Output W → Output W → Type 0
+PrintsFrom remaining contents lab first reader i o o' = (s : Script) (line : List ℕ) → Begins lab s line (act_of first) (config_of reader)
     → OfBytes remaining contents i o o' (λ bytes. Prints (with_lines s (line ∷ lines_of bytes)))
 
 -- up to this failure
-abbrev pub PrintsFromUpTo : {R W : Type 0} → (R → Option (List ℕ)) → (W → Option (List ℕ)) → Lab → Call → Lines → Input R → Input R → Output W → Output W → Ending → Type 0
-PrintsFromUpTo remaining contents lab first lines i i' o o' ending = (s : Script) (line : List ℕ) → Begins lab s line (act_of first) lines.config
-    → Run remaining contents i i' o o' (λ all left. PrintsUpTo ending s lines.number (line ∷ lines_of all) (lines_of left))
+abbrev pub PrintsFromUpTo : {R W : Type 0} → (R → Option (List ℕ)) → (W → Option (List ℕ)) → Lab → Call → Reader → Input R → Input R → Output W → Output W → Ending → Type 0
+PrintsFromUpTo remaining contents lab first reader i i' o o' ending = (s : Script) (line : List ℕ) → Begins lab s line (act_of first) (config_of reader)
+    → Run remaining contents i i' o o' (λ all left. PrintsUpTo ending s (lines_read reader) (line ∷ lines_of all) (lines_of left))
 
 -- if the calls end with a failure, up to it
-abbrev pub IfCut : {R W T : Type 0} → (R → Option (List ℕ)) → (W → Option (List ℕ)) → Lab → Call → Lines → Input R → Input R → Output W → Output W → Result T Ending → Type 0
-IfCut remaining contents lab first lines i i' o o' result = IfErr result (PrintsFromUpTo remaining contents lab first lines i i' o o')
+abbrev pub IfCut : {R W T : Type 0} → (R → Option (List ℕ)) → (W → Option (List ℕ)) → Lab → Call → Reader → Input R → Input R → Output W → Output W → Result T Ending → Type 0
+IfCut remaining contents lab first reader i i' o o' result = IfErr result (PrintsFromUpTo remaining contents lab first reader i i' o o')

@@ -16,6 +16,6 @@ pub use blob_script::{Call, Reply, call, reply, script};
 pub use ending::Ending;
 pub use resolution_line::ResolutionLine;
 pub use resolutions::{run_resolve, serve_resolve};
-pub use scripts::{run_script, serve_script};
+pub use scripts::{Listener, run_script, serve_script, serve_script_to};
 pub use streams::{Input, Output};
 pub use text_lines::first_line;

@@ -7,11 +7,13 @@ ghost use Rattle.blob_lab.specs.Streams.{IsReadToEnd, OfBytes, OfKnown, OnBadCal
 mod ahead;
 mod answering;
 mod lines;
+pub mod listener;
 mod unknown;
 
 use crate::{Ending, Input, Output};
 pub use ahead::Ahead;
 use answering::run_lines;
+pub use listener::{Listener, Silent};
 use std::alloc::Global;
 use std::io::{BufRead, Write};
 use unknown::Unknown;
@@ -60,7 +62,30 @@ pub fn serve_script<R: Ahead, W: Write>(
     ensures input_sound { result ≢ Ending.InputFailed → IfWritten result (read_failed input.new ≡ read_failed input.old) }
     ensures output_sound { result ≢ Ending.OutputFailed → write_failed output.new ≡ write_failed output.old }
 {
-    let ran = run_lines(alloc, input, output);
+    serve_script_to(alloc, input, output, &mut Silent)
+}
+
+/// Runs a script like `serve_script`, and tells `listener` of each call.
+pub fn serve_script_to<R: Ahead, W: Write, L: Listener>(
+    alloc: Global,
+    input: &mut Input<R>,
+    output: &mut Output<W>,
+    listener: &mut L,
+) -> Ending
+    ensures ending { (result ≢ Ending.BadImage) × (result ≢ Ending.Usage) }
+    ensures read { result ≡ Ending.Done → IsReadToEnd R.remaining input.old input.new }
+    ensures done { result ≡ Ending.Done
+        → OfBytes R.remaining W.contents input.old output.old output.new PrintsAll }
+    ensures bad_call { OnBadCall R.remaining W.contents result input.old output.old output.new PrintsBeforeLine }
+    ensures taken { IfWritten result (Run R.remaining W.contents input.old input.new output.old output.new Replies) }
+    ensures part { IfWriteFailed result (Run R.remaining W.contents input.old input.new output.old output.new PartReplies) }
+    ensures handed_on { result ≢ Ending.OutputFailed → is_flushed output.new ≡ true }
+    ensures input_failed { result ≡ Ending.InputFailed → read_failed input.new ≡ true }
+    ensures output_failed { result ≡ Ending.OutputFailed → write_failed output.new ≡ true }
+    ensures input_sound { result ≢ Ending.InputFailed → IfWritten result (read_failed input.new ≡ read_failed input.old) }
+    ensures output_sound { result ≢ Ending.OutputFailed → write_failed output.new ≡ write_failed output.old }
+{
+    let ran = run_lines(alloc, input, output, listener);
     match (output.flush(), ran) {
         (Err(failed), _) => failed,
         (Ok(()), Ok(())) => Ending::Done,

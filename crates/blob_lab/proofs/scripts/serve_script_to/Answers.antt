@@ -1,7 +1,7 @@
 use Rattle.std.proofs.Common.{rules}
 use Rattle.blob_lab.specs.Streams.{reader_of, writer_of}
 use Rattle.blob_lab.proofs.ScriptEnds.{ends_done, ends_part, ends_taken, ends_flush_failed}
-use Rattle.blob_lab.proofs.scripts.serve_script.Goals as goal
+use Rattle.blob_lab.proofs.scripts.serve_script_to.Goals as goal
 
 pub returns-in-Err-default-clause-part : goal.returns-in-Err-default-clause-part
 returns-in-Err-default-clause-part g c = λ _.
