@@ -26,6 +26,7 @@ pub(crate) struct Draws {
 }
 
 impl Draws {
+    /// `rng` gives the words of the laboratory.
     pub(crate) fn new(rng: ScriptedRng) -> Draws {
         Draws {
             rng,
@@ -34,12 +35,7 @@ impl Draws {
     }
 
     /// Makes the draws of a call before the laboratory makes the call. The only error is `Memory`.
-    pub(crate) fn ahead(
-        &mut self,
-        alloc: Global,
-        lab: &mut Lab,
-        call: &Call,
-    ) -> Result<Drawn, Error> {
+    pub(crate) fn ahead(&mut self, alloc: Global, lab: &Lab, call: &Call) -> Result<Drawn, Error> {
         match call {
             Call::Configure(config) => self.config = copy_of(config),
             Call::Open { versions, .. } | Call::OpenLoose { versions, .. } => {
@@ -125,8 +121,8 @@ impl Draws {
 }
 
 /// Returns the tracked size of a handle, or None if there is no such handle. Makes no draw.
-pub(crate) fn size_of(lab: &mut Lab, handle: usize) -> Option<u64> {
-    match lab.apply(&Call::Size(handle)) {
+pub(crate) fn size_of(lab: &Lab, handle: usize) -> Option<u64> {
+    match lab.size(handle) {
         Reply::Size(size) => Some(size),
         _ => None,
     }

@@ -5,10 +5,9 @@ ghost use Rattle.blob_lab.specs.Streams.{KeepsOutput, OfBytes, OnBadCall, read_f
 ghost use Rattle.blob_explain.specs.Explained.{IsExplained, Remarks};
 ghost use Rattle.blob_explain.specs.Explanations.{EndsSound, ExplainsBefore, ExplainsInput, ExplainsScript, IsCutShort, IsInputExplained};
 
-use crate::play::remarks_of;
 use crate::remarks::push_remarks;
-use crate::watch::Remark;
-use blob_lab::{Ending, Input, Output, serve_script};
+use crate::watch::Watch;
+use blob_lab::{Ending, Input, Output, serve_script_to};
 use std::alloc::{AllocError, Global};
 use std::io::{BufRead, Write};
 
@@ -16,9 +15,8 @@ use std::io::{BufRead, Write};
 /// After a crash they show each file that had something pending. After a write, a resize or a started sync they show its outcome,
 /// if the reply doesn't report it.
 ///
-/// All of it is written at the end. The script is run twice, once for its replies and once for the pictures. If memory is refused
-/// to a call in one of the runs alone, it ends as `NoMemory`. If it ends as `InputFailed`, nothing was written, and nothing may have
-/// been written if it ends as `NoMemory`. The writer is flushed at the end in any case; if that fails, it ends as `OutputFailed`.
+/// All of it is written at the end. If it ends as `InputFailed`, nothing was written, and nothing may have been written if it ends
+/// as `NoMemory`. The writer is flushed at the end in any case; if that fails, it ends as `OutputFailed`.
 pub fn explain_script<R: BufRead, W: Write>(
     alloc: Global,
     input: &mut Input<R>,
@@ -75,58 +73,47 @@ fn explanation<R: BufRead>(alloc: Global, input: &mut Input<R>) -> Result<(Vec<u
     input.read_all(&mut script)?;
     let mut lines = Input::new(script.as_slice());
     let mut replies = Output::new(Vec::new(alloc));
-    let ending = serve_script(alloc, &mut lines, &mut replies);
+    let mut watch = Watch::new(alloc);
+    let ending = serve_script_to(alloc, &mut lines, &mut replies, &mut watch);
     // A list is a reader that doesn't fail, and a writer that fails only if memory runs out.
     if ending == Ending::InputFailed || ending == Ending::OutputFailed {
         return Err(Ending::NoMemory);
     }
-    let Ok(remarks) = remarks_of(alloc, &script) else {
-        return Err(Ending::NoMemory);
-    };
     let printed = replies.into_writer();
-    let Ok(text) = explained(alloc, &printed, &remarks) else {
+    let Ok(text) = explained(alloc, &printed, &watch.texts) else {
         return Err(Ending::NoMemory);
     };
     Ok((text, ending))
 }
 
-/// Returns the replies, each followed by its text. It is an error if memory was refused to a call in one of the two runs alone.
+/// Returns the replies, each followed by its text.
 #[tactic(auto, using(crate::proofs::Explaining::goes_on, crate::proofs::Explaining::explained))]
-fn explained(alloc: Global, replies: &[u8], remarks: &[Remark]) -> Result<Vec<u8>, AllocError>
+fn explained(alloc: Global, replies: &[u8], texts: &[String]) -> Result<Vec<u8>, AllocError>
     ensures { IfOk result (λ text. IsExplained replies.now text.items) }
 {
     let mut text = Vec::new(alloc);
     let mut rest = replies;
-    let mut shown = 0;
+    let mut shown = 0usize;
     'lines: while let Some((line, others)) = first_line(rest) {
         text.extend_from_slice(line)?;
         text.push(b'\n')?;
-        push_remarks_after(remarks, &mut shown, line, &mut text)?;
+        push_remarks_after(texts, shown, &mut text)?;
+        shown = shown.saturating_add(1);
         rest = others;
     }
     text.extend_from_slice(rest)?;
     Ok(text)
 }
 
-/// Adds what follows the next reply, which is `line`.
+/// Adds what follows the reply of this number.
 #[tactic(auto, using(crate::proofs::Explaining::none))]
-fn push_remarks_after(
-    remarks: &[Remark],
-    shown: &mut usize,
-    line: &[u8],
-    text: &mut Vec<u8>,
-) -> Result<(), AllocError>
+fn push_remarks_after(texts: &[String], shown: usize, text: &mut Vec<u8>) -> Result<(), AllocError>
     ensures { OnOk result (Remarks text.old.items text.new.items) }
 {
-    if *shown >= remarks.len() {
-        return Ok(());
+    match texts.get(shown) {
+        None => Ok(()),
+        Some(remarks) => push_remarks(remarks, text),
     }
-    let remark = &remarks[*shown];
-    *shown += 1;
-    if remark.is_without_memory != (line == b"error Memory".as_slice()) {
-        return Err(AllocError);
-    }
-    push_remarks(&remark.text, text)
 }
 
 /// Returns the text before the first line feed and the text after it. Returns `None` if there is no line feed.

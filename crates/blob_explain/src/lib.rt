@@ -8,7 +8,6 @@ mod files;
 mod handles;
 mod outcomes;
 mod picture;
-mod play;
 mod remarks;
 mod rows;
 mod watch;

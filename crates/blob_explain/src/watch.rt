@@ -11,32 +11,27 @@ use blob_base::Error;
 use blob_draws::faults::WriteFate;
 use blob_draws::runs::Span;
 use blob_lab::lab::Wrapper;
-use blob_lab::{Call, Lab, Reply, ScriptedRng};
+use blob_lab::{Call, Lab, Listener, Reply};
 use blob_pending::entry::Entry;
-use std::alloc::Global;
+use std::alloc::{AllocError, Global};
+use std::mem;
 
-/// Everything a picture needs that neither the replies nor the store report.
+/// Everything a picture needs that neither the replies nor the store report, and the text that follows each reply.
 #[derive(Drop)]
 pub(crate) struct Watch {
     alloc: Global,
-    draws: Draws,
+    /// From the first call on.
+    draws: Option<Draws>,
     handles: Handles,
     bases: Bases,
+    /// Of the call that has no reply yet.
+    ahead: Ahead,
+    pub(crate) texts: Vec<String>,
 }
 
-/// What follows a reply.
+/// What must be known of a call before it is made.
 #[derive(Drop)]
-pub(crate) struct Remark {
-    pub(crate) text: String,
-    /// Whether the reply is that memory was refused to the call.
-    pub(crate) is_without_memory: bool,
-}
-
-/// A call with its reply and its draws.
-#[derive(Drop)]
-struct Step<'a> {
-    call: &'a Call,
-    reply: Reply,
+struct Ahead {
     drawn: Drawn,
     /// The durable bytes before a write that keeps bytes although it fails.
     before: Vec<u8>,
@@ -44,31 +39,96 @@ struct Step<'a> {
     files: Vec<File>,
 }
 
-impl Watch {
-    /// Watches a laboratory with a generator that has the same words as this one.
-    pub(crate) fn new(alloc: Global, rng: ScriptedRng) -> Watch {
-        Watch {
-            alloc,
-            draws: Draws::new(rng),
-            handles: Handles::new(alloc),
-            bases: Bases::new(alloc),
+impl Ahead {
+    fn nothing(alloc: Global) -> Ahead {
+        Ahead {
+            drawn: Drawn::Nothing,
+            before: Vec::new(alloc),
+            files: Vec::new(alloc),
+        }
+    }
+}
+
+/// A call with its reply and its draws.
+#[derive(Drop)]
+struct Step<'a> {
+    call: &'a Call,
+    reply: &'a Reply,
+    drawn: Drawn,
+    /// The durable bytes before a write that keeps bytes although it fails.
+    before: Vec<u8>,
+    /// What was pending before a crash.
+    files: Vec<File>,
+}
+
+impl Listener for Watch {
+    fn before(&mut self, lab: &Lab, call: &Call) -> Result<(), AllocError> {
+        match self.look_ahead(lab, call) {
+            Ok(()) => Ok(()),
+            Err(_) => Err(AllocError),
         }
     }
 
-    /// Makes a call and returns what follows its reply. The only error is `Memory`.
-    pub(crate) fn step(&mut self, lab: &mut Lab, call: &Call) -> Result<Remark, Error> {
+    fn after(&mut self, lab: &Lab, call: &Call, reply: &Reply) -> Result<(), AllocError> {
+        let Ok(text) = self.look_back(lab, call, reply) else {
+            return Err(AllocError);
+        };
+        Ok(self.texts.push(text)?)
+    }
+}
+
+impl Watch {
+    pub(crate) fn new(alloc: Global) -> Watch {
+        Watch {
+            alloc,
+            draws: None,
+            handles: Handles::new(alloc),
+            bases: Bases::new(alloc),
+            ahead: Ahead::nothing(alloc),
+            texts: Vec::new(alloc),
+        }
+    }
+
+    /// Looks at the laboratory before a call. The only error is `Memory`.
+    fn look_ahead(&mut self, lab: &Lab, call: &Call) -> Result<(), Error> {
         let alloc = self.alloc;
         let mut files = Vec::new(alloc);
         if let Call::Crash = call {
             files = pending_files(alloc, lab.wrapper(), &self.bases)?;
         }
-        let drawn = self.draws.ahead(alloc, lab, call)?;
-        let before = self.before(lab.wrapper(), call, &drawn)?;
-        let reply = lab.apply(call);
-        if let Reply::Crashed(kept) = &reply {
+        let drawn = self.drawn(lab, call)?;
+        let before = self.durable_before(lab.wrapper(), call, &drawn)?;
+        self.ahead = Ahead {
+            drawn,
+            before,
+            files,
+        };
+        Ok(())
+    }
+
+    /// Makes the draws of a call. The first call finds the laboratory's own generator as it began.
+    fn drawn(&mut self, lab: &Lab, call: &Call) -> Result<Drawn, Error> {
+        let mut draws = match self.draws.take() {
+            Some(draws) => draws,
+            None => Draws::new(lab.wrapper().rng().fork()?),
+        };
+        let drawn = draws.ahead(self.alloc, lab, call);
+        self.draws = Some(draws);
+        drawn
+    }
+
+    /// Returns what follows the reply to a call. The only error is `Memory`.
+    fn look_back(&mut self, lab: &Lab, call: &Call, reply: &Reply) -> Result<String, Error> {
+        let alloc = self.alloc;
+        let Ahead {
+            drawn,
+            before,
+            mut files,
+        } = mem::replace(&mut self.ahead, Ahead::nothing(alloc));
+        if let Reply::Crashed(kept) = reply {
             choose(alloc, &mut files, kept.rows())?;
         }
-        self.handles.note(alloc, call, &reply)?;
+        self.handles.note(alloc, call, reply)?;
         let step = Step {
             call,
             reply,
@@ -77,14 +137,11 @@ impl Watch {
             files,
         };
         self.note(lab.wrapper(), &step)?;
-        Ok(Remark {
-            text: self.text(lab.wrapper(), &step)?,
-            is_without_memory: is_without_memory(&step.reply),
-        })
+        self.text(lab.wrapper(), &step)
     }
 
     /// Returns the durable bytes before a write that keeps bytes although it fails; no bytes for any other call.
-    fn before(&self, wrapper: &Wrapper, call: &Call, drawn: &Drawn) -> Result<Vec<u8>, Error> {
+    fn durable_before(&self, wrapper: &Wrapper, call: &Call, drawn: &Drawn) -> Result<Vec<u8>, Error> {
         if let Call::Write { handle, .. } = call {
             if let Drawn::Write(WriteFate::Failed(kept)) = drawn {
                 if kept.contains(&true) {
@@ -93,6 +150,14 @@ impl Watch {
             }
         }
         Ok(Vec::new(self.alloc))
+    }
+
+    /// Whether an unsynced write is pending.
+    fn retains(&self) -> bool {
+        match &self.draws {
+            None => false,
+            Some(draws) => draws.retains(),
+        }
     }
 
     fn durable_bytes(&self, wrapper: &Wrapper, handle: usize) -> Result<Vec<u8>, Error> {
@@ -132,10 +197,10 @@ impl Watch {
         match step.call {
             Call::Crash => push_crash(wrapper, &step.files, &mut text)?,
             Call::Resize { handle, len } => {
-                self.push_resize(*handle, *len, &step.reply, &step.drawn, &mut text)?
+                self.push_resize(*handle, *len, step.reply, &step.drawn, &mut text)?
             }
             Call::StartSync(handle) => {
-                self.push_sync(*handle, &step.reply, &step.drawn, &mut text)?
+                self.push_sync(*handle, step.reply, &step.drawn, &mut text)?
             }
             Call::Write {
                 handle,
@@ -216,7 +281,7 @@ impl Watch {
         let Some(opened) = self.handles.get(handle) else {
             return Ok(());
         };
-        let Reply::Failed(error) = &step.reply else {
+        let Reply::Failed(error) = step.reply else {
             return Ok(());
         };
         let Drawn::Write(fate) = &step.drawn else {
@@ -236,7 +301,7 @@ impl Watch {
             }
             WriteFate::Unsynced => {
                 if is_injected(error) {
-                    let number = if self.draws.retains() {
+                    let number = if self.retains() {
                         newest_write(wrapper)
                     } else {
                         None
@@ -246,13 +311,6 @@ impl Watch {
             }
         }
         Ok(())
-    }
-}
-
-fn is_without_memory(reply: &Reply) -> bool {
-    match reply {
-        Reply::Failed(Error::Memory(_)) => true,
-        _ => false,
     }
 }
 
@@ -282,7 +340,7 @@ fn durable_ranges(alloc: Global, step: &Step) -> Result<Vec<(u64, Vec<u8>)>, Err
     else {
         return Ok(ranges);
     };
-    match &step.reply {
+    match step.reply {
         Reply::Done => {
             if *sync && !bytes.is_empty() {
                 ranges.push((*offset, Vec::from_slice(alloc, bytes)?))?;

@@ -5,6 +5,7 @@ use Rattle.std.specs.Prelude.{option_and_then}
 use Rattle.blob_script.specs.declared.call.Call.{Call}
 use Rattle.blob_script.specs.Acts.{Act, act_of}
 use Rattle.blob_script.specs.Lines.{line_of}
+use Rattle.blob_script.specs.Readers.{lines_read}
 use Rattle.blob_choices.specs.Outcomes.{acts_of}
 use Rattle.blob_lab.specs.Scripts as lab
 use Rattle.blob_lab.specs.Scripts.{lines_of, no_script, script_of, with_line, with_lines}
@@ -34,13 +35,13 @@ lines_more s t u (l ∷ lines) line before here = by (with_line s l) before (λ 
 pub record IsReadTo (text rest : List ℕ) (reading : Reading) : Type 0 where
   pub front : List (List ℕ)
   pub parts : lines_of text ≡ front ++ lines_of rest
-  pub numbered : reading.number ≡ length front
+  pub numbered : lines_read reading.reader ≡ length front
   pub is : script_of front ≡ Some (script_so_far reading)
 
-pub begins : (text : List ℕ) (reading : Reading) → reading.number ≡ 0 → script_so_far reading ≡ no_script → IsReadTo text text reading
+pub begins : (text : List ℕ) (reading : Reading) → lines_read reading.reader ≡ 0 → script_so_far reading ≡ no_script → IsReadTo text text reading
 begins text reading number none = record { front = []; parts = refl; numbered = number; is = ap Some (sym none) }
 
-pub goes_on : (text rest line others : List ℕ) (r r' : Reading) → IsReadTo text rest r → lines_of rest ≡ line ∷ lines_of others → AddsLine r line r' → r'.number ≡ r.number + 1 → IsReadTo text others r'
+pub goes_on : (text rest line others : List ℕ) (r r' : Reading) → IsReadTo text rest r → lines_of rest ≡ line ∷ lines_of others → AddsLine r line r' → lines_read r'.reader ≡ lines_read r.reader + 1 → IsReadTo text others r'
 goes_on text rest line others r r' h first adds number = record {
   front = h.front ++ line ∷ [];
   parts = h.parts ∙ ap (λ ls. h.front ++ ls) first ∙ sym (append_assoc h.front (line ∷ []) (lines_of others));
@@ -49,7 +50,7 @@ goes_on text rest line others r r' h first adds number = record {
 }
 
 pub refused_at : (text rest line others : List ℕ) (r : Reading) (number : ℕ) (refused : RefusedScript) → IsReadTo text rest r → lines_of rest ≡ line ∷ lines_of others
-    → number ≡ r.number + 1 → RefusesLine r line number refused → IsRefused text refused
+    → number ≡ lines_read r.reader + 1 → RefusesLine r line number refused → IsRefused text refused
 refused_at text rest line others r number refused h first next refuses = by refused at
   where
     is_next : number ≡ suc (length h.front)

@@ -1,12 +1,14 @@
 -- Why a text isn't explored.
-use Rattle.std.specs.Prelude.{◌≡◌, ℕ, suc, List, [], ◌∷◌, ◌++◌, length, Option, Some, None, Vec, String, string_bytes}
-use Rattle.std.specs.Global.{Global}
+use Rattle.std.specs.Prelude.{◌≡◌, ◌≢◌, ℕ, suc, List, [], ◌∷◌, ◌++◌, length, Option, Some, None}
 use Rattle.blob_script.specs.Acts.{Act}
 use Rattle.blob_script.specs.Lines as says
+use Rattle.blob_script.specs.Preambles.{only, words_of}
+use Rattle.blob_script.specs.Readers.{lines_read, preamble_of}
+use Rattle.blob_script.specs.declared.script.reader.Reader.{Reader}
 use Rattle.blob_script.specs.Lines.{Said, line_of}
 use Rattle.blob_lab.specs.Scripts as lab
 use Rattle.blob_lab.specs.Scripts.{lines_of, script_of, with_line, with_said}
-use Rattle.blob_choices.specs.Outcomes.{SetNoPartialResize}
+use Rattle.blob_choices.specs.Outcomes.{SetNoPartialResize, SetsNoPartialResize}
 use Rattle.blob_explore.specs.ScriptTexts.{script_so_far}
 use Rattle.blob_explore.specs.declared.script.Reading.{Reading}
 use Rattle.blob_explore.specs.declared.script.RefusedScript.{RefusedScript}
@@ -36,16 +38,15 @@ Refuses script line said after (BadCall number) = (number ≡ line) × IsOutOfPl
 Refuses script line said after (PartialResize number) = (number ≡ line) × SetsPartialResize after
 Refuses script line said after NoMemory = Unit {0}
 
--- the same of what a line says
-abbrev pub RefusesSaid : Reading → Said → RefusedScript → Type 0
-RefusesSaid reading said refused =
-    Refuses (script_so_far reading) reading.number (Some said) (with_said (script_so_far reading) said) refused
+-- a call is refused, by the number of its line
+abbrev pub RefusesCall : ℕ → Act → RefusedScript → Type 0
+RefusesCall line act (BadCall number) = ⊥
+RefusesCall line act (PartialResize number) = (number ≡ line) × (SetsNoPartialResize act → ⊥)
+RefusesCall line act NoMemory = Unit {0}
 
-abbrev pub image_said : String Global × Vec ℕ Global × Vec ℕ Global → Said
-image_said image = says.Image (string_bytes image.0) image.1.items image.2.items
-
-abbrev pub RefusesCall : Reading → Act → RefusedScript → Type 0
-RefusesCall reading act refused = RefusesSaid reading (says.Call act) refused
+-- words or a seed are refused, by the number of their line
+abbrev pub RefusesWords : Reader → RefusedScript → Type 0
+RefusesWords reader refused = (refused ≡ BadCall (lines_read reader)) × (words_of (preamble_of reader) ≢ only [])
 
 -- a line that follows the lines so far
 abbrev pub RefusesLine : Reading → List ℕ → ℕ → RefusedScript → Type 0

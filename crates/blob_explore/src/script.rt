@@ -1,19 +1,19 @@
 //! A script to be explored: what lies in the store, and the calls.
-ghost use Rattle.std.specs.Prelude.{◌≡◌, ◌<◌, ◌+◌, ◌-◌, ◌^◌, [], Some, IfOk, IfErr, OnOk};
+ghost use Rattle.std.specs.Prelude.{◌≡◌, ◌<◌, ◌+◌, ◌-◌, ◌^◌, ◌++◌, ◌∷◌, [], IfOk, IfErr, OnOk};
 ghost use Rattle.std.specs.Bool.{OnFalse, OnTrue};
 ghost use Rattle.blob_script.specs.Acts.{act_of};
-ghost use Rattle.blob_script.specs.Lines.{Configure, said_by};
-ghost use Rattle.blob_script.specs.Settings.{no_rates};
+ghost use Rattle.blob_script.specs.Preambles.{only, words_of};
+ghost use Rattle.blob_script.specs.Readers.{lines_read, preamble_of};
+ghost use Rattle.blob_script.specs.Scripts.{no_script};
 ghost use Rattle.blob_choices.specs.Outcomes.{HasNoPartialResize, SetNoPartialResize, SetsNoPartialResize, acts_of};
 ghost use Rattle.blob_explore.specs.Explorations.{AddsNoPartialResize};
-ghost use Rattle.blob_explore.specs.ScriptTexts.{AddsCall, AddsImage, AddsLine, AddsSaid, AddsSetting, IsScriptOf};
-ghost use Rattle.blob_explore.specs.RefusedLines.{IsRefused, RefusesCall, RefusesLine, RefusesSaid, image_said, status_of};
+ghost use Rattle.blob_explore.specs.ScriptTexts.{AddsLine, IsPlain, IsScriptOf, script_so_far};
+ghost use Rattle.blob_explore.specs.RefusedLines.{IsRefused, RefusesCall, RefusesLine, RefusesWords, status_of};
 
 use blob_faulty::Config;
 use blob_lab::first_line;
 use blob_script::Call;
-use blob_script::script::setting::copy_of;
-use blob_script::script::{Line, RefusedLine, Setting, read_line};
+use blob_script::script::{Reader, RefusedLine};
 use std::alloc::{AllocError, Global};
 use std::fmt;
 
@@ -81,117 +81,72 @@ pub fn read_script(alloc: Global, text: &[u8]) -> Result<Script, RefusedScript>
     let mut reading = Reading::new(alloc);
     let mut rest = text;
     'lines: while let Some((line, others)) = first_line(rest) {
-        reading.add(alloc, line)?;
+        reading.add(line)?;
         rest = others;
     }
+    let Reading { mut reader, calls } = reading;
     Ok(Script {
-        images: reading.images,
-        calls: reading.calls,
+        images: reader.begin().images,
+        calls,
     })
 }
 
 /// What the lines so far say.
 #[derive(Drop)]
 struct Reading {
-    images: Vec<(String, Vec<u8>, Vec<u8>)>,
+    reader: Reader,
     calls: Vec<Call>,
-    config: Config,
-    number: u64,
 }
 
 impl Reading {
     fn new(alloc: Global) -> Reading
-        ensures calls { result.calls.items ≡ [] }
-        ensures images { result.images.items ≡ [] }
-        ensures config { result.config ≡ no_rates }
-        ensures number { result.number ≡ 0 }
+        ensures plain { IsPlain result }
+        ensures none { script_so_far result ≡ no_script }
+        ensures number { lines_read result.reader ≡ 0 }
     {
         Reading {
-            images: Vec::new(alloc),
+            reader: Reader::new(alloc),
             calls: Vec::new(alloc),
-            config: Config::default(),
-            number: 0,
         }
     }
 
     /// Adds the next line.
-    fn add(&mut self, alloc: Global, line: &[u8]) -> Result<(), RefusedScript>
-        requires { self.old.number < 2 ^ 64 - 1 }
+    fn add(&mut self, line: &[u8]) -> Result<(), RefusedScript>
+        requires few { lines_read self.old.reader < 2 ^ 64 - 1 }
+        requires plain { IsPlain self.old }
+        ensures plain { OnOk result (IsPlain self.new) }
         ensures sizes { OnOk result (AddsNoPartialResize self.old.calls.items self.new.calls.items) }
         ensures line { OnOk result (AddsLine self.old line.now self.new) }
-        ensures number { self.new.number ≡ self.old.number + 1 }
-        ensures refused { IfErr result (RefusesLine self.old line.now self.new.number) }
+        ensures number { lines_read self.new.reader ≡ lines_read self.old.reader + 1 }
+        ensures refused { IfErr result (RefusesLine self.old line.now (lines_read self.new.reader)) }
     {
-        self.number += 1;
-        match read_line(alloc, line) {
-            Ok(line) => self.add_line(line),
-            Err(RefusedLine::BadCall) => Err(RefusedScript::BadCall(self.number)),
+        match self.reader.read(line) {
+            Ok(Some(call)) => self.add_call(call),
+            Ok(None) => self.refuse_words(),
+            Err(RefusedLine::BadCall) => Err(RefusedScript::BadCall(self.reader.number())),
             Err(RefusedLine::NoMemory) => Err(RefusedScript::NoMemory),
         }
     }
 
-    fn add_line(&mut self, line: Line) -> Result<(), RefusedScript>
-        ensures sizes { OnOk result (AddsNoPartialResize self.old.calls.items self.new.calls.items) }
-        ensures line { OnOk result (AddsSaid self.old (said_by line) self.new) }
-        ensures number { self.new.number ≡ self.old.number }
-        ensures refused { IfErr result (RefusesSaid self.old (said_by line)) }
+    /// Rejects the last line if there are words or a seed.
+    fn refuse_words(&self) -> Result<(), RefusedScript>
+        ensures none { OnOk result (words_of (preamble_of self.now.reader) ≡ only []) }
+        ensures some { IfErr result (RefusesWords self.now.reader) }
     {
-        match line {
-            Line::Blank => Ok(()),
-            Line::Image {
-                partition,
-                name,
-                bytes,
-            } => self.add_image((partition, name, bytes)),
-            Line::Words(words) => self.refuse(words),
-            Line::Seed(seed) => self.refuse(seed),
-            Line::Configure(setting) => self.configure(setting),
-            Line::Call(call) => self.add_call(call),
+        if self.reader.preamble().has_words() {
+            return Err(RefusedScript::BadCall(self.reader.number()));
         }
-    }
-
-    fn refuse<T: Drop>(&self, _given: T) -> Result<(), RefusedScript>
-        ensures { result ≡ Err (RefusedScript.BadCall self.now.number) }
-    {
-        Err(RefusedScript::BadCall(self.number))
-    }
-
-    /// Images come before the calls.
-    fn add_image(&mut self, image: (String, Vec<u8>, Vec<u8>)) -> Result<(), RefusedScript>
-        ensures calls { self.new.calls ≡ self.old.calls }
-        ensures image { OnOk result (AddsImage self.old image self.new) }
-        ensures number { self.new.number ≡ self.old.number }
-        ensures refused { IfErr result (RefusesSaid self.old (image_said image)) }
-    {
-        if !self.calls.is_empty() {
-            return Err(RefusedScript::BadCall(self.number));
-        }
-        match self.images.push(image) {
-            Ok(()) => Ok(()),
-            Err(_) => Err(RefusedScript::NoMemory),
-        }
-    }
-
-    /// A setting is a call with the whole configuration so far.
-    fn configure(&mut self, setting: Setting) -> Result<(), RefusedScript>
-        ensures sizes { OnOk result (AddsNoPartialResize self.old.calls.items self.new.calls.items) }
-        ensures setting { OnOk result (AddsSetting self.old setting self.new) }
-        ensures number { self.new.number ≡ self.old.number }
-        ensures refused { IfErr result (RefusesSaid self.old (Configure setting)) }
-    {
-        self.config = setting.apply(copy_of(&self.config));
-        let call = Call::Configure(copy_of(&self.config));
-        self.add_call(call)
+        Ok(())
     }
 
     fn add_call(&mut self, call: Call) -> Result<(), RefusedScript>
-        ensures sizes { OnOk result (AddsNoPartialResize self.old.calls.items self.new.calls.items) }
-        ensures call { OnOk result (AddsCall self.old call self.new) }
-        ensures number { self.new.number ≡ self.old.number }
-        ensures refused { IfErr result (RefusesCall self.old (act_of call)) }
+        ensures sizes { OnOk result (SetsNoPartialResize (act_of call)) }
+        ensures call { OnOk result (self.new.calls.items ≡ self.old.calls.items ++ call ∷ []) }
+        ensures reader { self.new.reader ≡ self.old.reader }
+        ensures refused { IfErr result (RefusesCall (lines_read self.old.reader) (act_of call)) }
     {
         if draws_size(&call) {
-            return Err(RefusedScript::PartialResize(self.number));
+            return Err(RefusedScript::PartialResize(self.reader.number()));
         }
         if self.calls.push(call).is_err() {
             return Err(RefusedScript::NoMemory);

@@ -1,119 +1,124 @@
--- What one more line does to a preamble.
-use Rattle.std.proofs.Common.{◌≡◌, ℕ, ◌+◌, ◌≤◌, List, [], ◌∷◌, ◌++◌, All, Some, None, true, ◌&&◌, if◌then◌else◌, is_none, option_and_then, Vec, String, string_bytes, length, refl, sym, ap, ◌∙◌, append_assoc, arith}
-use Rattle.std.proofs.lemmas.List.{length_push, map-append}
+-- What one more line does to the settings that a session is opened with.
+use Rattle.std.proofs.Common.{◌≡◌, ◌≢◌, ℕ, ◌+◌, ◌≤◌, ◌<◌, List, [], ◌∷◌, ◌++◌, All, Bool, true, false, Option, Some, None, length, refl, sym, ap, ◌∙◌, append_assoc, arith, inl, inr, subst}
+use Rattle.std.specs.Prelude.{◌⊎◌, option_and_then}
+use Rattle.std.proofs.lemmas.List.{length_push}
 use Rattle.std.proofs.lemmas.List.Elements.{All-push}
-use Rattle.std.specs.Global.{Global}
-use Rattle.blob_script.specs.declared.script.setting.Setting.{Setting}
-use Rattle.blob_script.specs.Acts as acts
+use Rattle.blob_draws.specs.declared.config.Config.{Config}
+use Rattle.blob_script.specs.declared.script.preamble.Preamble.{Preamble}
+use Rattle.blob_script.specs.declared.script.reader.Reader.{Reader}
 use Rattle.blob_script.specs.Acts.{Act}
-use Rattle.blob_script.specs.Lines.{Image, Given, Seed, Configure, line_of}
+use Rattle.blob_script.specs.Lines.{line_of}
+use Rattle.blob_script.specs.Preambles.{Image, Words, images_of, words_of}
+use Rattle.blob_script.specs.Readers.{HasRead, IsSame, MakesCall, MakesNoCall, Refuses, config_of, has_begun, lines_read, preamble_of, with_meaning, with_preamble}
+use Rattle.blob_script.specs.Scripts.{with_call}
 use Rattle.blob_script.specs.Tokens.{is_empty}
+use Rattle.blob_script.proofs.Readers.{calls_kept, read_call, read_on}
 use Rattle.blob_lab.specs.Scripts.{Script, no_script, lines_of, with_said, with_line}
-use Rattle.blob_lab_model.specs.Scripted.{behind_seeded}
-use Rattle.blob_script.specs.Settings.{with_setting}
-use Rattle.blob_lab_model.specs.States as states
-use Rattle.blob_lab_store.specs.Tables.{images_of}
 use Rattle.blob_lab.proofs.ScriptSteps.{more_lines, one_line}
-use Rattle.blob_sessions.specs.declared.preamble.Preamble.{Preamble}
-use Rattle.blob_sessions.specs.Preambles.{IsSetting, IsNoSetting, BreaksAt, Says, IsReadTo}
+use Rattle.blob_lab_model.specs.States.{start}
+use Rattle.blob_lab_store.specs.LabStands.{LabStandsFor}
+use Rattle.blob_sessions.specs.Debts.{IsNew}
+use Rattle.blob_sessions.specs.declared.kept.Kept.{Kept}
+use Rattle.blob_sessions.proofs.LineCalls.{call_said}
+use Rattle.blob_sessions.specs.Preambles.{AddsSetting, AreSettings, IsSetting, IsNoSetting, BreaksAt, IsMadeOf, IsReadTo, ReadsSettings, RefusesSetting}
 
--- a line adds to what was said
-abbrev pub Adds : Script → List ℕ → Preamble → Type 0
-Adds s line q = (t : Script) × (with_line s line ≡ Some t) × Says q t × (All IsSetting s.calls → All IsSetting t.calls)
+-- The images and the words of a reader are those of the script.
+pub record GivesStart (r : Reader) (s : Script) : Type 0 where
+  pub images : images_of (preamble_of r).images.items ≡ s.images
+  pub words : words_of (preamble_of r) ≡ s.words
 
-is_some : (xs : List Act) (x : Act) → xs ++ x ∷ [] ≡ [] → ⊥
-is_some [] x e = cc
-is_some (y ∷ ys) x e = cc
+start_on : (begun : Bool) (r r' : Reader) (s : Script) → (begun ≡ true → preamble_of r' ≡ preamble_of r) → GivesStart r s → GivesStart r' (with_preamble begun (preamble_of r') s)
+start_on true r r' s same gives = record { images = ap (λ p. images_of p.images.items) (same refl) ∙ gives.images; words = ap words_of (same refl) ∙ gives.words }
+start_on false r r' s same gives = record { images = refl; words = refl }
 
-pub adds_setting : (p q : Preamble) (line : List ℕ) (setting : Setting) → line_of line ≡ Some (Configure setting) → q.images ≡ p.images → q.words ≡ p.words → q.seed ≡ p.seed → q.config ≡ with_setting p.config setting → q.is_configured ≡ true
-    → (s : Script) → Says p s → Adds s line q
-adds_setting p q line setting says images words seed config set s said =
-    let d = with_setting s.config setting in (
-      record s { config = d; calls = s.calls ++ acts.Configure d ∷ [] },
-      ap (option_and_then (with_said s)) says,
-      record {
-        images = ap (λ is. images_of is.items) images ∙ said.images;
-        words = ap (λ ws. record { given = ws.items; seed = q.seed }) words ∙ ap (λ n. record { given = p.words.items; seed = n }) seed ∙ said.words;
-        config = config ∙ ap (λ c. with_setting c setting) said.config;
-        none = λ not. absurd (not set);
-        some = λ _. is_some s.calls (acts.Configure d);
-      },
-      λ all. All-push IsSetting s.calls (acts.Configure d) all tt,
-    )
+-- One more line.
 
-pub adds_image : (p q : Preamble) (line : List ℕ) (partition : String Global) (name bytes : Vec ℕ Global) → line_of line ≡ Some (Image (string_bytes partition) name.items bytes.items) → (p.is_configured ≡ true → ⊥)
-    → q.images.items ≡ p.images.items ++ (partition, name, bytes) ∷ [] → q.words ≡ p.words → q.seed ≡ p.seed → q.config ≡ p.config → q.is_configured ≡ p.is_configured → (s : Script) → Says p s → Adds s line q
-adds_image p q line partition name bytes says not images words seed config same s said =
-    let none = said.none not in let i : states.Image = (string_bytes partition, name.items, bytes.items) in let t : Script = record s { images = s.images ++ i ∷ [] } in (
-      t,
-      ap (option_and_then (with_said s)) says ∙ ap (λ calls. if is_empty calls then Some t else None) none,
-      record {
-        images = ap images_of images ∙ map-append (λ j. (string_bytes j.0, j.1.items, j.2.items)) p.images.items ((partition, name, bytes) ∷ []) ∙ ap (λ is. is ++ i ∷ []) said.images;
-        words = ap (λ ws. record { given = ws.items; seed = q.seed }) words ∙ ap (λ n. record { given = p.words.items; seed = n }) seed ∙ said.words;
-        config = config ∙ said.config;
-        none = λ _. none;
-        some = λ set. absurd (not (sym same ∙ set));
-      },
-      λ all. all,
-    )
+more : (lines : List (List ℕ)) (line : List ℕ) (s t : Script) → AreSettings lines s → with_line s line ≡ Some t → All IsSetting t.calls → AreSettings (lines ++ line ∷ []) t
+more lines line s t are adds settings = record { script = more_lines no_script s lines (line ∷ []) are.script ∙ one_line s line ∙ adds; settings = settings }
 
-pub adds_words : (p q : Preamble) (line : List ℕ) (more : List ℕ) → line_of line ≡ Some (Given more) → (p.is_configured ≡ true → ⊥)
-    → q.words.items ≡ p.words.items ++ more → q.seed ≡ p.seed → q.images ≡ p.images → q.config ≡ p.config → q.is_configured ≡ p.is_configured → (s : Script) → Says p s → Adds s line q
-adds_words p q line more says not words seed images config same s said =
-    let none = said.none not in let t : Script = record s { words = record { given = s.words.given ++ more; seed = s.words.seed } } in (
-      t,
-      ap (option_and_then (with_said s)) says ∙ ap (λ calls. if is_empty calls then Some t else None) none,
-      record {
-        images = ap (λ is. images_of is.items) images ∙ said.images;
-        words = ap (λ l. record { given = l; seed = q.seed }) words ∙ ap (λ n. record { given = p.words.items ++ more; seed = n }) seed ∙ ap (λ w. record { given = w.given ++ more; seed = w.seed }) said.words;
-        config = config ∙ said.config;
-        none = λ _. none;
-        some = λ set. absurd (not (sym same ∙ set));
-      },
-      λ all. all,
-    )
+settings_more : (lines : List (List ℕ)) (line : List ℕ) (r r' : Reader) → ReadsSettings lines r → MakesNoCall r (line_of line) r' → ReadsSettings (lines ++ line ∷ []) r'
+settings_more lines line r r' reads makes =
+    let s = reads.script in
+    let t = with_preamble (has_begun r) (preamble_of r') s in
+    let start = start_on (has_begun r) r r' s makes.preamble (record { images = reads.images; words = reads.words }) in record {
+      script = t;
+      are = more lines line s t reads.are (makes.adds s reads.read) (subst (All IsSetting) (sym (calls_kept (has_begun r) (preamble_of r') s)) reads.are.settings);
+      read = read_on r r' (line_of line) s reads.read makes;
+      images = start.images;
+      words = start.words;
+    }
 
-pub adds_seed : (p q : Preamble) (line : List ℕ) (seed : ℕ) → line_of line ≡ Some (Seed seed) → (p.is_configured ≡ true → ⊥) → p.seed ≡ None → q.seed ≡ Some seed
-    → q.images ≡ p.images → q.words ≡ p.words → q.config ≡ p.config → q.is_configured ≡ p.is_configured → (s : Script) → Says p s → Adds s line q
-adds_seed p q line seed says not first set images words config same s said =
-    let none = said.none not in let t : Script = record s { words = behind_seeded s.words.given seed } in (
-      t,
-      ap (option_and_then (with_said s)) says ∙ ap (λ calls. if is_empty calls && is_none s.words.seed then Some t else None) none ∙ ap (λ n. if is_none n then Some t else None) (ap (λ w. w.seed) (sym said.words) ∙ first),
-      record {
-        images = ap (λ is. images_of is.items) images ∙ said.images;
-        words = ap (λ ws. record { given = ws.items; seed = q.seed }) words ∙ ap (λ n. record { given = p.words.items; seed = n }) set ∙ ap (λ w. behind_seeded w.given seed) said.words;
-        config = config ∙ said.config;
-        none = λ _. none;
-        some = λ late. absurd (not (sym same ∙ late));
-      },
-      λ all. all,
-    )
+setting_more : (lines : List (List ℕ)) (line : List ℕ) (r r' : Reader) (act : Act) → IsSetting act → ReadsSettings lines r → MakesCall r (line_of line) act r' → ReadsSettings (lines ++ line ∷ []) r'
+setting_more lines line r r' act is reads makes =
+    let s = reads.script in
+    let t = with_call (record s { config = config_of r' }) act in record {
+      script = t;
+      are = more lines line s t reads.are (makes.adds s reads.read) (All-push IsSetting s.calls act reads.are.settings is);
+      read = read_call r r' (line_of line) act s makes;
+      images = ap (λ p. images_of p.images.items) makes.preamble ∙ reads.images;
+      words = ap words_of makes.preamble ∙ reads.words;
+    }
 
 -- Lines one after another.
 
-pub begins : (text : List ℕ) (p : Preamble) → Says p no_script → IsReadTo text text 0 p × (0 + length text ≤ length text)
-begins text p says = (record { front = []; parts = refl; numbered = refl; script = no_script; are = record { script = refl; settings = λ k d h. absurd (omega (arith, h)) }; says = says }, omega arith)
-
-pub goes_on : (text rest line others : List ℕ) (number : ℕ) (p q : Preamble) → IsReadTo text rest number p → lines_of rest ≡ line ∷ lines_of others → ((s : Script) → Says p s → Adds s line q) → IsReadTo text others (number + 1) q
-goes_on text rest line others number p q r first adds =
-    let a = adds r.script r.says in record {
-      front = r.front ++ line ∷ [];
-      parts = r.parts ∙ ap (λ ls. r.front ++ ls) first ∙ sym (append_assoc r.front (line ∷ []) (lines_of others));
-      numbered = ap (λ n. n + 1) r.numbered ∙ sym (length_push r.front line);
-      script = a.0;
-      are = record { script = more_lines no_script r.script r.front (line ∷ []) r.are.script ∙ one_line r.script line ∙ a.1; settings = a.3 r.are.settings };
-      says = a.2;
+pub begins : (text : List ℕ) (r : Reader) → HasRead r no_script → has_begun r ≡ false → lines_read r ≡ 0 → IsReadTo text text r
+begins text r read new number =
+    let same : with_preamble false (preamble_of r) no_script ≡ no_script = ap (λ b. with_preamble b (preamble_of r) no_script) (sym new) ∙ read.preamble in record {
+      front = [];
+      parts = refl;
+      numbered = number;
+      reads = record {
+        script = no_script;
+        are = record { script = refl; settings = λ k d h. absurd (omega (arith, h)) };
+        read = read;
+        images = ap (λ (s : Script). s.images) same;
+        words = ap (λ (s : Script). s.words) same;
+      };
     }
 
-pub breaks : (text rest line others : List ℕ) (number last : ℕ) (p : Preamble) → IsReadTo text rest number p → lines_of rest ≡ line ∷ lines_of others → ((s : Script) → Says p s → IsNoSetting s line) → last ≡ number + 1 → BreaksAt (lines_of text) last
-breaks text rest line others number last p r first bad is =
-    let n = r.numbered in record {
-      front = r.front;
-      bad = line;
-      rest = lines_of others;
-      parts = r.parts ∙ ap (λ ls. r.front ++ ls) first;
-      numbered = omega (arith, is, n);
-      script = r.script;
-      are = r.are;
-      breaks = bad r.script r.says;
-    }
+module _ (text rest line others : List ℕ) (r r' : Reader) (to : IsReadTo text rest r) (first : lines_of rest ≡ line ∷ lines_of others) where
+  goes_on : lines_read r' ≡ lines_read r + 1 → ReadsSettings (to.front ++ line ∷ []) r' → IsReadTo text others r'
+  goes_on number reads = record {
+    front = to.front ++ line ∷ [];
+    parts = to.parts ∙ ap (λ ls. to.front ++ ls) first ∙ sym (append_assoc to.front (line ∷ []) (lines_of others));
+    numbered = number ∙ ap (λ n. n + 1) to.numbered ∙ sym (length_push to.front line);
+    reads = reads;
+  }
+
+  pub goes_on_by : lines_read r' ≡ lines_read r + 1 → AddsSetting r line r' → IsReadTo text others r'
+  goes_on_by number (inl makes) = goes_on number (settings_more to.front line r r' to.reads makes)
+  goes_on_by number (inr (act, is, makes)) = goes_on number (setting_more to.front line r r' act is to.reads makes)
+
+  breaks : (last : ℕ) → last ≡ lines_read r + 1 → IsNoSetting to.reads.script line → BreaksAt (lines_of text) last
+  breaks last is bad =
+      let n = to.numbered in record {
+        front = to.front;
+        bad = line;
+        rest = lines_of others;
+        parts = to.parts ∙ ap (λ ls. to.front ++ ls) first;
+        numbered = omega (arith, is, n);
+        script = to.reads.script;
+        are = to.reads.are;
+        breaks = bad;
+      }
+
+  pub bad_line : (last : ℕ) → RefusesSetting r line last → BreaksAt (lines_of text) last
+  bad_line last (is, refuses) = breaks last is (refuses to.reads.script to.reads.read)
+
+-- a call that is no setting can't follow
+pub no_setting : (r r' : Reader) (line : List ℕ) (act : Act) → (IsSetting act → ⊥) → MakesCall r (line_of line) act r' → (s : Script) → HasRead r s → IsNoSetting s line
+no_setting r r' line act not makes s read = inr (call_said s (line_of line) act (config_of r') (makes.adds s read) not)
+
+-- a laboratory that was made of what was read
+pub made : (k : Kept) (lines : List (List ℕ)) (r : Reader) (p : Preamble) (config : Config) → ReadsSettings lines r → p ≡ preamble_of r → config ≡ config_of r
+    → LabStandsFor k.lab (start (images_of p.images.items) (words_of p) config) → k.config ≡ config_of r → k.last ≡ None → IsNew k.debts → IsMadeOf k lines
+made k lines r p config reads is same stands settings last debts = record {
+  script = reads.script;
+  are = reads.are;
+  stands = subst (λ (c : Config). LabStandsFor k.lab (start reads.script.images reads.script.words c)) (same ∙ reads.read.config)
+      (subst (λ (w : Words). LabStandsFor k.lab (start reads.script.images w config)) (ap words_of is ∙ reads.words)
+      (subst (λ (images : List Image). LabStandsFor k.lab (start images (words_of p) config)) (ap (λ (q : Preamble). images_of q.images.items) is ∙ reads.images) stands));
+  config = settings ∙ reads.read.config;
+  last = last;
+  debts = debts;
+}

@@ -1,5 +1,6 @@
 pub mod Adding
 pub mod Answering
+pub mod LineCalls
 pub mod Putting
 pub mod Registry
 pub mod Resolving

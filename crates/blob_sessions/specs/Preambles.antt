@@ -1,18 +1,16 @@
 -- What a session is opened with: a script that makes no call but settings.
-use Rattle.std.specs.Prelude.{◌≡◌, ◌≢◌, ◌⊎◌, ℕ, suc, List, [], ◌∷◌, ◌++◌, All, true, length, Option, Some, None, String, Vec}
-use Rattle.std.specs.Global.{Global}
-use Rattle.blob_draws.specs.declared.config.Config.{Config}
+use Rattle.std.specs.Prelude.{◌≡◌, ◌⊎◌, ◌+◌, ℕ, suc, List, ◌∷◌, ◌++◌, All, length, Some, None}
+use Rattle.blob_script.specs.declared.script.reader.Reader.{Reader}
 use Rattle.blob_script.specs.Acts as acts
 use Rattle.blob_script.specs.Acts.{Act}
-use Rattle.blob_lab_store.specs.LabStands.{LabStandsFor}
-use Rattle.blob_lab_store.specs.declared.lab.Lab.{Lab}
 use Rattle.blob_script.specs.Lines.{Call, line_of}
+use Rattle.blob_script.specs.Preambles.{images_of, words_of}
+use Rattle.blob_script.specs.Readers.{HasRead, MakesCall, MakesNoCall, lines_read, preamble_of}
+use Rattle.blob_lab_store.specs.LabStands.{LabStandsFor}
 use Rattle.blob_lab.specs.Scripts.{Script, lines_of, script_of, with_line}
 use Rattle.blob_lab_model.specs.States.{start}
-use Rattle.blob_lab_store.specs.Tables.{images_of}
 use Rattle.blob_sessions.specs.Debts.{IsNew}
 use Rattle.blob_sessions.specs.declared.kept.Kept.{Kept}
-use Rattle.blob_sessions.specs.declared.preamble.Preamble.{Preamble}
 
 abbrev pub IsSetting : Act → Type 0
 IsSetting (acts.Configure config) = Unit {0}
@@ -38,10 +36,6 @@ pub record BreaksAt (lines : List (List ℕ)) (number : ℕ) : Type 0 where
   pub are : AreSettings front script
   pub breaks : IsNoSetting script bad
 
--- a laboratory was created with these images, words, seed and configuration
-abbrev pub IsCreatedWith : List (String Global × Vec ℕ Global × Vec ℕ Global) → List ℕ → Option ℕ → Config → Lab → Type 0
-IsCreatedWith images words seed config lab = LabStandsFor lab (start (images_of images) (record { given = words; seed = seed }) config)
-
 -- a laboratory that was just made of them
 pub record IsMadeOf (k : Kept) (lines : List (List ℕ)) : Type 0 where
   pub script : Script
@@ -51,23 +45,25 @@ pub record IsMadeOf (k : Kept) (lines : List (List ℕ)) : Type 0 where
   pub last : k.last ≡ None
   pub debts : IsNew k.debts
 
--- what was kept of the lines so far
-pub record Says (p : Preamble) (s : Script) : Type 0 where
-  pub images : images_of p.images.items ≡ s.images
-  pub words : record { given = p.words.items; seed = p.seed } ≡ s.words
-  pub config : p.config ≡ s.config
-  pub none : p.is_configured ≢ true → s.calls ≡ []
-  pub some : p.is_configured ≡ true → s.calls ≢ []
+-- a reader has read these lines, which are such a script
+pub record ReadsSettings (lines : List (List ℕ)) (r : Reader) : Type 0 where
+  pub script : Script
+  pub are : AreSettings lines script
+  pub read : HasRead r script
+  pub images : images_of (preamble_of r).images.items ≡ script.images
+  pub words : words_of (preamble_of r) ≡ script.words
 
--- one more line, whatever script was said: with it it is a script, and settings alone stay so
-abbrev pub SaysOneMore : Preamble → List ℕ → Preamble → Type 0
-SaysOneMore p line p' = (s : Script) → Says p s → (t : Script) × (with_line s line ≡ Some t) × Says p' t × (All IsSetting s.calls → All IsSetting t.calls)
-
--- the lines so far are a preamble's, and this many
-pub record IsReadTo (text rest : List ℕ) (number : ℕ) (p : Preamble) : Type 0 where
+-- the lines so far were read, this many
+pub record IsReadTo (text rest : List ℕ) (r : Reader) : Type 0 where
   pub front : List (List ℕ)
   pub parts : lines_of text ≡ front ++ lines_of rest
-  pub numbered : number ≡ length front
-  pub script : Script
-  pub are : AreSettings front script
-  pub says : Says p script
+  pub numbered : lines_read r ≡ length front
+  pub reads : ReadsSettings front r
+
+-- one more line of such a script
+abbrev pub AddsSetting : Reader → List ℕ → Reader → Type 0
+AddsSetting r line r' = MakesNoCall r (line_of line) r' ⊎ ((act : Act) × IsSetting act × MakesCall r (line_of line) act r')
+
+-- the next line, of this number, can't follow
+abbrev pub RefusesSetting : Reader → List ℕ → ℕ → Type 0
+RefusesSetting r line number = (number ≡ lines_read r + 1) × ((s : Script) → HasRead r s → IsNoSetting s line)

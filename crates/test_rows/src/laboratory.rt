@@ -2,19 +2,19 @@
 
 use blob_base::Error;
 use blob_faulty::Config;
-use blob_lab::script::{Line, RefusedLine, read_line};
+use blob_lab::script::{Reader, RefusedLine};
 use blob_lab::{Call, Lab, Reply};
 use std::alloc::Global;
 use std::mem;
 use test_player::found::{Found, bytes_of, done};
 use test_player::{tokens, window};
 
-/// A laboratory, which its first call creates, and its configuration.
+/// A laboratory, which its first call creates, and the reader of its lines.
 pub struct Laboratory {
     alloc: Global,
     words: Vec<u64>,
     lab: Option<Lab>,
-    config: Config,
+    reader: Reader,
 }
 
 // Creates a laboratory with one image, and zeros or the words of a seed.
@@ -72,7 +72,7 @@ impl Laboratory {
             alloc,
             words,
             lab: None,
-            config: Config::default(),
+            reader: Reader::begun(alloc, Config::default()),
         }
     }
 
@@ -82,7 +82,7 @@ impl Laboratory {
             alloc: _,
             words: _,
             lab,
-            config: _,
+            reader: _,
         } = self;
         if let Some(lab) = lab {
             lab.end();
@@ -106,14 +106,10 @@ impl Laboratory {
 
     // Parses a line as a call of a script. Returns `None` if it isn't one.
     fn call_of(&mut self, line: &str) -> Result<Option<Call>, Error> {
-        match read_line(self.alloc, line.as_bytes()) {
-            Ok(Line::Call(call)) => Ok(Some(call)),
-            Ok(Line::Configure(setting)) => {
-                self.config = setting.apply(mem::take(&mut self.config));
-                Ok(Some(Call::Configure(self.config.clone()?)))
-            }
+        match self.reader.read(line.as_bytes()) {
+            Ok(call) => Ok(call),
+            Err(RefusedLine::BadCall) => Ok(None),
             Err(RefusedLine::NoMemory) => Err(tokens::refused(RefusedLine::NoMemory)),
-            _ => Ok(None),
         }
     }
 

@@ -1,7 +1,7 @@
 //! The first lines of a case.
 
 use blob_base::Error;
-use blob_lab::script::{Line, read_line};
+use blob_lab::script::Reader;
 use std::alloc::Global;
 use test_player::tokens::number;
 
@@ -69,10 +69,13 @@ impl Preamble {
                 self.next = number(next)?;
                 self.next_marker = number(next_marker)?;
             }
-            _ => match read_line(alloc, line.as_bytes()) {
-                Ok(Line::Words(words)) => self.words = words,
-                _ => return Ok(false),
-            },
+            _ => {
+                let mut reader = Reader::new(alloc);
+                if reader.read(line.as_bytes()).is_err() || reader.preamble().words.is_empty() {
+                    return Ok(false);
+                }
+                self.words = reader.begin().words;
+            }
         }
         Ok(true)
     }
