@@ -1,5 +1,5 @@
 -- Two files that hold a value, whatever a crash leaves of them.
-use Rattle.std.specs.Prelude.{◌≡◌, ◌⊎◌, ℕ, ◌<◌, ◌==◌, if◌then◌else◌, IsTrue, List, ◌∷◌, length, slice_index, Option, Some, None}
+use Rattle.std.specs.Prelude.{◌≡◌, ◌⊎◌, ℕ, Bool, false, ◌<◌, ◌==◌, if◌then◌else◌, IsTrue, List, ◌∷◌, length, slice_index, Option, Some, None}
 use Rattle.sqlite_disk.specs.declared.Disk.{Ghosts}
 use Rattle.disk_cell.specs.declared.cell.Cell.{Cell}
 
@@ -40,6 +40,15 @@ module _ {D : Type 0} (g : Ghosts D) where
   FindsValue first second found = (version : ℕ) (value : List ℕ) (tried : Option (List ℕ))
       → MayHold first second version value tried ⊎ MayHold second first version value tried
       → (found ≡ value) ⊎ (tried ≡ Some found)
+
+  -- the value that was acknowledged last, or this one, whose set failed
+  abbrev pub FindsAfterSet : Cell D g → List ℕ → Bool → List ℕ → Type 0
+  FindsAfterSet cell value is_set found = (old : List ℕ) → HoldsValue cell old → (found ≡ value) ⊎ ((is_set ≡ false) × (found ≡ old))
+
+  -- whatever two files held, two others hold
+  abbrev pub HoldStill : D × D → D × D → Type 0
+  HoldStill files files' = (version : ℕ) (value : List ℕ) (tried : Option (List ℕ))
+      → MayHold files.0 files.1 version value tried → MayHold files'.0 files'.1 version value tried
 
   -- a crash leaves no more than before
   abbrev pub LeavesNoMore : D → D → Type 0

@@ -1,6 +1,6 @@
 //! A crash of the machine, and what a cell finds after it.
-ghost use Rattle.std.specs.Prelude.{◌≡◌, ◌⊎◌, ℕ, List, Option, false, IsTrue, IfOk};
-ghost use Rattle.disk_cell.specs.Held.{HoldsValue, IsClean, LeavesNoMore, MayHold};
+ghost use Rattle.std.specs.Prelude.{IsTrue, IfOk};
+ghost use Rattle.disk_cell.specs.Held.{FindsAfterSet, HoldStill, HoldsValue, IsClean, LeavesNoMore};
 
 use crate::cell::Cell;
 use sqlite_disk::Crash;
@@ -9,8 +9,7 @@ use std::io;
 
 /// Crashes both files. They hold what they held.
 pub fn crash<D: Crash>(newer: &mut D, older: &mut D)
-    ensures holds { (version : ℕ) (value : List ℕ) (tried : Option (List ℕ))
-        → MayHold D.Disk newer.old older.old version value tried → MayHold D.Disk newer.new older.new version value tried }
+    ensures holds { HoldStill D.Disk (newer.old, older.old) (newer.new, older.new) }
     ensures newer { IsTrue (D.Disk.is_usable newer.new) }
     ensures older { IsTrue (D.Disk.is_usable older.new) }
     ensures newer_left { LeavesNoMore D.Disk newer.old newer.new }
@@ -31,8 +30,7 @@ pub fn set_and_crash<D: Crash + Drop>(
     cell: Cell<D>,
     value: &[u8],
 ) -> Result<(Cell<D>, Vec<u8>, bool), (io::Error, D, D)>
-    ensures found { IfOk result (λ r. IsClean D.Disk r.0 → (old : List ℕ) → HoldsValue D.Disk cell old
-        → (r.1.items ≡ value.now) ⊎ ((r.2 ≡ false) × (r.1.items ≡ old))) }
+    ensures found { IfOk result (λ r. IsClean D.Disk r.0 → FindsAfterSet D.Disk cell value.now r.2 r.1.items) }
     ensures holds { IfOk result (λ r. IsClean D.Disk r.0 → HoldsValue D.Disk r.0 r.1.items) }
 {
     let (is_set, mut newer, mut older) = match cell.set(value) {
