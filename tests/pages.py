@@ -6,7 +6,7 @@
     pages.py --listed PAGE ..  checks that tests/pages.list has exactly the commands that the pages name in their text; that each block
                                of a page is run, quoted from a source or tried in a scratch repository; and that no link is dead
     pages.py --ways            the ways by which tests/pages.sh runs commands of the list itself, a line each
-    pages.py --scratch FOLDER  makes a repository by the steps of "Set up" in docs/LOG.md, with a test of their blocks
+    pages.py --scratch FOLDER  makes a repository by the steps of "Set up" in docs/CLIENTS.md, with a test of their blocks
 """
 
 import difflib
@@ -17,7 +17,7 @@ import subprocess
 import sys
 
 LIST = "tests/pages.list"
-RATTLE = "docs/LOG.md"
+RATTLE = "docs/CLIENTS.md"
 TESTS = ["tests/README.md", "tests/ROWS.md"]
 BEGINNINGS = ("./", "cargo ", "cc ", "python3 ", "rt ", "sh ", "tools/")
 PYTHON = ("    from ", "    import ")
@@ -175,7 +175,7 @@ def compare_with_list(pages):
 
 
 def scratch(folder):
-    """Makes the repository that the steps of docs/LOG.md describe. The page's blocks become the one test of its own crate."""
+    """Makes the repository that the steps of docs/CLIENTS.md describe. The page's blocks become the one test of its own crate."""
     lines = read(RATTLE)
     steps = lines[lines.index("## Set up") :]
     text = "\n".join(steps)

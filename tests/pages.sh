@@ -34,7 +34,7 @@ ok 'every command and block of the pages is run' python3 tests/pages.py --listed
 for page in README.md CONTRIBUTING.md docs/*.md bindings/python/blobcrash/__init__.py; do
     ok "the commands and examples of $page" python3 tests/pages.py "$page"
 done
-ok "the steps in Rattle of docs/LOG.md" python3 tests/pages.py --scratch "$work/scratch"
+ok "the steps in Rattle of docs/CLIENTS.md" python3 tests/pages.py --scratch "$work/scratch"
 python3 tests/pages.py --ways >"$work/ways"
 while read -r way; do
     lacking=
