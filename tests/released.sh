@@ -22,6 +22,10 @@ test_programs() {
     ok "$2: explain" grep -qx '#     after    62 61 62 61 62 62 61 61' "$work/out"
     printf 'config write 0 1 1 2 prefix\nopen p 62\nwrite 0 0 61\ncrash\n' | "$run" explore --limit 9 >"$work/out"
     ok "$2: explore" grep -qx '# 2 leaves, all of them; 2 outcomes' "$work/out"
+    for script in "$examples"/files/*.script; do
+        "$run" files explore --last <"$script" >"$work/out"
+        ok "$2: files explore, ${script##*/}" cmp "$work/out" "${script%.script}.out"
+    done
     "$run" version >"$work/out"
     ok "$2: version" grep -q '^blobcrash [0-9]' "$work/out"
     "$run" help >"$work/out"
