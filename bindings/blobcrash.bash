@@ -11,6 +11,9 @@ _blobcrash() {
         explore:--limit) ;;
         explore:*) words='--limit --last --help' ;;
         explain:explain) words='--help' ;;
+        files:files) words='explore --help' ;;
+        files:--limit) ;;
+        files:*) words='--limit --last' ;;
         mount:--profile | crash_run:--profile) words='ext4 xfs btrfs posix' ;;
         mount:--tear | crash_run:--tear) words='prefix subset sectors512 sectors4096' ;;
         mount:--from | mount:--control | crash_run:--from | crash_run:--out) mapfile -t COMPREPLY < <(compgen -f -- "$word") ;;

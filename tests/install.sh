@@ -6,7 +6,7 @@ top=$(CDPATH='' cd -- "$(dirname -- "$0")/.." && pwd -P)
 . "$top/tests/counting.sh"
 release=$(sed -n 's/^const VERSION: &str = "blobcrash \([0-9.]*\),.*/\1/p' "$top/crates/blobcrash/src/main.rt")
 
-need_program explain explore
+need_program explain explore files
 sh "$top/bindings/build.sh" || give_up "the library can't be built"
 prefix=$work/prefix
 ok 'it installs' sh "$top/bindings/install.sh" "$prefix"
@@ -44,6 +44,7 @@ lib/pkgconfig/blobcrash.pc
 libexec/blobcrash/blobcrash
 libexec/blobcrash/blobcrash_explain
 libexec/blobcrash/blobcrash_explore
+libexec/blobcrash/blobcrash_files
 share/bash-completion/completions/blobcrash
 share/blobcrash/help
 share/man/man1/blobcrash.1
@@ -85,7 +86,7 @@ ok 'explain' grep -q '^# ' "$work/out"
 printf 'config write 0 1 1 2 prefix\nopen p 62\nwrite 0 0 61\ncrash\n' | "$prefix/bin/blobcrash" explore --limit 9 >"$work/out"
 ok 'explore, with its arguments' grep -qx '# 2 leaves, all of them; 2 outcomes' "$work/out"
 "$prefix/bin/blobcrash" help >"$work/shown_help"
-for named in '' ' explain' ' explore' ' resolve' ' help' ' version'; do
+for named in '' ' explain' ' explore' ' files' ' files explore' ' resolve' ' help' ' version'; do
     ok "help names blobcrash$named" grep -q "^  blobcrash$named \( \|\[\)" "$work/shown_help"
 done
 ok 'wrong arguments' expect_status 2 "$prefix/bin/blobcrash" explain more

@@ -9,7 +9,7 @@ top=$(CDPATH='' cd -- "$(dirname -- "$0")/.." && pwd -P)
 . "$top/tests/counting.sh"
 all=${1:-}
 made_root=${2:-}
-packages=python3,python3-pip,python3-pytest,python3-venv,gcc,libc6-dev,pkg-config,fuse3,libfuse3-3,man-db,xz-utils,curl
+packages=python3,python3-pip,python3-pytest,python3-venv,gcc,libc6-dev,pkg-config,fuse3,man-db,xz-utils,curl
 : "${CARGO_HOME:=$HOME/.cargo}" "${RUSTUP_HOME:=$HOME/.rustup}"
 released=$work/release
 clean=$work/clean
@@ -60,7 +60,15 @@ test_in() {
     skipped=$((skipped + ${3:-0}))
 }
 
-need_program explain explore
+if ! has git dpkg-deb xz ldd objdump; then
+    leave_out 'all of it: git, dpkg-deb, xz or objdump is missing'
+    finish
+fi
+if ! has_python || ! (cd "$top/tools" && python3 -B -c 'import releasing.wheel, sys; sys.exit(not releasing.wheel.python_with_setuptools())'); then
+    skip 'all of it: there is no Python with setuptools and wheel'
+    finish
+fi
+need_program explain explore files
 sh "$top/bindings/build.sh" || give_up "the library can't be built"
 kit=$(dirname -- "$(dirname -- "$(readlink -f -- "$(command -v rt || echo /opt/rattle/bin/rt)")")")
 mode=--draft

@@ -22,10 +22,14 @@ test_programs() {
     ok "$2: explain" grep -qx '#     after    62 61 62 61 62 62 61 61' "$work/out"
     printf 'config write 0 1 1 2 prefix\nopen p 62\nwrite 0 0 61\ncrash\n' | "$run" explore --limit 9 >"$work/out"
     ok "$2: explore" grep -qx '# 2 leaves, all of them; 2 outcomes' "$work/out"
+    for script in "$examples"/files/*.script; do
+        "$run" files explore --last <"$script" >"$work/out"
+        ok "$2: files explore, ${script##*/}" cmp "$work/out" "${script%.script}.out"
+    done
     "$run" version >"$work/out"
     ok "$2: version" grep -q '^blobcrash [0-9]' "$work/out"
     "$run" help >"$work/out"
-    ok "$2: help" grep -q '^  blobcrash mount DIR' "$work/out"
+    ok "$2: help" grep -q '^  blobcrash explain ' "$work/out"
     "$run" frob >"$work/out" 2>&1
     ok "$2: a word that is no program" [ $? -eq 2 ]
     if has man; then
@@ -122,6 +126,10 @@ test_workflow() {
 test_mount() {
     if [ ! -c /dev/fuse ]; then
         leave_out "$2: there is no /dev/fuse"
+        return
+    fi
+    if [ ! -e "${1%/bin/blobcrash}/libexec/blobcrash/blobcrash_mount" ]; then
+        skip "$2: it was made without libfuse 3"
         return
     fi
     at=$work/mounted

@@ -1,7 +1,7 @@
 #!/bin/sh
 # Builds out/mount/blobcrash_mount, which mounts the layer's files, if it is older than a source, and prints its path. It needs a C
 # compiler and libfuse 3 (Debian: gcc, pkg-config, libfuse3-dev). BLOBCRASH_ARCHIVE names the library for C; without it
-# bindings/build.sh builds it first. OUT is another folder than out/mount, CFLAGS are further flags.
+# bindings/build.sh builds it first. OUT is another folder than out/mount, CFLAGS are further flags, FUSE_LIBS links another libfuse.
 # Exit status: 3 if a tool is missing.
 set -eu
 
@@ -35,7 +35,7 @@ if ! is_current; then
     : >"$out/began"
     # shellcheck disable=SC2046,SC2086
     "$compiler" -std=c11 -D_XOPEN_SOURCE=700 -O2 -g -Wall -Wextra -Werror "-I$top/bindings/c" ${CFLAGS:-} \
-        $(pkg-config --cflags fuse3) -o "$program.new" "$here"/*.c "$archive" $(pkg-config --libs fuse3) >&2
+        $(pkg-config --cflags fuse3) -o "$program.new" "$here"/*.c "$archive" ${FUSE_LIBS:-$(pkg-config --libs fuse3)} >&2
     touch -r "$out/began" "$program.new" # a source may have changed since
     mv -f "$program.new" "$program"
 fi

@@ -120,7 +120,7 @@ def program_package(kit, tree, folder):
     # Debian has the licence already.
     (tree / "share/doc/blobcrash/LICENSE").unlink()
     needs = "libc6 (>= {}.{})".format(*glibc_of(kit, *binaries(tree))[:2])
-    fields = {"Section": "devel", "Depends": f"{needs}, libfuse3-3 (>= 3.10), python3:any (>= 3.8)", "Recommends": "fuse3",
+    fields = {"Section": "devel", "Depends": f"{needs}, python3:any (>= 3.8)", "Recommends": "fuse3",
               "Description": SUMMARY}
     about = "This package has the programs, which run scripts, and a mount for any program."
     package = Package("blobcrash", about, fields, folder / "blobcrash")

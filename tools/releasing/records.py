@@ -3,6 +3,7 @@
 import datetime
 import json
 import re
+import subprocess
 import uuid
 
 from crates import TOP, shell
@@ -58,6 +59,12 @@ def version_of(kit, name):
     return found[1] if found else None
 
 
+def fuse_version():
+    """Returns the version of libfuse 3 here, or None."""
+    ran = subprocess.run(["pkg-config", "--modversion", "fuse3"], stdout=subprocess.PIPE, stderr=subprocess.DEVNULL, text=True)
+    return ran.stdout.strip() or None
+
+
 def package(name, version, licence, **more):
     made = {"SPDXID": f"SPDXRef-{re.sub('[^A-Za-z0-9.-]', '-', name)}", "name": name, "downloadLocation": "NOASSERTION",
             "filesAnalyzed": False, "licenseConcluded": licence, "licenseDeclared": licence, "copyrightText": "NOASSERTION", **more}
@@ -76,7 +83,7 @@ def packages(kit, version):
     start = "The start files and the allocator of the toolchain: crti.o, crtn.o of glibc, crtbeginS.o, crtendS.o of GCC, libos_c.a, liblibc_c.a."
     linked.append((package(f"{kit_name}-c", None, "NOASSERTION", comment=start), "STATIC_LINK"))
     linked.append((package("glibc", None, "LGPL-2.1-or-later", comment="The C library of the machine."), "DYNAMIC_LINK"))
-    linked.append((package("libfuse3", None, "LGPL-2.1-only", comment="Of the machine, for the mount alone."), "DYNAMIC_LINK"))
+    linked.append((package("libfuse3", fuse_version(), "LGPL-2.1-only", comment="In the mount alone."), "STATIC_LINK"))
     return own, linked
 
 

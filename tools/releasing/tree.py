@@ -4,18 +4,24 @@ import os
 import re
 import shutil
 import subprocess
+from pathlib import Path
 
 from crates import TOP, crates_in
 from releasing.archives import set_modes
 from releasing.needs import toolchain_tool
 
+# Distributions have libfuse 3 by different names, so that it is linked in.
+FUSE_LIBS = "-Wl,-Bstatic -lfuse3 -Wl,-Bdynamic -lpthread -ldl"
+# Its licence, as Debian has it.
+FUSE_LICENCE = ("/usr/share/doc/libfuse3-dev/copyright", "/usr/share/common-licenses/LGPL-2.1")
 # What a user copies and changes, below share/doc/blobcrash/examples.
 C_EXAMPLES = ("first.c", "first_files.c", "log.c", "explore_log.c", "files.c", "explore_files.c")
 
 
 def install(work):
     """Installs into a new folder, and returns the part of it that is /usr on the target. The mount's daemon is built without what a debugger reads, which has paths."""
-    environment = {**os.environ, "DESTDIR": str(work / "installed"), "OUT": str(work / "mount"), "CFLAGS": "-g0", "BLOBCRASH_PROVED": "1"}
+    environment = {**os.environ, "DESTDIR": str(work / "installed"), "BLOBCRASH_PROVED": "1",
+                   "OUT": str(work / "mount"), "CFLAGS": "-g0", "FUSE_LIBS": FUSE_LIBS}
     subprocess.run(["sh", TOP / "bindings/install.sh", "/usr"], env=environment, check=True)
     return work / "installed/usr"
 
@@ -50,6 +56,9 @@ def add_documents(tree):
     copy(TOP / "examples", documents / "examples")
     for name in C_EXAMPLES:
         copy(TOP / "bindings/c" / name, documents / "examples/c" / name)
+    # The licence of libfuse wants that a user can link the mount with another one.
+    for source in sorted((TOP / "adapters/mount").glob("*.[ch]")):
+        copy(source, documents / "mount" / source.name)
 
 
 def linked_crates(kit):
@@ -73,6 +82,9 @@ def add_licences(tree, kit):
     for name in linked_crates(kit)[1]:
         for file in sorted((kit / "rattle" / name).glob("LICENSE*")):
             copy(file, documents / "licenses" / name / file.name)
+    for file in map(Path, FUSE_LICENCE):
+        if file.exists():
+            copy(file, documents / "licenses/libfuse3" / file.name)
 
 
 def binaries(tree):
