@@ -73,10 +73,10 @@ rm -f "$work/ours/big"
 echo "a crash with $files files of 1,000 bytes, settled and written again:"
 fill() { python3 -c 'import sys
 for number in range(int(sys.argv[2])):
-    with open(f"{sys.argv[1]}/{number}", "w") as file: file.write("x" * 1000)' "$work/ours" "$files"; }
-fill
+    with open(f"{sys.argv[1]}/{number}", sys.argv[3]) as file: file.write("x" * 1000)' "$work/ours" "$files" "$1"; }
+fill w
 settle
-fill
+fill r+
 crash
 
 command -v valgrind >/dev/null || exit 0
