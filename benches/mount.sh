@@ -2,12 +2,14 @@
 # Times calls on the mount, on passthrough_ll of libfuse's examples (one thread, over tmpfs), and on tmpfs itself, in turn in one run.
 # Prints microseconds an operation, the fastest of three rounds, and the daemon's time as a multiple of passthrough_ll's; transactions a
 # second of pgbench, if there is a PostgreSQL; what a crash takes; with valgrind, the instructions of the daemon for an operation. Goes
-# to standard error. No test compares a time. The argument is the seconds of a round, 0.5 if none is given.
-# On a busy machine compare the instructions.
+# to standard error. A test runs it, and compares no time. The argument is the seconds of a round, 0.5 if none is given; MEGABYTES and
+# FILES are what a crash finds unsynced, 512 and 20000. On a busy machine compare the instructions.
 set -eu
 
 top=$(CDPATH='' cd -- "$(dirname -- "$0")/.." && pwd -P)
 seconds=${1:-0.5}
+megabytes=${MEGABYTES:-512}
+files=${FILES:-20000}
 memory=/dev/shm
 [ -w "$memory" ] || memory=/tmp
 work=$(mktemp -d)
@@ -47,7 +49,7 @@ transactions() {
     mkdir "$1/cluster-of"
     chmod 755 "$1/cluster-of"
     export MOUNT="$1/cluster-of" ACKNOWLEDGED="$work/acknowledged"
-    $driver prepare && $driver start >"$work/log" 2>&1 || return 0
+    { $driver prepare && $driver start; } >"$work/log" 2>&1 || return 0
     $driver pgbench "$seconds"
 }
 
@@ -64,37 +66,35 @@ crash() {
 settle() { "$top/tools/mountctl" "$work/socket" settle; }
 
 settle
-echo 'a crash with 512 MB unsynced:'
-dd if=/dev/zero of="$work/ours/big" bs=1M count=512 status=none
+echo "a crash with $megabytes MB unsynced:"
+dd if=/dev/zero of="$work/ours/big" bs=1M count="$megabytes" status=none
 crash
 rm -f "$work/ours/big"
-echo 'a crash with 20,000 files of 1,000 bytes, settled and written again:'
+echo "a crash with $files files of 1,000 bytes, settled and written again:"
 fill() { python3 -c 'import sys
-for number in range(20000):
-    with open(f"{sys.argv[1]}/{number}", "w") as file: file.write("x" * 1000)' "$work/ours"; }
-fill
+for number in range(int(sys.argv[2])):
+    with open(f"{sys.argv[1]}/{number}", sys.argv[3]) as file: file.write("x" * 1000)' "$work/ours" "$files" "$1"; }
+fill w
 settle
-fill
+fill r+
 crash
 
 command -v valgrind >/dev/null || exit 0
 echo 'instructions of the daemon for an operation:'
-valgrind --tool=callgrind --callgrind-out-file="$work/counts" "$program" "$work/counted" --control "$work/counted-socket" --foreground \
-    >/dev/null 2>&1 &
-daemon=$!
-until "$top/tools/mountctl" "$work/counted-socket" status >/dev/null 2>&1; do sleep 0.1; done
-# instructions NAME COUNT: prints those of opening the files and COUNT operations, the second time.
+# instructions NAME COUNT: prints those of a daemon that serves so many operations, from its start to its end.
 instructions() {
-    "$work/times" "$1" 1 "$work/counted"
-    callgrind_control -z "$daemon" >/dev/null 2>&1
+    rm -f "$work"/counts*
+    valgrind --tool=callgrind --callgrind-out-file="$work/counts" "$program" "$work/counted" --control "$work/counted-socket" \
+        --foreground >/dev/null 2>&1 &
+    until mountpoint -q "$work/counted"; do sleep 0.1; done
     "$work/times" "$1" "$2" "$work/counted"
-    callgrind_control -d "$daemon" >/dev/null 2>&1
-    last=$(find "$work" -name 'counts.*' | sort -t. -k2n | tail -n 1)
-    sed -n 's/^\(totals\|summary\): *//p' "$last" | tail -n 1
+    umount "$work/counted"
+    wait $!
+    awk '/^totals:/ { print $2 }' "$work/counts"
 }
 for name in '4 KB write, fdatasync' '4 KB write' '100 bytes appended, fsync' '1 MB write, in sequence' \
     'create, write, fsync, rename, fsync of the folder'; do
-    less=$(instructions "$name" 128)
-    more=$(instructions "$name" 384)
+    less=$(instructions "$name" 1)
+    more=$(instructions "$name" 257)
     echo "  $name: $(((more - less) / 256))"
 done

@@ -222,6 +222,8 @@ if has redis-server redis-cli; then
 else
     skip 'Redis: there is no redis-server'
 fi
+MEGABYTES=4 FILES=50 run sh benches/mount.sh 0.01
+ok 'benches/mount.sh' [ "$status" -eq 0 ]
 run sh examples/mount.sh
 ok 'examples/mount.sh' grep -q '^ *4 .*/synced$' "$work/out"
 

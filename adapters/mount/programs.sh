@@ -131,8 +131,8 @@ row() {
     status=0
     # shellcheck disable=SC2086
     tools/crash_run --seeds "$seeds" --first "$first" --jobs "$jobs" --timeout 300 --profile "$1" \
-        --out "out/mount/programs/$name-$1" $options $passed ${prepare:+--prepare "$prepare"} ${start:+--start "$start"} --work "$work" --check "$check" >"$log" 2>"$log.err" </dev/null ||
-        status=$?
+        --out "out/mount/programs/$name-$1" $options $passed ${prepare:+--prepare "$prepare"} ${start:+--start "$start"} \
+        --work "$work" --check "$check" >"$log" 2>"$log.err" </dev/null || status=$?
     if [ "$status" -gt 1 ]; then
         tail -n 3 "$log.err" >&2
         [ "$status" -ne 3 ] || exit 3
