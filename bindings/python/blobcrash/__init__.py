@@ -71,7 +71,7 @@ from .shrinking import shrink
 from .spread import LostWork
 from .store import Store
 
-__version__ = "0.2.0"
+__version__ = "0.3.0"
 
 __all__ = [
     "BadLine",
