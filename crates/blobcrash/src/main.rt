@@ -7,7 +7,7 @@ use std::io::{self, BufReader, BufWriter, ErrorKind};
 use std::process::ExitCode;
 
 /// The release, and the toolchain that it is proved and built with.
-const VERSION: &str = "blobcrash 0.2.0, proved with rattle-kit-13f";
+const VERSION: &str = "blobcrash 0.3.0, proved with rattle-kit-13f";
 
 /// The capacity of the input's buffer in bytes. A line that lies in it whole is found fastest.
 const INPUT_BUFFER: usize = 16384;
