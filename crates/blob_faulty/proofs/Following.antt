@@ -16,18 +16,18 @@ durable_push : (x : List ℕ) (log : List Entry) (e : Entry) → durable_after x
 durable_push x [] e = refl
 durable_push x (d ∷ log) e = durable_push (lasting x d) log e
 
-here : (f : Files) (o : Place) (e : Entry) → log_of (log_entry f o e).log o ≡ log_of f.log o ++ e ∷ []
-here f o e = log_push_at f.log e o o ∙ cond-true (same_place o o) _ _ (same_self o)
+pub log_here : (f : Files) (o : Place) (e : Entry) → log_of (log_entry f o e).log o ≡ log_of f.log o ++ e ∷ []
+log_here f o e = log_push_at f.log e o o ∙ cond-true (same_place o o) _ _ (same_self o)
 
 pub crashed_follow : (f : Files) (o : Place) (es : List Entry) (t : Choices) → crashed_at (all_logged f o es) t o ≡ replay_log (crashed_at f t o) es t
 crashed_follow f o [] t = refl
 crashed_follow f o (e ∷ es) t = crashed_follow (log_entry f o e) o es t
-    ∙ ap (λ (x : List ℕ). replay_log x es t) (ap (λ (l : List Entry). replay_log (f.base o) l t) (here f o e) ∙ replay_push (f.base o) (log_of f.log o) e t)
+    ∙ ap (λ (x : List ℕ). replay_log x es t) (ap (λ (l : List Entry). replay_log (f.base o) l t) (log_here f o e) ∙ replay_push (f.base o) (log_of f.log o) e t)
 
 pub durable_follow : (f : Files) (o : Place) (es : List Entry) → durable_at (all_logged f o es) o ≡ durable_after (durable_at f o) es
 durable_follow f o [] = refl
 durable_follow f o (e ∷ es) = durable_follow (log_entry f o e) o es
-    ∙ ap (λ (x : List ℕ). durable_after x es) (ap (λ (l : List Entry). durable_after (f.base o) l) (here f o e) ∙ durable_push (f.base o) (log_of f.log o) e)
+    ∙ ap (λ (x : List ℕ). durable_after x es) (ap (λ (l : List Entry). durable_after (f.base o) l) (log_here f o e) ∙ durable_push (f.base o) (log_of f.log o) e)
 
 fits_push : (t : Choices) (log : List Logged) (e : Logged) → FitsLog t log → FitsEntry t e.entry → FitsLog t (log ++ e ∷ [])
 fits_push t [] e all one = (one, tt)

@@ -6,7 +6,7 @@ use Rattle.blob_header.specs.Refusals.{Refusal}
 use Rattle.blob_model.specs.Bytes.{resize}
 use Rattle.blob_model.specs.Directory.{Directory, current}
 use Rattle.blob_model.specs.Durable.{Durable}
-use Rattle.blob_model.specs.Files.{Files, crashed_at, durable_at}
+use Rattle.blob_model.specs.Files.{Files, admit, crashed_at, durable_at, log_of}
 use Rattle.blob_model.specs.Log.{Choices, Entry}
 use Rattle.blob_model.specs.Opening.{IsOpened}
 use Rattle.blob_model.specs.Places.{Place, same_place}
@@ -16,9 +16,9 @@ use Rattle.blob_draws.specs.Faults.{resize_fate}
 use Rattle.blob_draws.specs.Recorded.{recorded_resize, recorded_write}
 use Rattle.blob_faulty.specs.declared.storage.Storage.{Storage}
 use Rattle.blob_faulty.specs.Crashes.{CrashDraws, CrashLeaves}
-use Rattle.blob_faulty.specs.Fits.{FitsLog, LaysFitting}
+use Rattle.blob_faulty.specs.Fits.{FitsAll, LaysFitting}
 use Rattle.blob_faulty.specs.Keeps.{OverMemory}
-use Rattle.blob_faulty.specs.Names.{OpenLeaves}
+use Rattle.blob_faulty.specs.Names.{OpenLeaves, Steps}
 use Rattle.blob_faulty.specs.Syncs.{Publishes, Starts}
 use Rattle.blob_faulty.specs.Wrapper.{Stands, Adds, KeepsRecords, inner_of, rng_of, config_of, next_write_of}
 use Rattle.blob_memory.specs.Store.{directory, durable}
@@ -34,7 +34,7 @@ pub record LeavesOnly {S R O : Type 0} (place : O → Place) (names : S → Dire
   pub here : current (names (inner_of w)) o.partition o.name ≡ Some o
   pub given : o.number < (names (inner_of w)).next
   pub durable : test (durable_at files o) ≡ true
-  pub crash : (t : Choices) → FitsLog t files.log → test (crashed_at files t o) ≡ true
+  pub crash : (t : Choices) → FitsAll t (log_of files.log o) → test (crashed_at files t o) ≡ true
 
 module _ (R : Type 0) {S O : Type 0} (store : stores.Ghosts S O) where
   abbrev pub Leaves : Storage S R O → Place → Test → Type 0
@@ -54,6 +54,18 @@ module _ (R : Type 0) {S O : Type 0} (store : stores.Ghosts S O) where
       store.directory (inner_of new) ≡ store.directory (inner_of old) → store.durable (inner_of new) ≡ store.durable (inner_of old) → KeepsRecords store.place old new →
       Leaves old o test → Leaves new o test
 
+  -- after a call after which the wrapper represents the same files, as a finished sync or one that returned an error
+  abbrev pub LeavesSame : Type 0
+  LeavesSame = (old new : Storage S R O) (o : Place) (test : Test) → store.directory (inner_of new) ≡ store.directory (inner_of old) →
+      Steps store.place store.directory store.durable old new (λ files. files) →
+      Leaves old o test → Leaves new o test
+
+  -- after what is pending of a name was discarded
+  abbrev pub LeavesAdmitted : Type 0
+  LeavesAdmitted = (old new : Storage S R O) (p n : List ℕ) (o : Place) (test : Test) → store.directory (inner_of new) ≡ store.directory (inner_of old) →
+      Steps store.place store.directory store.durable old new (λ files. admit files p n) →
+      Leaves old o test → Leaves new o test
+
   -- after an accepted open of any name
   abbrev pub LeavesOpened : (R → Stream) → (S → List ℕ → List ℕ → ℕ → ℕ → Option Refusal → S → Type 0) → Type 0
   LeavesOpened stream asked = (old new : Storage S R O) (p n : List ℕ) (first last : ℕ) (at : Place) (live : List ℕ) (version : ℕ) (o : Place) (test : Test) →
@@ -66,6 +78,13 @@ module _ (R : Type 0) {S O : Type 0} (store : stores.Ghosts S O) where
   LeavesBeside = (old new : Storage S R O) (a o : Place) (test : Test) (entries : List Entry) → a.number < (store.directory (inner_of old)).next → same_place a o ≡ false →
       store.directory (inner_of new) ≡ store.directory (inner_of old) →
       Adds store.place (store.directory (inner_of old)) (store.durable (inner_of old)) (store.durable (inner_of new)) old new a entries →
+      Leaves old o test → Leaves new o test
+
+  -- after a sync or a started sync of another incarnation
+  abbrev pub LeavesSyncedBeside : Type 0
+  LeavesSyncedBeside = (old new : Storage S R O) (a o : Place) (test : Test) (live : List ℕ) → a.number < (store.directory (inner_of old)).next → same_place a o ≡ false →
+      store.directory (inner_of new) ≡ store.directory (inner_of old) →
+      Publishes store.place (store.directory (inner_of old)) (store.durable (inner_of old)) (store.durable (inner_of new)) old new a live ⊎ Starts store.place (store.directory (inner_of old)) (store.durable (inner_of old)) (store.durable (inner_of new)) old new a live →
       Leaves old o test → Leaves new o test
 
   -- after a write, whatever it returns: what passed the test, with bytes of the write over it that its mode allows, passes the next one

@@ -1,6 +1,6 @@
 //! Laws about what may be found of a blob from now on: its durable bytes, and what any crash leaves that the wrapper may draw.
 //! A law says how a call changes a test that all of it passes. So a client states its invariant as a test of one blob's bytes.
-ghost use Rattle.blob_faulty.specs.Leaves.{LeavesBeside, LeavesCrashed, LeavesFound, LeavesOpened, LeavesResized, LeavesSynced, LeavesUnrecorded, LeavesWeaker, LeavesWritten};
+ghost use Rattle.blob_faulty.specs.Leaves.{LeavesAdmitted, LeavesBeside, LeavesCrashed, LeavesFound, LeavesOpened, LeavesResized, LeavesSame, LeavesSynced, LeavesSyncedBeside, LeavesUnrecorded, LeavesWeaker, LeavesWritten};
 
 use crate::laws::fits::{draws, resizes, writes};
 use rand_core::Rng;
@@ -11,11 +11,18 @@ pub fn found<S: blob_base::Durable, R>()
     ensures weaker { LeavesWeaker R S.Durable }
 {}
 
-/// The test holds after a call that records and retires nothing and changes neither the directory nor durable bytes, and after a
-/// write or a resize of another blob.
-pub fn other_calls<S: blob_base::Durable, R>()
+/// The test holds after a call that records and retires nothing and changes neither the directory nor durable bytes, after one that
+/// leaves the same files (a finished sync, a call that returned an error), and after `admit`.
+pub fn same_bytes<S: blob_base::Durable, R>()
     ensures unrecorded { LeavesUnrecorded R S.Durable }
-    ensures beside { LeavesBeside R S.Durable }
+    ensures same { LeavesSame R S.Durable }
+    ensures admitted { LeavesAdmitted R S.Durable }
+{}
+
+/// The test holds after a write, a resize, a sync or a started sync of another blob.
+pub fn other_blobs<S: blob_base::Durable, R>()
+    ensures recorded { LeavesBeside R S.Durable }
+    ensures synced { LeavesSyncedBeside R S.Durable }
 {}
 
 /// The test holds after an accepted open of any name.
