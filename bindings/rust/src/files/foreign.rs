@@ -180,5 +180,11 @@ mod tests {
             assert_eq!(header.get(name.as_str()), Some(&status), "{name}");
             assert!(refusal(status) != Error::Unknown(String::new()), "{name}");
         }
+        // None is left out.
+        let refusals = header
+            .values()
+            .filter(|number| **number >= REFUSALS[0].0)
+            .count();
+        assert_eq!(refusals, REFUSALS.len());
     }
 }
