@@ -61,8 +61,8 @@ module _ (R : Type 0) {S O : Type 0} (store : stores.Ghosts S O) where
       Leaves old o test → Leaves new o test
 
   -- after what is pending of a name was discarded
-  abbrev pub LeavesAdmitted : Type 0
-  LeavesAdmitted = (old new : Storage S R O) (p n : List ℕ) (o : Place) (test : Test) → store.directory (inner_of new) ≡ store.directory (inner_of old) →
+  abbrev pub LeavesDiscarded : Type 0
+  LeavesDiscarded = (old new : Storage S R O) (p n : List ℕ) (o : Place) (test : Test) → store.directory (inner_of new) ≡ store.directory (inner_of old) →
       Steps store.place store.directory store.durable old new (λ files. admit files p n) →
       Leaves old o test → Leaves new o test
 

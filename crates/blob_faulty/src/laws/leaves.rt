@@ -1,6 +1,6 @@
 //! Laws about what may be found of a blob from now on: its durable bytes, and what any crash leaves that the wrapper may draw.
 //! A law says how a call changes a test that all of it passes. So a client states its invariant as a test of one blob's bytes.
-ghost use Rattle.blob_faulty.specs.Leaves.{LeavesAdmitted, LeavesBeside, LeavesCrashed, LeavesFound, LeavesOpened, LeavesResized, LeavesSame, LeavesSynced, LeavesSyncedBeside, LeavesUnrecorded, LeavesWeaker, LeavesWritten};
+ghost use Rattle.blob_faulty.specs.Leaves.{LeavesDiscarded, LeavesBeside, LeavesCrashed, LeavesFound, LeavesOpened, LeavesResized, LeavesSame, LeavesSynced, LeavesSyncedBeside, LeavesUnrecorded, LeavesWeaker, LeavesWritten};
 
 use crate::laws::fits::{draws, resizes, writes};
 use rand_core::Rng;
@@ -16,7 +16,7 @@ pub fn found<S: blob_base::Durable, R>()
 pub fn same_bytes<S: blob_base::Durable, R>()
     ensures unrecorded { LeavesUnrecorded R S.Durable }
     ensures same { LeavesSame R S.Durable }
-    ensures admitted { LeavesAdmitted R S.Durable }
+    ensures admitted { LeavesDiscarded R S.Durable }
 {}
 
 /// The test holds after a write, a resize, a sync or a started sync of another blob.
