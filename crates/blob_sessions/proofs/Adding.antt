@@ -1,5 +1,5 @@
 -- What one more line does to the settings that a session is opened with.
-use Rattle.std.proofs.Common.{◌≡◌, ◌≢◌, ℕ, ◌+◌, ◌≤◌, ◌<◌, List, [], ◌∷◌, ◌++◌, All, Bool, true, false, Option, Some, None, length, refl, sym, ap, ◌∙◌, append_assoc, arith, inl, inr, subst}
+use Rattle.std.proofs.Common.{◌≡◌, ◌≢◌, ℕ, ◌+◌, ◌≤◌, ◌<◌, List, [], ◌∷◌, ◌++◌, All, Bool, true, false, Option, Some, None, Result, Ok, Err, IfErr, length, refl, sym, ap, ◌∙◌, append_assoc, arith, inl, inr, subst}
 use Rattle.std.specs.Prelude.{◌⊎◌, option_and_then}
 use Rattle.std.proofs.lemmas.List.{length_push}
 use Rattle.std.proofs.lemmas.List.Elements.{All-push}
@@ -19,6 +19,8 @@ use Rattle.blob_lab_model.specs.States.{start}
 use Rattle.blob_lab_store.specs.LabStands.{LabStandsFor}
 use Rattle.blob_sessions.specs.Debts.{IsNew}
 use Rattle.blob_sessions.specs.declared.kept.Kept.{Kept}
+use Rattle.blob_sessions.specs.declared.preamble.RefusedPreamble.{RefusedPreamble}
+use Rattle.blob_sessions.specs.declared.preamble.RefusedPreamble.TheVariants.{BadLine}
 use Rattle.blob_sessions.proofs.LineCalls.{call_said}
 use Rattle.blob_sessions.specs.Preambles.{AddsSetting, AreSettings, IsSetting, IsNoSetting, BreaksAt, IsMadeOf, IsReadTo, ReadsSettings, RefusesSetting}
 
@@ -108,6 +110,16 @@ module _ (text rest line others : List ℕ) (r r' : Reader) (to : IsReadTo text 
 -- a call that is no setting can't follow
 pub no_setting : (r r' : Reader) (line : List ℕ) (act : Act) → (IsSetting act → ⊥) → MakesCall r (line_of line) act r' → (s : Script) → HasRead r s → IsNoSetting s line
 no_setting r r' line act not makes s read = inr (call_said s (line_of line) act (config_of r') (makes.adds s read) not)
+
+refused_setting : {T : Type 0} (result : Result T RefusedPreamble) (last : ℕ) (act : Act) → IfErr result (λ refused. (refused ≡ BadLine last) × (IsSetting act → ⊥)) → (number : ℕ) → result ≡ Err (BadLine number)
+    → (number ≡ last) × (IsSetting act → ⊥)
+refused_setting (Ok x) last act refused number e = absurd (cc)
+refused_setting (Err refusal) last act (is, not) number e = let same : refusal ≡ BadLine number = cc in ((cc), not)
+
+pub refuses_call : {T : Type 0} (result : Result T RefusedPreamble) (r r' : Reader) (line : List ℕ) (last : ℕ) (act : Act) → lines_read r' ≡ lines_read r + 1 → last ≡ lines_read r' → MakesCall r (line_of line) act r'
+    → IfErr result (λ refused. (refused ≡ BadLine last) × (IsSetting act → ⊥)) → (number : ℕ) → result ≡ Err (BadLine number) → RefusesSetting r line number
+refuses_call result r r' line last act next is makes refused number e =
+    let (same, not) = refused_setting result last act refused number e in (same ∙ is ∙ next, no_setting r r' line act not makes)
 
 -- a laboratory that was made of what was read
 pub made : (k : Kept) (lines : List (List ℕ)) (r : Reader) (p : Preamble) (config : Config) → ReadsSettings lines r → p ≡ preamble_of r → config ≡ config_of r

@@ -1,10 +1,10 @@
-use Rattle.std.proofs.Common.{rules, refl, Err, ap, ◌≡◌, sym, ◌∙◌, subst, Option, Some, None, IfSome, IfNone, true, ℕ, List}
+use Rattle.std.proofs.Common.{rules, Err, ◌≡◌, sym, ◌∙◌, subst, Option, Some, None, IfSome, IfNone, true, ℕ, List}
 use Rattle.blob_draws.specs.declared.config.Config.{Config}
 use Rattle.blob_script.specs.declared.call.Call.{Call as LabCall}
 use Rattle.blob_script.specs.declared.script.reader.Reader.{Reader}
 use Rattle.blob_script.specs.Acts.{act_of}
 use Rattle.blob_script.specs.Lines.{Blank, line_of}
-use Rattle.blob_script.specs.Readers.{MakesCall, MakesNoCall, Refuses, config_of, has_begun}
+use Rattle.blob_script.specs.Readers.{MakesCall, MakesNoCall, config_of, has_begun}
 use Rattle.blob_sessions.specs.Sessions.{SaysCall}
 use Rattle.blob_sessions.proofs.LineCalls.{makes_call, makes_no_call, refuses}
 use Rattle.blob_sessions.proofs.kept.Kept.read_call.Goals as goal
@@ -18,3 +18,15 @@ silent : (found : Option LabCall) (r r' : Reader) (line : List ℕ) → has_begu
 silent None r r' line begun makes = makes_no_call r r' line begun makes
 silent (Some call) r r' line begun makes = tt
 
+pub returns-clause-call : goal.returns-clause-call
+returns-clause-call c =
+    said c.in_ok-call.call c.begun-reader.result c.read.new.self c.args.self.now.config c.copy_of-self.result c.args.line.now c.begun-reader.ensures.begun
+    (c.begun-reader.ensures.config ∙ c.copy_of.ensures) (sym (c.copy_of-self.ensures ∙ c.config.ensures)) c.in_ok-call.ensures.call
+
+pub returns-clause-blank : goal.returns-clause-blank
+returns-clause-blank c = silent c.in_ok-call.call c.begun-reader.result c.read.new.self c.args.line.now c.begun-reader.ensures.begun c.in_ok-call.ensures.none
+
+pub returns-in_err-call-clause-bad : goal.returns-in_err-call-clause-bad
+returns-in_err-call-clause-bad c = λ e.
+    let is : c.from_residual.result ≡ Err c.in_err-call.field-0.0 = search rules in
+    refuses c.begun-reader.result c.read.new.self c.args.line.now c.begun-reader.ensures.begun (c.in_err-call.ensures.bad (sym is ∙ e))
