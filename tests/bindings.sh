@@ -91,6 +91,9 @@ if has "$compiler"; then
     build_files() { $build "$@" "$top/bindings/c/files.c" "$top/out/libblobcrash.a" -Wl,--wrap=malloc,--wrap=realloc; }
     build_files -o "$work/files" >"$work/out" 2>"$work/err" && "$work/files" >"$work/out" 2>"$work/err"
     tell $? 'C: what each call on files returns'
+    $build -o "$work/faults" "$top/bindings/c/files_faults.c" "$top/out/libblobcrash.a" >"$work/out" 2>"$work/err" &&
+        "$work/faults" >"$work/out" 2>"$work/err"
+    tell $? 'C: files that fail'
     answers 'C, line by line' "$work/lines"
     answers 'C, at once' "$work/lines" --whole
     explains C "$work/lines"

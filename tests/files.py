@@ -17,7 +17,6 @@ from blobcrash import Files, Injected, OpenFile, PowerLoss
 # Of unsynced bytes and unsettled edits a crash keeps all, or none.
 KEEPS, LOSES = ["write 0 1 1 1 prefix", "keep 1 1"], ["write 0 1 0 1 prefix", "keep 0 1"]
 HALF = ["write 0 1 1 2 sectors 4"]
-MAX = 2**64 - 1
 PROFILES = ("ext4", "xfs", "btrfs", "posix")
 
 
@@ -249,97 +248,6 @@ def test_injected_faults():
             files.configure("clear")
             files.configure(setting)
             raises(Injected, call, *arguments)
-
-
-def test_a_failed_sync_that_drops():
-    with Files(words=[0, MAX], settings=[*KEEPS, "failed_sync drops"]) as files:
-        put(files, "/f", b"old")
-        files.settle()
-        files.configure("sync 1 2")
-        with files.open("/f", "r+b") as file:
-            file.write(b"newer")
-            raises(Injected, files.fsync, file)
-            # The bytes are read, and a later sync doesn't write them.
-            assert file.seek(0) == 0 and file.read() == b"newer" and files.stat("/f").size == 5
-            assert file.seek(1) == 1 and file.write(b"E") == 1
-            files.fsync(file)
-            assert file.seek(0) == 0 and file.read() == b"nEwer"
-            assert get(files, "/f") == b"oEd" and file.seek(0) == 0 and file.read() == b"oEd" and files.stat("/f").size == 3
-        files.restart()
-        assert get(files, "/f") == b"oEd"
-    with Files(words=[0, MAX], settings=[*KEEPS, "failed_sync keeps", "sync 1 2"]) as files:
-        with files.open("/f", "xb") as file:
-            file.write(b"new")
-            raises(Injected, files.fsync, file)
-            files.fsync(file)
-        files.configure("failed_sync drops")
-        files.restart()
-        assert get(files, "/f") == b"new"
-
-
-def test_syncs_that_lie():
-    for profile in PROFILES:
-        with Files(profile=profile, settings=[*LOSES, "syncs lie", "sync 1 1"]) as files:
-            with files.open("/f", "xb") as file:
-                file.write(b"F")
-                files.fsync(file)
-                files.fdatasync(file)
-            files.fsync_directory("/")
-            files.sync()
-            refused(FileNotFoundError, errno.ENOENT, "NotFound", files.fsync_directory, "/d")
-            files.restart()
-            assert files.listdir() == [], profile
-            put(files, "/f", b"old")
-            put(files, "/g", b"g")
-            files.settle()
-            put(files, "/f", b"new")
-            files.rename("/g", "/f")
-            files.restart()
-            assert (get(files, "/f"), get(files, "/g")) == (b"old", b"g"), profile
-            files.configure("syncs honest")
-            raises(Injected, files.sync)
-
-
-def test_a_failed_write_of_a_prefix():
-    with Files(words=[0, 0, 0, MAX], settings=["write 1 2 1 2 sectors 4", "failed_write prefix"]) as files:
-        with files.open("/f", "x+b") as file:
-            raises(Injected, file.write, b"abcd")
-            assert file.seek(0) == 0 and file.read() == b"ab"
-    # By the mode a sector is written whole.
-    with Files(words=[0, 0], settings=["write 1 2 1 2 sectors 4", "failed_write mode"]) as files:
-        with files.open("/f", "x+b") as file:
-            raises(Injected, file.write, b"abcd")
-            assert file.seek(0) == 0 and file.read() == b"abcd"
-
-
-def test_space_of_unlinked_files():
-    with Files(settings=[*LOSES, "space 3 1"]) as files:
-        put(files, "/f", b"123")
-        files.settle()
-        with files.open("/f") as file:
-            files.unlink("/f")
-            refused(OSError, errno.ENOSPC, "NoSpace", files.open, "/g", "xb")
-            assert file.read() == b"123"
-        put(files, "/g", b"456")
-        refused(OSError, errno.ENOSPC, "NoSpace", put, files, "/g", b"7", "ab")
-        # The unlink is lost, and so is the other file.
-        files.restart()
-        assert get(files, "/f") == b"123" and files.listdir() == ["f"]
-
-
-def test_where_a_crash_kept_bytes():
-    with Files(settings=KEEPS) as files:
-        put(files, "/f", b"12")
-        put(files, "/g", b"34", "ab")
-        with files.open("/g", "r+b") as file:
-            file.seek(7)
-            file.write(b"5")
-        f, g = files.stat("/f").inode, files.stat("/g").inode
-        kept = files.crash()
-        places = [(place, digits) for place, (_, digits) in zip(kept.places, kept.writes)]
-        of_edits = [place for place, digits in places if len(digits) == 1024]
-        assert of_edits == [(None, 0), (None, 1024)] and len(kept.places) == len(kept.writes) == 5
-        assert [place for place in places if place[0][0]] == [((f, 0), "11"), ((g, 0), "11"), ((g, 7), "1")]
 
 
 def test_the_lines_of_a_script():

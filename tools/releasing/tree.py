@@ -15,7 +15,8 @@ FUSE_LIBS = "-Wl,-Bstatic -lfuse3 -Wl,-Bdynamic -lpthread -ldl"
 # Its licence, as Debian has it.
 FUSE_LICENCE = ("/usr/share/doc/libfuse3-dev/copyright", "/usr/share/common-licenses/LGPL-2.1")
 # What a user copies and changes, below share/doc/blobcrash/examples.
-C_EXAMPLES = ("first.c", "first_files.c", "log.c", "explore_log.c", "files.c", "explore_files.c")
+C_EXAMPLES = ("first.c", "first_files.c", "log.c", "explore_log.c", "files.c", "files_faults.c", "files_checks.h",
+              "explore_files.c")
 
 
 def install(work):
