@@ -7,16 +7,6 @@ top=$(CDPATH='' cd -- "$(dirname -- "$0")/.." && pwd -P)
 # shellcheck source=tests/counting.sh
 . "$top/tests/counting.sh"
 
-# tell STATUS NAME: counts a test, and shows what it printed if it failed.
-tell() {
-    if [ "$1" -eq 0 ]; then
-        pass
-    else
-        fail "$2"
-        head -c 400 "$work/out" "$work/err"
-    fi
-}
-
 sh "$top/bindings/build.sh" || give_up "the library can't be built"
 need_program explain
 explain=${program}_explain

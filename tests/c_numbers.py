@@ -1,5 +1,5 @@
-"""The numbers and structs of the package for Python are those of the C headers, and so are the numbers of the library's sources, all of
-them: bindings/c/numbers.c and bindings/c/files.c have what each number does. The last line is `N passed, M failed`."""
+"""The numbers and structs of the package for Python are those of the C headers, and so are the numbers and functions of the library's
+sources, all of them: bindings/c/numbers.c and bindings/c/files.c have what each number does. The last line is `N passed, M failed`."""
 
 import ctypes
 import os
@@ -36,6 +36,25 @@ def numbers_in(crate, sources):
         with open(os.path.join(CRATES, crate, "src", source), encoding="utf-8") as file:
             for name, number in re.findall(r"^pub const (\w+): u32 = (\d+);", file.read(), re.M):
                 found[OTHERWISE.get(before + name, before + name)] = int(number)
+    return found
+
+
+def declared():
+    """The functions that the headers of the library declare."""
+    found = set()
+    for header in ("blobcrash.h", "blobcrash_files.h"):
+        with open(os.path.join(HEADERS, header), encoding="utf-8") as file:
+            text = re.sub(r"/\*.*?\*/", "", file.read(), flags=re.S)
+        found |= set(re.findall(r"^[a-z][\w ]*[ *](blobcrash_\w+)\(", text, re.M))
+    return found
+
+
+def exported():
+    """The functions that the library's sources export."""
+    found, folder = set(), os.path.join(CRATES, "blob_c", "src")
+    for name in os.listdir(folder):
+        with open(os.path.join(folder, name), encoding="utf-8") as file:
+            found |= set(re.findall(r'no_mangle\)\]\s*pub extern "C" fn (\w+)', file.read()))
     return found
 
 
@@ -80,6 +99,7 @@ def main():
     ):
         numbers = numbers_in(crate, sources)
         checks.append((f"the numbers of {header}", len(numbers) > 40 and numbers == numbers_of(header)))
+    checks.append(("the functions", len(exported()) > 30 and exported() == declared()))
     checks.append(("the structs", own_layouts() == layouts()))
     for what, holds in checks:
         if not holds:

@@ -32,6 +32,18 @@ ok() {
     fi
 }
 
+# tell STATUS NAME: counts a test by its status. If it failed, shows the ends of $work/out and $work/err.
+tell() {
+    if [ "$1" -eq 0 ]; then
+        pass
+        return
+    fi
+    fail "$2"
+    for printed in "$work/out" "$work/err"; do
+        [ ! -s "$printed" ] || tail -n 40 "$printed" | tail -c 4000
+    done
+}
+
 # skip WHAT: counts a test that isn't run because a tool is missing. With CI=true it is a failure: `.ci/run` installs the tools.
 skip() {
     if [ "${CI:-}" = true ]; then

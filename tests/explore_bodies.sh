@@ -6,16 +6,6 @@ top=$(CDPATH='' cd -- "$(dirname -- "$0")/.." && pwd -P)
 # shellcheck source=tests/counting.sh
 . "$top/tests/counting.sh"
 
-# tell STATUS NAME: counts a test, and shows what it printed if it failed.
-tell() {
-    if [ "$1" -eq 0 ]; then
-        pass
-    else
-        fail "$2"
-        tail -n 40 "$work/out"
-    fi
-}
-
 # with_distributed: the Python that has Dask's executor, if one has.
 with_distributed() {
     for python in python3 /usr/bin/python3; do

@@ -6,16 +6,6 @@ top=$(CDPATH='' cd -- "$(dirname -- "$0")/.." && pwd -P)
 # shellcheck source=tests/counting.sh
 . "$top/tests/counting.sh"
 
-# tell STATUS NAME: counts a test, and shows what it printed if it failed.
-tell() {
-    if [ "$1" -eq 0 ]; then
-        pass
-    else
-        fail "$2"
-        tail -n 40 "$work/out" "$work/err"
-    fi
-}
-
 # can_import PYTHON MODULE..: whether it can import these, each by itself, since setuptools wants to come before pip.
 can_import() {
     importer=$1
