@@ -81,8 +81,8 @@ test_python() {
         skip 'the wheel: there is no Python with pip'
         return
     fi
-    ok 'the wheel: pip install' python3 -m pip install --quiet --no-index --no-deps --disable-pip-version-check --root-user-action=ignore \
-        --target "$work/site" "$folder"/*.whl
+    ok 'the wheel: pip install' env PIP_ROOT_USER_ACTION=ignore python3 -m pip install --quiet --no-index --no-deps \
+        --disable-pip-version-check --target "$work/site" "$folder"/*.whl
     export PYTHONPATH="$work/site"
     ok 'the wheel: a script' sh -c 'python3 -m blobcrash "$1.script" | cmp - "$1.out"' sh "$1/FIRST"
     if ! python3 -c 'import pytest' 2>/dev/null; then
