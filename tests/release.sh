@@ -3,7 +3,7 @@
 # other settings of the user; lintian; and that it works in a root without the toolchain and the repository (tests/released.sh), its program
 # with the C library alone. With `all` the library and the programs are compiled again for the comparison, on one processor, and everything is
 # tested in a new Debian too, or in ROOT, which debootstrap made; that takes minutes. The last line is `N passed, M failed`.
-# shellcheck disable=SC2016
+# shellcheck disable=SC2016,SC2317
 top=$(CDPATH='' cd -- "$(dirname -- "$0")/.." && pwd -P)
 # shellcheck source=tests/counting.sh
 . "$top/tests/counting.sh"
@@ -125,19 +125,19 @@ else
 fi
 
 # The start of a program that tools/link gives it: with the C library of 2.17, and the arguments arrive.
-printf 'extern long rattle_arg_count(void);\nint main(int count, char **words) { return words[count - 1][0] == 98 ? (int)rattle_arg_count() : 1; }\n' \
-    >"$work/words.c"
+echo 'extern long rattle_arg_count(void);
+int main(int count, char **words) { return words[count - 1][0] == 98 ? (int)rattle_arg_count() : 1; }' >"$work/words.c"
 ok 'a program' "$kit/toolchain/bin/clang" -O2 -fPIC -c -o "$work/words.o" "$work/words.c"
 ok 'tools/link' "$top/tools/link" "$kit" "$work/words.o" "$work/words"
 "$work/words" a b
 ok 'its arguments' [ $? -eq 3 ]
-ok 'the C library that it needs' sh -c 'objdump -T "$1" | grep -q "(GLIBC_2\.2\.5) __libc_start_main$" && ! objdump -T "$1" | grep -E "GLIBC_2\.(1[89]|[2-9][0-9])"' \
-    sh "$work/words"
+needs_old() { ! objdump -T "$1" | grep -E 'GLIBC_2\.(1[89]|[2-9][0-9])'; }
+ok 'the C library that it needs' needs_old "$work/words"
 
 if objdump -T "$program" | grep -q '(GLIBC_2\.34)'; then
     leave_out 'the C library that the program needs: the gate took it from an earlier run'
 else
-    ok 'the C library that the program needs' sh -c '! objdump -T "$1" | grep -E "GLIBC_2\.(1[89]|[2-9][0-9])"' sh "$program"
+    ok 'the C library that the program needs' needs_old "$program"
 fi
 if has qemu-x86_64; then
     for processor in Nehalem:0 Conroe:127; do

@@ -68,7 +68,8 @@ test_rust() {
     fi
     rm -rf "$work/rust"
     mkdir -p "$work/rust/src"
-    printf '[package]\nname = "far"\nversion = "0.1.0"\nedition = "2024"\n\n[dependencies]\nblobcrash = { path = "%s" }\n' "$1" >"$work/rust/Cargo.toml"
+    printf '[package]\nname = "far"\nversion = "0.1.0"\nedition = "2024"\n\n[dependencies]\nblobcrash = { path = "%s" }\n' "$1" \
+        >"$work/rust/Cargo.toml"
     cp "$1/examples/first.rs" "$work/rust/src/main.rs"
     ok "$2: cargo build --offline" sh -c 'cd "$1" && cargo build --quiet --offline' sh "$work/rust"
     "$work/rust/target/debug/far" >"$work/out"
@@ -81,8 +82,8 @@ test_python() {
         skip 'the wheel: there is no Python with pip'
         return
     fi
-    ok 'the wheel: pip install' python3 -m pip install --quiet --no-index --no-deps --disable-pip-version-check --root-user-action=ignore \
-        --target "$work/site" "$folder"/*.whl
+    ok 'the wheel: pip install' env PIP_ROOT_USER_ACTION=ignore python3 -m pip install --quiet --no-index --no-deps \
+        --disable-pip-version-check --target "$work/site" "$folder"/*.whl
     export PYTHONPATH="$work/site"
     ok 'the wheel: a script' sh -c 'python3 -m blobcrash "$1.script" | cmp - "$1.out"' sh "$1/FIRST"
     if ! python3 -c 'import pytest' 2>/dev/null; then
@@ -115,9 +116,9 @@ test_workflow() {
     release=${prefix##*/}
     mkdir -p "$work/repository" "$work/temporary"
     cp "$folder/SHA256SUMS" "$1/log.py" "$1/test_log_pytest.py" "$work/repository"
-    { sed -n '/run: |/,/- run:/{/run: |/d; /- run:/d; p;}' "$1/ci_use.yml"; sed -n 's/^ *- run: //p' "$1/ci_use.yml"; } >"$work/steps"
-    (cd "$work/repository" && PATH=$work/venv/bin:$PATH STORE=file://$folder RELEASE=$release RUNNER_TEMP=$work/temporary PIP_NO_INDEX=1 \
-        sh -eu "$work/steps") >"$work/out" 2>&1
+    sed -n '/run: |/,/- run:/{/run: |/d; s/^ *- run: //; p;}' "$1/ci_use.yml" >"$work/steps"
+    (cd "$work/repository" && PATH=$work/venv/bin:$PATH STORE=file://$folder RELEASE=$release RUNNER_TEMP=$work/temporary \
+        PIP_NO_INDEX=1 sh -eu "$work/steps") >"$work/out" 2>&1
     ok 'the workflow' grep -q '50 passed' "$work/out"
     grep -q '50 passed' "$work/out" || cat "$work/out"
 }

@@ -20,7 +20,8 @@ C_EXAMPLES = ("first.c", "first_files.c", "log.c", "explore_log.c", "files.c", "
 
 
 def install(work):
-    """Installs into a new folder, and returns the part of it that is /usr on the target. The mount's daemon is built without what a debugger reads, which has paths."""
+    """Installs into a new folder, and returns the part of it that is /usr on the target. The mount's daemon is built without what a debugger
+    reads, which has paths."""
     environment = {**os.environ, "DESTDIR": str(work / "installed"), "BLOBCRASH_PROVED": "1",
                    "OUT": str(work / "mount"), "CFLAGS": "-g0", "FUSE_LIBS": FUSE_LIBS}
     subprocess.run(["sh", TOP / "bindings/install.sh", "/usr"], env=environment, check=True)

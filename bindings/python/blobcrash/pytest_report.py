@@ -54,7 +54,9 @@ def _calls(script: List[str]) -> int:
 
 def _path(item: Any, option: str, ending: str) -> str:
     """The path of a file for a failure, in the folder of an option, which is made. No two tests have the same."""
-    folder = os.path.join(str(item.config.rootpath), item.config.getoption(option))
+    # pytest before 6.1 has only `rootdir`.
+    root = getattr(item.config, "rootpath", None) or item.config.rootdir
+    folder = os.path.join(str(root), item.config.getoption(option))
     os.makedirs(folder, exist_ok=True)
     digest = hashlib.sha256(item.nodeid.encode("utf-8", "surrogatepass")).hexdigest()[:12]
     name = re.sub(r"[^A-Za-z0-9_.=-]+", "_", item.nodeid)[:_MOST_CHARACTERS]
