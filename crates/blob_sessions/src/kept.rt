@@ -2,6 +2,7 @@
 ghost use Rattle.std.specs.Prelude.{◌≡◌, Some, None, IfSome, IfNone, IfOk, OnErr};
 ghost use Rattle.blob_script.specs.Acts.{act_of};
 ghost use Rattle.blob_script.specs.Lines.{Blank, line_of};
+ghost use Rattle.blob_script.specs.Settings.{with_setting};
 ghost use Rattle.blob_sessions.specs.Applying.{Applies};
 ghost use Rattle.blob_sessions.specs.Debts.{IsNew, MakesDebtCall};
 ghost use Rattle.blob_sessions.specs.Sessions.{RunsLine, AnswersRead, AnswersWrite, ReadsCall, IsNoCall, Makes, TellsAgain};
@@ -16,7 +17,7 @@ use crate::ran::{
 use crate::reply_text::{line_len, write_line};
 use crate::typed::{TypedCall, TypedReply, numbered_call, versions};
 use blob_faulty::Config;
-use blob_lab::script::{Reader, RefusedLine};
+use blob_lab::script::{Line, RefusedLine, Setting, read_line};
 use blob_lab::{Call, Lab, Reply};
 use blob_script::script::setting::copy_of;
 use std::alloc::Global;
@@ -225,10 +226,12 @@ impl Kept {
         ensures err { OnErr result (self.new ≡ self.old) }
         ensures kept { self.new ≡ record self.old { config = self.new.config } }
     {
-        let mut reader = Reader::begun(alloc, copy_of(&self.config));
-        let call = reader.read(line)?;
-        self.config = copy_of(reader.config());
-        Ok(call)
+        match read_line(alloc, line)? {
+            Line::Call(call) => Ok(Some(call)),
+            Line::Configure(setting) => Ok(Some(self.configure(setting))),
+            Line::Blank => Ok(None),
+            Line::Image { .. } | Line::Words(_) | Line::Seed(_) => Err(RefusedLine::BadCall),
+        }
     }
 
     /// Makes a call, and keeps its reply.
@@ -238,5 +241,14 @@ impl Kept {
     {
         let reply = self.lab.apply(call);
         self.last = Some(reply);
+    }
+
+    /// The call that hands the whole configuration so far on.
+    fn configure(&mut self, setting: Setting) -> Call
+        ensures whole { result ≡ Call.Configure (with_setting self.old.config setting) }
+        ensures kept { self.new ≡ record self.old { config = with_setting self.old.config setting } }
+    {
+        self.config = setting.apply(copy_of(&self.config));
+        Call::Configure(copy_of(&self.config))
     }
 }
