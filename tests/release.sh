@@ -106,10 +106,14 @@ if [ -z "$all" ]; then
     ok 'it is the same to the byte' diff -r "$released" "$again"
     rm -rf "$copy" "$again"
 else
-    ok 'the commit built again, on one processor' taskset -c 0 "$top/tools/release" --verify "$released/SHA256SUMS" --kept
+    # One file of the copy is changed, so that it differs and the others don't.
     cp -R "$released" "$work/changed"
-    echo >>"$work/changed/PROVED"
-    ok 'a changed file differs' sh -c '! "$1" --verify "$2" --kept' sh "$top/tools/release" "$work/changed/PROVED"
+    echo >>"$(ls "$work"/changed/*.spdx.json)"
+    taskset -c 0 "$top/tools/release" --verify "$work/changed/SHA256SUMS" --kept >"$work/out" 2>"$work/err"
+    ok 'the commit built again, on one processor: a changed file differs' [ $? -eq 1 ]
+    ok 'that file alone' sh -c '[ "$(grep -c ": differs$" "$1")" = 1 ] && grep -q "\.spdx\.json: differs$" "$1"' sh "$work/out"
+    ok 'the others are the same' [ "$(grep -c ': the same$' "$work/out")" -eq 7 ]
+    grep -q ': the same$' "$work/out" || tail -n 20 "$work/err"
 fi
 
 "$top/tools/release" --verify "$work/none/PROVED" >"$work/out" 2>&1
