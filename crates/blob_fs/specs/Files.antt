@@ -1,20 +1,27 @@
 -- The names of a file system, and what its calls leave of them.
 use Rattle.std.specs.Prelude.{◌≡◌, ℕ}
-use Rattle.blob_faulty.specs.Lends.{with_rng}
-use Rattle.blob_faulty.specs.Wrapper.{rng_of}
+use Rattle.blob_draws.specs.declared.selections.Selections.{Selections}
 use Rattle.blob_fs.specs.declared.file_system.Descriptor.{Descriptor}
 use Rattle.blob_fs.specs.declared.file_system.FileSystem.{FileSystem}
+use Rattle.blob_directory.specs.declared.profile.Keeps.{Keeps}
 use Rattle.blob_directory.specs.declared.table.Table.{Table}
 use Rattle.blob_directory.specs.Names.{Edit, Names, Same, edited}
 use Rattle.blob_directory.specs.Tables.{bound}
+use Rattle.blob_journal.specs.declared.journaled.Journaled.{Journaled}
+use Rattle.blob_journal.specs.Journals.{FindsKept as finds_kept, FindsNames as finds_names}
+use Rattle.blob_journal.specs.Keeping.{generator_in, table_in, with_generator as with_generator_in}
+
+-- the names, their journal and the store
+abbrev pub journaled_of : {R : Type 0} → FileSystem R → Journaled R
+journaled_of fs = fs.store
 
 -- the table of the names that calls see
 abbrev pub table_of : {R : Type 0} → FileSystem R → Table
-table_of fs = fs.names
+table_of fs = table_in fs.store
 
 -- what each entry is bound to
 abbrev pub names_of : {R : Type 0} → FileSystem R → Names
-names_of fs = bound fs.names
+names_of fs = bound (table_in fs.store)
 
 -- the number of the next inode
 abbrev pub fresh_inode : {R : Type 0} → FileSystem R → ℕ
@@ -25,11 +32,11 @@ descriptor_number descriptor = descriptor.number
 
 -- the generator that the draws come from
 abbrev pub generator_of : {R : Type 0} → FileSystem R → R
-generator_of fs = rng_of fs.store
+generator_of fs = generator_in fs.store
 
 -- with another generator; all else stays
 abbrev pub with_generator : {R : Type 0} → FileSystem R → R → FileSystem R
-with_generator fs rng = record fs { store = with_rng fs.store rng }
+with_generator fs rng = record fs { store = with_generator_in fs.store rng }
 
 -- nothing has happened to the names
 abbrev pub KeepsNames : {R : Type 0} → FileSystem R → FileSystem R → Type 0
@@ -42,3 +49,14 @@ SameNames fs fs' = Same (names_of fs) (names_of fs')
 -- the names are those of before with this edit
 abbrev pub MakesEdit : {R : Type 0} → Edit → FileSystem R → FileSystem R → Type 0
 MakesEdit edit fs fs' = Same (names_of fs') (edited (names_of fs) edit)
+
+abbrev pub keeps_of : {R : Type 0} → FileSystem R → Keeps
+keeps_of fs = fs.options.profile.keeps
+
+-- after a recovery the names are those that it finds by the journal
+abbrev pub FindsNames : {R : Type 0} → FileSystem R → FileSystem R → Type 0
+FindsNames fs fs' = finds_names (journaled_of fs) (keeps_of fs) (names_of fs')
+
+-- The same after a crash: the journal has those of its pending sectors that the crash kept.
+abbrev pub FindsKept : {R : Type 0} → FileSystem R → Selections → FileSystem R → Type 0
+FindsKept fs kept fs' = finds_kept (journaled_of fs) kept (keeps_of fs) (names_of fs')

@@ -1,5 +1,4 @@
 pub mod Files
-pub mod Journals
 pub use Rattle.blob_directory.specs.Names
 pub use Rattle.blob_directory.specs.Profiles
 pub use Rattle.blob_directory.specs.Sectors

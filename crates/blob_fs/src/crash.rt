@@ -1,7 +1,6 @@
 //! The crash, and the recovery after it.
 ghost use Rattle.std.specs.Prelude.{IfOk, OnErr};
-ghost use Rattle.blob_fs.specs.Files.{KeepsNames};
-ghost use Rattle.blob_fs.specs.Journals.{FindsKept};
+ghost use Rattle.blob_fs.specs.Files.{FindsKept, KeepsNames};
 
 use crate::error::FsError;
 use crate::file_system::FileSystem;
@@ -46,7 +45,6 @@ impl<R: Rng + Drop> FileSystem<R> {
         let rows = self.store.crash()?;
         find_places(&rows, &pending, &mut places);
         self.is_down = true;
-        self.store.set_config(blob_faulty::Config::default());
         let edits = self.recover()?;
         self.is_down = false;
         Ok(Crash {

@@ -1,16 +1,24 @@
 //! A sync that fails and drops what was unsynced: what reads return after it.
 ghost use Rattle.blob_fs.specs.Files.{KeepsNames};
+ghost use Rattle.blob_journal.specs.Keeping.{KeepsTable};
 
 use crate::error::FsError;
-use crate::file_system::{FILES, File, FileSystem, Store};
-use blob_base::{Blob, Error, Storage};
+use crate::file_system::{File, FileSystem};
+use blob_base::Error;
 use blob_faulty::Config;
+use blob_journal::Journaled;
 use rand_core::Rng;
 use std::alloc::{AllocError, Global};
 
 impl File {
     /// Returns a copy of the bytes that reads return.
-    fn shown_bytes<R: Rng>(&self, alloc: Global, store: &mut Store<R>) -> Result<Vec<u8>, Error> {
+    fn shown_bytes<R: Rng + Drop>(
+        &self,
+        alloc: Global,
+        store: &mut Journaled<R>,
+    ) -> Result<Vec<u8>, Error>
+        ensures { KeepsTable store.old store.new }
+    {
         let mut bytes = Vec::new(alloc);
         bytes.resize(self.size() as usize, 0)?;
         let buf = bytes.as_mut_slice();
@@ -19,16 +27,18 @@ impl File {
     }
 
     /// Reads bytes from an offset on, as many as the buffer takes. Draws as the layer's read.
-    pub(crate) fn read_into<R: Rng>(
+    pub(crate) fn read_into<R: Rng + Drop>(
         &self,
-        store: &mut Store<R>,
+        store: &mut Journaled<R>,
         offset: u64,
         buf: &mut [u8],
-    ) -> Result<(), Error> {
+    ) -> Result<(), Error>
+        ensures { KeepsTable store.old store.new }
+    {
         let Some(shown) = &self.shown else {
-            return self.blob.read_into(store, offset, buf);
+            return store.read_file(&self.blob, offset, buf);
         };
-        self.blob.read_into(store, 0, &mut [])?;
+        store.read_file(&self.blob, 0, &mut [])?;
         for i in 0..buf.len() {
             let at = offset.saturating_add(i as u64) as usize;
             buf[i] = shown.get(at).copied().unwrap_or(0);
@@ -86,10 +96,7 @@ impl<R: Rng + Drop> FileSystem<R> {
             return Ok(());
         };
         let shown = file.shown_bytes(self.alloc, &mut self.store)?;
-        let name = inode.to_be_bytes();
-        let (blob, _) = self.store.open(FILES, &name)?;
-        let _ = self.store.admit(FILES, &name);
-        file.blob = blob;
+        file.blob = self.store.reopen_file(inode)?;
         file.shown = Some(shown);
         Ok(())
     }

@@ -4,31 +4,20 @@ ghost use Rattle.blob_fs.specs.Files.{KeepsNames, MakesEdit, SameNames, names_of
 ghost use Rattle.blob_directory.specs.Names.{Same, edit_of, entry};
 
 use crate::error::FsError;
-use crate::journal::Journal;
 use crate::path::check_name;
 use crate::switches::{FailedSync, FailedWrite, Syncs};
 use crate::unlinked::Gone;
 use blob_base::Probability;
 use blob_directory::edit::{Binding, Edit, Kind, entry_of};
 use blob_directory::profile::Profile;
-use blob_directory::table::Table;
-use blob_directory::tree::Tree;
-use blob_directory::unsettled::{About, Unsettled};
+pub use blob_directory::tree::ROOT;
+use blob_directory::unsettled::About;
 use blob_faulty::Config;
+pub use blob_journal::store::{Handle, Store};
+use blob_journal::{FileBlob, Journaled};
 use rand_core::Rng;
 use std::alloc::Global;
 use std::collections::BTreeMap;
-
-/// A fault wrapper over the memory store.
-pub type Store<R> = blob_faulty::Storage<blob_memory::Storage, R>;
-
-/// The wrapper's handle of a blob.
-pub type Handle = blob_faulty::Blob<blob_memory::Blob>;
-
-pub use blob_directory::tree::ROOT;
-
-/// The partition of files.
-pub(crate) const FILES: &str = "f";
 
 /// How many names a file may have.
 pub const LINKS_MAX: u32 = 65_000;
@@ -59,7 +48,7 @@ pub struct Descriptor {
 /// An inode of a file.
 #[derive(Drop)]
 pub(crate) struct File {
-    pub(crate) blob: Handle,
+    pub(crate) blob: FileBlob,
     pub(crate) links: u32,
     pub(crate) opens: u32,
     /// Its size at its last sync.
@@ -80,17 +69,14 @@ pub(crate) struct File {
 #[derive(Drop)]
 pub struct FileSystem<R> {
     pub(crate) alloc: Global,
-    pub(crate) store: Store<R>,
+    /// The names, their journal, and the store that has it and the blobs of files.
+    pub(crate) store: Journaled<R>,
     pub(crate) options: Options,
-    pub(crate) names: Table,
     pub(crate) directories: BTreeMap<u64, u64>,
     pub(crate) files: BTreeMap<u64, File>,
     pub(crate) opens: BTreeMap<u64, u64>,
-    pub(crate) journal: Journal,
-    pub(crate) unsettled: Vec<Unsettled>,
     pub(crate) next_inode: u64,
     pub(crate) next_open: u64,
-    pub(crate) next_edit: u64,
     /// The files that are gone, in the order in which they went.
     pub(crate) gone: Vec<Gone>,
     /// How many bytes all files have.
@@ -120,23 +106,18 @@ impl<R: Rng + Drop> FileSystem<R> {
     pub fn new(alloc: Global, rng: R, options: Options) -> Result<FileSystem<R>, FsError>
         ensures { IfOk result (λ fs. Same (names_of fs) (λ _. None)) }
     {
-        let memory = blob_memory::Storage::new(alloc);
-        let mut store = blob_faulty::Storage::new(alloc, memory, rng, Config::default());
-        let (journal, _) = Journal::open(alloc, &mut store, 0)?;
-        let tree = Tree::new(alloc)?;
+        let store = Journaled::new(alloc, rng)?;
+        let mut directories = BTreeMap::new(alloc);
+        directories.insert(ROOT, ROOT)?;
         Ok(FileSystem {
             alloc,
             store,
             options,
-            names: tree.names,
-            directories: tree.directories,
+            directories,
             files: BTreeMap::new(alloc),
             opens: BTreeMap::new(alloc),
-            journal,
-            unsettled: Vec::new(alloc),
             next_inode: ROOT + 1,
             next_open: 0,
-            next_edit: 0,
             gone: Vec::new(alloc),
             used: 0,
             is_down: false,
@@ -145,7 +126,7 @@ impl<R: Rng + Drop> FileSystem<R> {
 
     /// Returns the fault wrapper below.
     pub fn store(&self) -> &Store<R> {
-        &self.store
+        self.store.store()
     }
 
     /// Returns the options.
@@ -196,25 +177,8 @@ impl<R: Rng + Drop> FileSystem<R> {
         ensures made { OnOk result (MakesEdit (edit_of edit) self.old self.new) }
         ensures refused { OnErr result (SameNames self.old self.new) }
     {
-        self.names.prepare(&edit)?;
-        self.unsettled.reserve(1)?;
         self.gone.reserve(1)?;
-        let number = self.next_edit;
-        let Some(next) = number.checked_add(1) else {
-            return Err(FsError::NoSpace);
-        };
-        let sector = self
-            .journal
-            .add(&mut self.store, &edit, self.options.edit_rate)?;
-        self.names.apply(&edit);
-        self.next_edit = next;
-        let _ = self.unsettled.push(Unsettled {
-            edit,
-            sector,
-            number,
-            about,
-            is_wanted: false,
-        });
+        self.store.make(edit, about, self.options.edit_rate)?;
         Ok(())
     }
 
@@ -222,7 +186,7 @@ impl<R: Rng + Drop> FileSystem<R> {
     pub(crate) fn binding_of(&self, entry: &[u8]) -> Result<Binding, FsError>
         ensures { IfOk result (λ b. names_of self.now entry.now ≡ Some b) }
     {
-        self.names.get(entry).ok_or(FsError::NotFound)
+        self.store.names().get(entry).ok_or(FsError::NotFound)
     }
 
     /// Returns the kind of an inode, if it is one.

@@ -2,17 +2,17 @@
 ghost use Rattle.blob_fs.specs.Files.{KeepsNames};
 
 use crate::error::FsError;
-use crate::file_system::{Descriptor, File, FileSystem, Handle};
+use crate::file_system::{Descriptor, File, FileSystem};
 use crate::switches::Syncs;
 use crate::writes::write_blob;
-use blob_base::Blob;
 use blob_directory::edit::Kind;
 use blob_faulty::Config;
+use blob_journal::FileBlob;
 use rand_core::Rng;
 
 impl File {
     /// Returns a new file, which has one name and is not open.
-    pub(crate) fn new(blob: Handle) -> File {
+    pub(crate) fn new(blob: FileBlob) -> File {
         File {
             blob,
             links: 1,
@@ -132,7 +132,7 @@ impl<R: Rng + Drop> FileSystem<R> {
         let Some(file) = self.files.get_mut(&inode) else {
             return Ok(());
         };
-        file.blob.sync(&mut self.store)?;
+        self.store.sync_file(&mut file.blob)?;
         file.synced = file.blob.size();
         file.is_truncated = false;
         Ok(())
@@ -211,7 +211,7 @@ impl<R: Rng + Drop> FileSystem<R> {
         let size = self.size(file)?;
         let end = offset.saturating_add(bytes.len() as u64);
         self.check_room(size, end)?;
-        let grown = self.next_edit;
+        let grown = self.store.next_edit();
         let how = self.options.failed_write;
         let Some(found) = self.files.get_mut(&inode) else {
             return Err(FsError::Stale);
@@ -249,14 +249,14 @@ impl<R: Rng + Drop> FileSystem<R> {
         let inode = self.inode_of(file)?;
         let size = self.size(file)?;
         self.check_room(size, length)?;
-        let grown = self.next_edit;
+        let grown = self.store.next_edit();
         let Some(found) = self.files.get_mut(&inode) else {
             return Err(FsError::Stale);
         };
         found.reserve_shown(length)?;
         found.is_changed = true;
         found.grown = grown;
-        let resized = found.blob.resize(&mut self.store, length);
+        let resized = self.store.resize_file(&mut found.blob, length);
         if resized.is_ok() {
             found.show_size(length);
         }

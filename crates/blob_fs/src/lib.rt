@@ -7,7 +7,6 @@ mod drops;
 pub mod error;
 pub mod file_system;
 pub mod files;
-mod journal;
 pub mod names;
 pub mod path;
 pub mod paths;
@@ -17,8 +16,8 @@ pub mod renames;
 pub mod switches;
 pub mod syncs;
 mod unlinked;
-mod writes;
 pub mod whole;
+mod writes;
 
 pub use blob_directory::{
     Binding, Change, Edit, Keeps, Kind, Profile, Settles, edit, profile, sector, table,

@@ -4,10 +4,10 @@ ghost use Rattle.blob_fs.specs.Files.{KeepsNames, MakesEdit, SameNames, fresh_in
 ghost use Rattle.blob_directory.specs.Names.{binds, directory_at, entry, file, frees};
 
 use crate::error::FsError;
-use crate::file_system::{Descriptor, FILES, File, FileSystem, Handle, LINKS_MAX};
-use blob_base::Storage;
+use crate::file_system::{Descriptor, File, FileSystem, LINKS_MAX};
 use blob_directory::edit::{Binding, Edit, Kind};
 use blob_directory::unsettled::About;
+use blob_journal::FileBlob;
 use rand_core::Rng;
 
 /// An edit about one inode in one directory.
@@ -25,7 +25,7 @@ impl<R: Rng + Drop> FileSystem<R> {
     fn check_free(&self, entry: &[u8]) -> Result<(), FsError>
         ensures { OnOk result (names_of self.now entry.now ≡ None) }
     {
-        if self.names.get(entry).is_some() {
+        if self.store.names().get(entry).is_some() {
             return Err(FsError::Exists);
         }
         Ok(())
@@ -61,7 +61,7 @@ impl<R: Rng + Drop> FileSystem<R> {
         let entry = self.entry_in(directory, name)?;
         self.check_free(&entry)?;
         let (_, next) = self.fresh_inode()?;
-        let (blob, _) = self.store.open(FILES, &inode.to_be_bytes())?;
+        let blob = self.store.open_file(inode)?;
         let descriptor = self.open_new(inode, blob)?;
         let kind = Kind::File;
         let edit = Edit::one(entry, Some(Binding { inode, kind }));
@@ -75,7 +75,7 @@ impl<R: Rng + Drop> FileSystem<R> {
     }
 
     /// Adds a new file and opens it.
-    fn open_new(&mut self, inode: u64, blob: Handle) -> Result<Descriptor, FsError>
+    fn open_new(&mut self, inode: u64, blob: FileBlob) -> Result<Descriptor, FsError>
         ensures { KeepsNames self.old self.new }
     {
         self.files.insert(inode, File::new(blob))?;
@@ -198,7 +198,7 @@ impl<R: Rng + Drop> FileSystem<R> {
         if was.kind == Kind::File {
             return Err(FsError::NotDirectory);
         }
-        if !self.names.is_empty(was.inode)? {
+        if !self.store.names().is_empty(was.inode)? {
             return Err(FsError::NotEmpty);
         }
         self.make(Edit::one(entry, None), about(was.inode, directory))?;
@@ -230,6 +230,6 @@ impl<R: Rng + Drop> FileSystem<R> {
         if !self.directories.contains_key(&directory) {
             return Err(FsError::NotFound);
         }
-        Ok(self.names.names_in(directory)?)
+        Ok(self.store.names().names_in(directory)?)
     }
 }

@@ -1,7 +1,7 @@
 //! Where the pending writes are of which a crash returns rows.
 use crate::crash::Place;
-use crate::file_system::{FileSystem, Handle, Store};
-use blob_base::{Blob, Durable};
+use crate::file_system::{FileSystem, Store};
+use blob_base::Durable;
 use blob_faulty::Selections;
 use blob_faulty::entry::Entry;
 use rand_core::Rng;
@@ -28,9 +28,7 @@ impl<R: Rng + Drop> FileSystem<R> {
     fn inodes_by_number(&self) -> Result<BTreeMap<u64, u64>, AllocError> {
         let mut inodes = BTreeMap::new(self.alloc);
         for (inode, file) in &self.files {
-            let origin = <Handle as Blob<Store<R>>>::origin_ref(&file.blob);
-            let number = Store::<R>::number_of(origin);
-            inodes.insert(number, *inode)?;
+            inodes.insert(self.store.number_of_file(&file.blob), *inode)?;
         }
         Ok(inodes)
     }
@@ -39,7 +37,7 @@ impl<R: Rng + Drop> FileSystem<R> {
     pub(crate) fn pending_places(&self) -> Result<BTreeMap<u64, Place>, AllocError> {
         let inodes = self.inodes_by_number()?;
         let mut places = BTreeMap::new(self.alloc);
-        for list in self.store.pending() {
+        for list in self.store.store().pending() {
             let number = Store::<R>::number_of(&list.origin);
             let inode = inodes.get(&number).copied();
             for entry in &list.entries {

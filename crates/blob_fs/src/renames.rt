@@ -46,7 +46,7 @@ impl<R: Rng + Drop> FileSystem<R> {
             (Kind::Directory, Kind::File) => Err(FsError::IsDirectory),
             (Kind::File, Kind::File) => Ok(()),
             (Kind::Directory, Kind::Directory) => {
-                if self.names.is_empty(was.inode)? {
+                if self.store.names().is_empty(was.inode)? {
                     Ok(())
                 } else {
                     Err(FsError::NotEmpty)
@@ -79,7 +79,7 @@ impl<R: Rng + Drop> FileSystem<R> {
         if moved.kind == Kind::Directory {
             self.check_not_below(moved.inode, to.0)?;
         }
-        let there = self.names.get(&new);
+        let there = self.store.names().get(&new);
         match (there, how) {
             (None, Rename::Exchange) => Err(FsError::NotFound),
             (None, _) => self.move_name((old, from.0), (new, to.0), moved),

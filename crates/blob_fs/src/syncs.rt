@@ -2,45 +2,21 @@
 ghost use Rattle.blob_fs.specs.Files.{KeepsNames};
 
 use crate::error::FsError;
-use crate::file_system::{Descriptor, FileSystem, Store};
-use crate::journal::Journal;
+use crate::file_system::{Descriptor, FileSystem};
 use crate::switches::{FailedSync, Syncs};
-use blob_base::{Blob, Error};
+use blob_base::Error;
 use blob_directory::profile::Settles;
-use blob_directory::unsettled::{Synced, Unsettled, want};
+use blob_directory::unsettled::Synced;
 use rand_core::Rng;
 
-/// Makes the sectors of the edits that are marked durable. Those before an error stay.
-fn settle_marked<R: Rng>(
-    store: &mut Store<R>,
-    journal: &mut Journal,
-    edits: &[Unsettled],
-) -> Result<(), Error> {
-    for edit in edits {
-        if edit.is_wanted {
-            journal.settle(store, edit.sector, &edit.edit)?;
-        }
-    }
-    Ok(())
-}
-
 impl<R: Rng + Drop> FileSystem<R> {
-    /// Settles the edits that are marked.
-    fn settle_wanted(&mut self) -> Result<(), FsError>
-        ensures { KeepsNames self.old self.new }
-    {
-        settle_marked(&mut self.store, &mut self.journal, &self.unsettled)?;
-        self.unsettled.retain(|edit| !edit.is_wanted);
-        self.remove_gone();
-        Ok(())
-    }
-
     /// Settles the edits that a sync settles by the profile.
     fn settle_by(&mut self, settles: Settles, synced: Synced) -> Result<(), FsError>
         ensures { KeepsNames self.old self.new }
     {
-        want(self.alloc, &mut self.unsettled, settles, synced)?;
-        self.settle_wanted()
+        self.store.settle(settles, synced)?;
+        self.remove_gone();
+        Ok(())
     }
 
     /// Syncs an inode's bytes. Returns what is needed to choose the edits that this settles.
@@ -50,7 +26,7 @@ impl<R: Rng + Drop> FileSystem<R> {
         let Some(file) = self.files.get_mut(&inode) else {
             return Err(FsError::Stale);
         };
-        if let Err(error) = file.blob.sync(&mut self.store) {
+        if let Err(error) = self.store.sync_file(&mut file.blob) {
             return self.fail_sync(inode, error);
         }
         let synced = Synced::File {

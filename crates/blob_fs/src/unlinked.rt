@@ -1,8 +1,7 @@
 //! Files that no name and no descriptor refers to.
 ghost use Rattle.blob_fs.specs.Files.{KeepsNames};
 
-use crate::file_system::{FILES, FileSystem};
-use blob_base::Storage;
+use crate::file_system::FileSystem;
 use blob_faulty::Config;
 use rand_core::Rng;
 
@@ -19,7 +18,7 @@ impl<R: Rng + Drop> FileSystem<R> {
     pub(crate) fn let_go(&mut self, inode: u64)
         ensures { KeepsNames self.old self.new }
     {
-        let edit = self.next_edit;
+        let edit = self.store.next_edit();
         let Some(file) = self.files.get_mut(&inode) else {
             return;
         };
@@ -36,10 +35,7 @@ impl<R: Rng + Drop> FileSystem<R> {
     pub(crate) fn remove_gone(&mut self)
         ensures { KeepsNames self.old self.new }
     {
-        let settled = match self.unsettled.first() {
-            None => u64::MAX,
-            Some(edit) => edit.number,
-        };
+        let settled = self.store.oldest_unsettled().unwrap_or(u64::MAX);
         for i in 0..self.gone.len() {
             let Some(gone) = self.gone.get(i).copied() else {
                 break;
@@ -58,6 +54,6 @@ impl<R: Rng + Drop> FileSystem<R> {
     {
         self.store.set_config(Config::default());
         self.files.remove(&inode);
-        let _ = self.store.remove(FILES, Some(&inode.to_be_bytes()));
+        let _ = self.store.remove_file(inode);
     }
 }

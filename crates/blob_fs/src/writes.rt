@@ -1,8 +1,11 @@
 //! Writes of a blob, by which bytes of a failed one are written.
-use crate::file_system::{Handle, Store, copy_of};
+ghost use Rattle.blob_journal.specs.Keeping.{KeepsTable};
+
+use crate::file_system::copy_of;
 use crate::switches::FailedWrite;
-use blob_base::{Blob, Error, Probability, WriteOptions};
+use blob_base::{Error, Probability};
 use blob_faulty::{Config, PartialWriteMode, WriteConfig};
+use blob_journal::{FileBlob, Journaled};
 use rand_core::Rng;
 
 /// Returns the faults with this rate of failures of writes. A failed one keeps by this rate, in this mode.
@@ -15,24 +18,25 @@ fn with_writes(faults: &Config, failure_rate: Probability, writes: WriteConfig) 
 
 /// Writes bytes, unsynced. With `Prefix` an empty write draws whether the write fails. If it does, a prefix of the bytes is written,
 /// as by a failed write in the mode `Prefix`.
-pub(crate) fn write_blob<R: Rng>(
-    blob: &mut Handle,
-    store: &mut Store<R>,
+pub(crate) fn write_blob<R: Rng + Drop>(
+    blob: &mut FileBlob,
+    store: &mut Journaled<R>,
     how: FailedWrite,
     faults: &Config,
     offset: u64,
     bytes: &[u8],
-) -> Result<(), Error> {
-    let plain = WriteOptions::default();
+) -> Result<(), Error>
+    ensures { KeepsTable store.old store.new }
+{
     let (FailedWrite::Prefix, Some(writes)) = (how, faults.write_rate) else {
-        return blob.write_from(store, offset, bytes, plain);
+        return store.write_file(blob, offset, bytes);
     };
     let draws = WriteConfig {
         retention_rate: Probability::ZERO,
         ..writes
     };
     store.set_config(with_writes(faults, writes.failure_rate, draws));
-    let drawn = blob.write_from(store, 0, &[], plain);
+    let drawn = store.write_file(blob, 0, &[]);
     if drawn.is_ok() {
         store.set_config(with_writes(faults, Probability::ZERO, writes));
     } else {
@@ -42,5 +46,5 @@ pub(crate) fn write_blob<R: Rng>(
         };
         store.set_config(with_writes(faults, Probability::ONE, prefix));
     }
-    blob.write_from(store, offset, bytes, plain)
+    store.write_file(blob, offset, bytes)
 }

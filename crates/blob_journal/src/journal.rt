@@ -1,24 +1,24 @@
 //! The journal: a blob with one edit in each sector.
-ghost use Rattle.std.specs.Prelude.{◌≡◌, ℕ, List, IfOk};
-ghost use Rattle.blob_fs.specs.Journals.{IsJournal};
+ghost use Rattle.std.specs.Prelude.{◌≡◌, Some, true, codes, IfOk};
+ghost use Rattle.std.specs.Int.{w64, to_be_bytes};
+ghost use Rattle.blob_model.specs.Directory.{current, is_current};
+ghost use Rattle.blob_model.specs.Places.{Place};
+ghost use Rattle.blob_memory.specs.Store.{directory, durable, place};
+ghost use Rattle.blob_faulty.specs.Wrapper.{inner_of, inside};
+ghost use Rattle.blob_journal.specs.Currents.{KeepsCurrent, SameDirectory};
 
-use crate::file_system::{Handle, Store};
-use blob_base::laws::opens::accepted_opens;
-use blob_base::{Blob, Error, Probability, SectorSize, Storage, WriteOptions};
+use crate::store::{Handle, JOURNALS, Store, open, read_all};
+use blob_base::{Blob, Error, Probability, SectorSize, WriteOptions};
 use blob_directory::edit::Edit;
 use blob_directory::sector::{SECTOR, encode};
 use blob_faulty::{Config, PartialWriteMode, WriteConfig};
 use rand_core::Rng;
 use std::alloc::Global;
 
-/// The partition of journals.
-pub(crate) const JOURNALS: &str = "j";
-
 /// The open journal.
 #[derive(Drop)]
 pub(crate) struct Journal {
-    alloc: Global,
-    blob: Handle,
+    pub(crate) blob: Handle,
     /// The number that is its name.
     pub(crate) generation: u64,
     /// How many sectors it has.
@@ -46,17 +46,17 @@ impl Journal {
         store: &mut Store<R>,
         generation: u64,
     ) -> Result<(Journal, Vec<u8>), Error>
-        ensures { IfOk result (λ r. (bytes : List ℕ) → IsJournal store.old generation bytes → r.1.items ≡ bytes) }
+        ensures partition { IfOk result (λ r. (place (inside r.0.blob)).partition ≡ codes "j") }
+        ensures name { IfOk result (λ r. (place (inside r.0.blob)).name ≡ to_be_bytes w64 r.0.generation) }
+        ensures generation { IfOk result (λ r. r.0.generation ≡ generation) }
+        ensures current { IfOk result (λ r. is_current (directory (inner_of store.new)) (place (inside r.0.blob)) ≡ true) }
+        ensures found { IfOk result (λ r. (o : Place) → current (directory (inner_of store.old)) (codes "j") (to_be_bytes w64 generation) ≡ Some o → durable (inner_of store.old) o ≡ Some r.1.items) }
+        ensures kept { KeepsCurrent store.old store.new }
     {
-        accepted_opens();
-        let (blob, size) = store.open(JOURNALS, &generation.to_be_bytes())?;
-        let mut bytes = Vec::new(alloc);
-        bytes.resize(size as usize, 0)?;
-        let buf = bytes.as_mut_slice();
-        blob.read_into(store, 0, buf)?;
+        let (blob, size) = open(store, JOURNALS, &generation.to_be_bytes())?;
+        let bytes = read_all(alloc, store, &blob, size)?;
         let sectors = size / SECTOR as u64;
         let journal = Journal {
-            alloc,
             blob,
             generation,
             sectors,
@@ -71,10 +71,15 @@ impl Journal {
     /// `Memory`, `GenerationsExhausted`, `OffsetOverflow`. The journal is unchanged.
     pub(crate) fn add<R: Rng>(
         &mut self,
+        alloc: Global,
         store: &mut Store<R>,
         edit: &Edit,
         rate: Probability,
-    ) -> Result<u64, Error> {
+    ) -> Result<u64, Error>
+        ensures place { place (inside self.new.blob) ≡ place (inside self.old.blob) }
+        ensures generation { self.new.generation ≡ self.old.generation }
+        ensures directory { SameDirectory store.old store.new }
+    {
         let sector = self.sectors;
         let Some(offset) = sector.checked_mul(SECTOR as u64) else {
             return Err(Error::OffsetOverflow);
@@ -82,7 +87,7 @@ impl Journal {
         let Some(next) = sector.checked_add(1) else {
             return Err(Error::OffsetOverflow);
         };
-        let bytes = encode(self.alloc, edit, false)?;
+        let bytes = encode(alloc, edit, false)?;
         store.set_config(faults_of(rate));
         self.blob
             .write_from(store, offset, &bytes, WriteOptions::default())?;
@@ -97,25 +102,30 @@ impl Journal {
     /// `Memory`, `OffsetOverflow`. The sector is as it was.
     pub(crate) fn settle<R: Rng>(
         &mut self,
+        alloc: Global,
         store: &mut Store<R>,
         sector: u64,
         edit: &Edit,
-    ) -> Result<(), Error> {
+    ) -> Result<(), Error>
+        ensures place { place (inside self.new.blob) ≡ place (inside self.old.blob) }
+        ensures generation { self.new.generation ≡ self.old.generation }
+        ensures directory { SameDirectory store.old store.new }
+    {
         let Some(offset) = sector.checked_mul(SECTOR as u64) else {
             return Err(Error::OffsetOverflow);
         };
-        let bytes = encode(self.alloc, edit, true)?;
+        let bytes = encode(alloc, edit, true)?;
         store.set_config(Config::default());
         self.blob
             .write_from(store, offset, &bytes, WriteOptions::SYNC)
     }
 
     /// Makes these bytes those of the journal, durably. `Memory` is the only error of a wrapper that draws nothing.
-    pub(crate) fn begin<R: Rng>(
-        &mut self,
-        store: &mut Store<R>,
-        bytes: &[u8],
-    ) -> Result<(), Error> {
+    pub(crate) fn begin<R: Rng>(&mut self, store: &mut Store<R>, bytes: &[u8]) -> Result<(), Error>
+        ensures place { place (inside self.new.blob) ≡ place (inside self.old.blob) }
+        ensures generation { self.new.generation ≡ self.old.generation }
+        ensures directory { SameDirectory store.old store.new }
+    {
         self.blob.write_from(store, 0, bytes, WriteOptions::SYNC)?;
         self.sectors = bytes.len() as u64 / SECTOR as u64;
         Ok(())

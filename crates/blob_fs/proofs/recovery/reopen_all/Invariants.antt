@@ -1,0 +1,6 @@
+use Rattle.std.proofs.Common.{◌≡◌}
+use Rattle.blob_journal.specs.Keeping.{table_in}
+use Rattle.blob_fs.proofs.recovery.reopen_all.Given as goal
+
+abbrev pub invariant-loop-inode : goal.invariant-loop-inode
+invariant-loop-inode g l = table_in l.store ≡ table_in l.fn.store

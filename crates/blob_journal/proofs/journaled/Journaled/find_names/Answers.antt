@@ -1,0 +1,33 @@
+use Rattle.std.proofs.Common.{◌≡◌, List, ℕ, Some, ap, ap₂, sym, ◌∙◌}
+use Rattle.std.specs.Prelude.{codes}
+use Rattle.std.specs.Int.{w64, to_be_bytes}
+use Rattle.blob_model.specs.Directory.{Directory, current}
+use Rattle.blob_model.specs.Places.{Place}
+use Rattle.blob_memory.specs.Store.{directory, durable, place}
+use Rattle.blob_memory.specs.declared.storage.Storage as memory
+use Rattle.blob_faulty.specs.Keeps.{OverMemory}
+use Rattle.blob_faulty.specs.Wrapper.{inner_of, inside}
+use Rattle.blob_directory.specs.Names.{Same}
+use Rattle.blob_directory.specs.Profiles.{names_told}
+use Rattle.blob_directory.specs.Tables.{bound}
+use Rattle.blob_directory.specs.declared.table.Table.{Table}
+use Rattle.blob_journal.proofs.Currents.{current_of_name}
+use Rattle.blob_journal.proofs.journaled.Journaled.find_names.Goals as goal
+
+pub returns-clause-found : goal.returns-clause-found
+returns-clause-found g c =
+    let self = c.args.self.now in
+    let at : Place = place (inside self.journal.blob) in
+    let name : List ℕ = to_be_bytes w64 self.journal.generation in
+    let here : current (directory (inner_of self.store)) (codes "j") name ≡ Some at =
+    ap₂ (λ (p n : List ℕ). current (directory (inner_of self.store)) p n) (sym self.partition) (sym self.name) ∙ current_of_name (directory (inner_of self.store)) at self.current in
+    let inner : inner_of c.set_config.new.self ≡ inner_of self.store = ap (λ (s : OverMemory g.row.R.Denot). inner_of s) c.set_config.ensures.set in
+    let found : durable (inner_of c.set_config.new.self) at ≡ Some c.in_ok-bytes.bytes.items =
+    c.in_ok-bytes.ensures.found at (ap (λ (s : memory.Storage). current (directory s) (codes "j") name) inner ∙ here) in
+    let told : Same (bound c.in_ok-names.names) (names_told c.args.keeps c.deref.result.now) = c.in_ok-names.ensures in
+    let same : Same (bound c.in_ok-names.names) (names_told c.args.keeps c.in_ok-bytes.bytes.items) = λ e. told e ∙ ap (λ l. names_told c.args.keeps l e) c.deref.ensures.value in
+    record {
+      journal = c.in_ok-bytes.bytes.items;
+      is = record { place = at; current = here; durable = sym (ap (λ (s : memory.Storage). durable s at) inner) ∙ found };
+      finds = record { within = c.in_ok-tree.ensures (names_told c.args.keeps c.in_ok-bytes.bytes.items) same };
+    }

@@ -1,0 +1,18 @@
+use Rattle.std.proofs.Common.{◌≡◌, ap, ◌∙◌}
+use Rattle.blob_model.specs.Directory.{Directory, is_current}
+use Rattle.blob_memory.specs.Store.{directory, place}
+use Rattle.blob_faulty.specs.Wrapper.{inner_of, inside}
+use Rattle.blob_journal.proofs.Currents.{named_current, opened_keeps}
+use Rattle.blob_journal.proofs.store.open.Goals as goal
+
+pub returns-in_err-blob-clause-kept : goal.returns-in_err-blob-clause-kept
+returns-in_err-blob-clause-kept g c = λ o h. ap (λ (d : Directory). is_current d o) c.in_err-blob.ensures.err.0 ∙ h
+
+pub returns-clause-current : goal.returns-clause-current
+returns-clause-current g c = named_current (directory (inner_of c.open.new.self)) c.args.partition.now c.args.name.now (place (inside c.in_ok-blob.blob)) (c.accepted_opens.ensures.current _ _ _ _ _ _ _ _ _ _ _ c.in_ok-blob.ensures.opened)
+
+pub returns-clause-found : goal.returns-clause-found
+returns-clause-found g c = λ o is. (c.accepted_opens.ensures.goes_on _ _ _ _ _ _ _ _ _ _ _ o c.in_ok-blob.ensures.opened is).found
+
+pub returns-clause-kept : goal.returns-clause-kept
+returns-clause-kept g c = λ o h. opened_keeps _ _ _ _ _ _ _ _ _ _ _ c.in_ok-blob.ensures.opened o h

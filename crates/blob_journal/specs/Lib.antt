@@ -1,0 +1,3 @@
+pub mod Currents
+pub mod Journals
+pub mod Keeping

@@ -1,0 +1,25 @@
+//! The crash of the store.
+ghost use Rattle.std.specs.Prelude.{IfOk};
+
+use crate::journaled::Journaled;
+use blob_base::Error;
+use blob_faulty::Selections;
+use rand_core::Rng;
+
+impl<R: Rng + Drop> Journaled<R> {
+    ghost use Rattle.blob_journal.specs.Journals.{CrashKeeps};
+    ghost use Rattle.blob_journal.specs.Keeping.{KeepsTable};
+
+    /// Crashes the store. The draws decide which unsynced bytes and which unsettled edits are kept. Handles keep their live
+    /// bytes, and calls see the same names, until a recovery.
+    ///
+    /// # Errors
+    ///
+    /// `Memory`. Nothing has changed except the generator.
+    pub fn crash(&mut self) -> Result<Selections, Error>
+        ensures kept { IfOk result (λ rows. CrashKeeps self.old rows self.new) }
+        ensures names { KeepsTable self.old self.new }
+    {
+        self.store.crash()
+    }
+}

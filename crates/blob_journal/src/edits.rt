@@ -1,0 +1,155 @@
+//! Edits of the names, each in the journal, and the syncs that settle them.
+ghost use Rattle.std.specs.Prelude.{◌≡◌, None, IfOk, OnOk, OnErr};
+ghost use Rattle.blob_memory.specs.Store.{place};
+ghost use Rattle.blob_faulty.specs.Wrapper.{inside};
+ghost use Rattle.blob_directory.specs.Names.{Same, edit_of};
+ghost use Rattle.blob_journal.specs.Currents.{SameDirectory};
+
+use crate::journal::Journal;
+use crate::journaled::Journaled;
+use crate::store::Store;
+use blob_base::{Error, Probability};
+use blob_directory::edit::Edit;
+use blob_directory::profile::Settles;
+use blob_directory::table::Table;
+use blob_directory::unsettled::{About, Synced, Unsettled, want};
+use blob_faulty::Config;
+use rand_core::Rng;
+use std::alloc::Global;
+
+/// Makes the sectors of the edits that are marked durable. Those before an error stay.
+fn settle_marked<R: Rng>(
+    alloc: Global,
+    store: &mut Store<R>,
+    journal: &mut Journal,
+    edits: &[Unsettled],
+) -> Result<(), Error>
+    ensures place { place (inside journal.new.blob) ≡ place (inside journal.old.blob) }
+    ensures generation { journal.new.generation ≡ journal.old.generation }
+    ensures directory { SameDirectory store.old store.new }
+{
+    for edit in edits {
+        if edit.is_wanted {
+            journal.settle(alloc, store, edit.sector, &edit.edit)?;
+        }
+    }
+    Ok(())
+}
+
+impl<R: Rng + Drop> Journaled<R> {
+    ghost use Rattle.blob_journal.specs.Keeping.{Edits, KeepsTable, SameBindings, generator_in, names_in, table_in, with_generator};
+
+    /// Returns no names over a new store, with faults drawn from the generator.
+    ///
+    /// # Errors
+    ///
+    /// `Memory` only.
+    pub fn new(alloc: Global, rng: R) -> Result<Journaled<R>, Error>
+        ensures { IfOk result (λ j. Same (names_in j) (λ _. None)) }
+    {
+        let memory = blob_memory::Storage::new(alloc);
+        let mut store = blob_faulty::Storage::new(alloc, memory, rng, Config::default());
+        let (journal, _) = Journal::open(alloc, &mut store, 0)?;
+        Ok(Journaled {
+            alloc,
+            store,
+            journal,
+            names: Table::new(alloc),
+            unsettled: Vec::new(alloc),
+            next_edit: 0,
+        })
+    }
+
+    /// Returns the fault wrapper.
+    pub fn store(&self) -> &Store<R> {
+        &self.store
+    }
+
+    /// Returns the generator that the draws come from.
+    pub fn rng(&self) -> &R
+        ensures { result.now ≡ generator_in self.now }
+    {
+        self.store.rng()
+    }
+
+    /// Replaces the generator, and returns the one before. The next draw is the first one from `rng`.
+    pub fn replace_rng(&mut self, rng: R) -> R
+        ensures before { result ≡ generator_in self.old }
+        ensures set { self.new ≡ with_generator self.old rng }
+        ensures names { KeepsTable self.old self.new }
+    {
+        self.store.replace_rng(rng)
+    }
+
+    /// Replaces the fault rates of calls on files. What is pending keeps the mode and the rate of its issue.
+    pub fn set_config(&mut self, config: Config)
+        ensures { KeepsTable self.old self.new }
+    {
+        self.store.set_config(config);
+    }
+
+    /// Returns the names that calls see.
+    pub fn names(&self) -> &Table
+        ensures { result.now ≡ table_in self.now }
+    {
+        &self.names
+    }
+
+    /// Returns the number of the first edit that nothing settled.
+    pub fn oldest_unsettled(&self) -> Option<u64> {
+        self.unsettled.first().map(|edit| edit.number)
+    }
+
+    /// Returns the number of the next edit, counted from the start.
+    pub fn next_edit(&self) -> u64 {
+        self.next_edit
+    }
+
+    /// Makes an edit: it is in the journal, unsynced, in a sector of its own that a crash keeps whole, by this rate, or loses. The
+    /// names are changed. Draws nothing.
+    ///
+    /// # Errors
+    ///
+    /// `Memory`, `GenerationsExhausted`, `OffsetOverflow` if no sector is left. No name has changed.
+    pub fn make(&mut self, edit: Edit, about: About, rate: Probability) -> Result<(), Error>
+        ensures made { OnOk result (Edits (edit_of edit) self.old self.new) }
+        ensures refused { OnErr result (SameBindings self.old self.new) }
+    {
+        self.names.prepare(&edit)?;
+        self.unsettled.reserve(1)?;
+        let number = self.next_edit;
+        let Some(next) = number.checked_add(1) else {
+            return Err(Error::OffsetOverflow);
+        };
+        let sector = self.journal.add(self.alloc, &mut self.store, &edit, rate)?;
+        self.names.apply(&edit);
+        self.next_edit = next;
+        let _ = self.unsettled.push(Unsettled {
+            edit,
+            sector,
+            number,
+            about,
+            is_wanted: false,
+        });
+        Ok(())
+    }
+
+    /// Settles the edits that a sync settles. Draws nothing.
+    ///
+    /// # Errors
+    ///
+    /// `Memory`, `OffsetOverflow`. Some of the edits may be settled.
+    pub fn settle(&mut self, settles: Settles, synced: Synced) -> Result<(), Error>
+        ensures { KeepsTable self.old self.new }
+    {
+        want(self.alloc, &mut self.unsettled, settles, synced)?;
+        settle_marked(
+            self.alloc,
+            &mut self.store,
+            &mut self.journal,
+            &self.unsettled,
+        )?;
+        self.unsettled.retain(|edit| !edit.is_wanted);
+        Ok(())
+    }
+}

@@ -1,0 +1,125 @@
+//! The blobs of files, beside the journal.
+ghost use Rattle.std.specs.Prelude.{◌≡◌};
+ghost use Rattle.blob_faulty.specs.Wrapper.{size_of};
+
+use crate::journaled::Journaled;
+use crate::store::{FILES, FileBlob, Handle, Store, open, read_all, remove, reopen};
+use blob_base::{Blob, Durable, Error, WriteOptions};
+use rand_core::Rng;
+
+impl FileBlob {
+    /// Returns its size in bytes, as calls see it.
+    pub fn size(&self) -> u64
+        ensures { result ≡ size_of self.now.blob }
+    {
+        self.blob.size()
+    }
+}
+
+impl<R: Rng + Drop> Journaled<R> {
+    ghost use Rattle.blob_journal.specs.Keeping.{KeepsTable};
+
+    /// Opens the blob of a file's number. A missing one is created, empty.
+    ///
+    /// # Errors
+    ///
+    /// Those of the layer's open.
+    pub fn open_file(&mut self, inode: u64) -> Result<FileBlob, Error>
+        ensures { KeepsTable self.old self.new }
+    {
+        let (blob, _) = open(&mut self.store, FILES, &inode.to_be_bytes())?;
+        Ok(FileBlob { blob })
+    }
+
+    /// Opens the blob of a file's number again, and discards what is pending of it: its bytes are the durable ones.
+    ///
+    /// # Errors
+    ///
+    /// Those of the layer's open. Nothing is discarded.
+    pub fn reopen_file(&mut self, inode: u64) -> Result<FileBlob, Error>
+        ensures { KeepsTable self.old self.new }
+    {
+        let blob = reopen(&mut self.store, FILES, &inode.to_be_bytes())?;
+        Ok(FileBlob { blob })
+    }
+
+    /// Returns the number of the incarnation of a file's blob, which the pending list of its writes has too.
+    pub fn number_of_file(&self, file: &FileBlob) -> u64 {
+        let origin = <Handle as Blob<Store<R>>>::origin_ref(&file.blob);
+        Store::<R>::number_of(origin)
+    }
+
+    /// Removes the blob of a file's number.
+    ///
+    /// # Errors
+    ///
+    /// Those of the layer's removal. Nothing has changed.
+    pub fn remove_file(&mut self, inode: u64) -> Result<(), Error>
+        ensures { KeepsTable self.old self.new }
+    {
+        remove(&mut self.store, FILES, &inode.to_be_bytes())
+    }
+
+    /// Returns all bytes of a file, as calls see them.
+    ///
+    /// # Errors
+    ///
+    /// Those of the layer's read, and `Memory`.
+    pub fn read_whole(&mut self, file: &FileBlob) -> Result<Vec<u8>, Error>
+        ensures { KeepsTable self.old self.new }
+    {
+        let size = file.size();
+        read_all(self.alloc, &mut self.store, &file.blob, size)
+    }
+
+    /// Reads the bytes of a file from an offset on, as many as the buffer takes.
+    ///
+    /// # Errors
+    ///
+    /// Those of the layer's read.
+    pub fn read_file(&mut self, file: &FileBlob, offset: u64, buf: &mut [u8]) -> Result<(), Error>
+        ensures { KeepsTable self.old self.new }
+    {
+        file.blob.read_into(&mut self.store, offset, buf)
+    }
+
+    /// Writes bytes of a file at an offset, unsynced.
+    ///
+    /// # Errors
+    ///
+    /// Those of the layer's write, which may leave a part of it.
+    pub fn write_file(
+        &mut self,
+        file: &mut FileBlob,
+        offset: u64,
+        bytes: &[u8],
+    ) -> Result<(), Error>
+        ensures { KeepsTable self.old self.new }
+    {
+        let options = WriteOptions::default();
+        file.blob
+            .write_from(&mut self.store, offset, bytes, options)
+    }
+
+    /// Truncates a file to a length, or extends it by zeros, unsynced.
+    ///
+    /// # Errors
+    ///
+    /// Those of the layer's resize, which may leave a part of it.
+    pub fn resize_file(&mut self, file: &mut FileBlob, length: u64) -> Result<(), Error>
+        ensures { KeepsTable self.old self.new }
+    {
+        file.blob.resize(&mut self.store, length)
+    }
+
+    /// Makes the bytes and the size of a file durable.
+    ///
+    /// # Errors
+    ///
+    /// Those of the layer's sync. Nothing is durable that was not.
+    pub fn sync_file(&mut self, file: &mut FileBlob) -> Result<(), Error>
+        ensures { KeepsTable self.old self.new }
+    {
+        file.blob.sync(&mut self.store)
+    }
+}

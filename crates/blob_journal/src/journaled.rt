@@ -1,0 +1,28 @@
+//! Names with their journal, over a store.
+ghost use Rattle.std.specs.Prelude.{◌≡◌, true, codes};
+ghost use Rattle.std.specs.Int.{w64, to_be_bytes};
+ghost use Rattle.blob_model.specs.Directory.{is_current};
+ghost use Rattle.blob_memory.specs.Store.{directory, place};
+ghost use Rattle.blob_faulty.specs.Wrapper.{inner_of, inside};
+
+use crate::journal::Journal;
+use crate::store::Store;
+use blob_directory::table::Table;
+use blob_directory::unsettled::Unsettled;
+use std::alloc::Global;
+
+/// The names that calls see, the journal of their edits, and the store that has it beside the blobs of files.
+#[derive(Drop)]
+pub struct Journaled<R> {
+    pub(crate) alloc: Global,
+    pub(crate) store: Store<R>,
+    pub(crate) journal: Journal,
+    pub(crate) names: Table,
+    pub(crate) unsettled: Vec<Unsettled>,
+    /// The number of the next edit, counted from the start.
+    pub(crate) next_edit: u64,
+    // the journal's blob is the current one of its name
+    ghost partition: { (place (inside journal.blob)).partition ≡ codes "j" },
+    ghost name: { (place (inside journal.blob)).name ≡ to_be_bytes w64 journal.generation },
+    ghost current: { is_current (directory (inner_of store)) (place (inside journal.blob)) ≡ true },
+}

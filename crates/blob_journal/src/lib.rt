@@ -1,0 +1,13 @@
+//! Names of files with their journal, in a store that also has the files' blobs.
+#![tactic(auto)]
+
+pub mod crash;
+pub mod edits;
+pub mod files;
+mod journal;
+pub mod journaled;
+mod recovery;
+pub mod store;
+
+pub use journaled::Journaled;
+pub use store::{FileBlob, Handle, Store};

@@ -1,0 +1,91 @@
+//! The recovery: names from the journal, and a new journal.
+ghost use Rattle.std.specs.Prelude.{◌≡◌, IfOk, OnOk, OnErr};
+ghost use Rattle.blob_directory.specs.Tables.{bound};
+
+use crate::journal::Journal;
+use crate::journaled::Journaled;
+use crate::store::{JOURNALS, remove};
+use blob_base::Error;
+use blob_directory::edit::{Edit, entry_of};
+use blob_directory::profile::Keeps;
+use blob_directory::sector::encode;
+use blob_directory::tree::{Tree, kept_names, reached};
+use blob_faulty::Config;
+use rand_core::Rng;
+use std::alloc::{AllocError, Global};
+use std::collections::BTreeMap;
+
+/// Returns the bytes of a journal that settles the names of a tree. Fails only if memory runs out.
+fn checkpoint(alloc: Global, tree: &Tree) -> Result<Vec<u8>, AllocError> {
+    let mut bytes = Vec::new(alloc);
+    for (directory, _) in &tree.directories {
+        for (name, to) in &tree.names.names_in(*directory)? {
+            let entry = entry_of(alloc, *directory, name)?;
+            let sector = encode(alloc, &Edit::one(entry, Some(*to)), true)?;
+            bytes.extend_from_slice(&sector)?;
+        }
+    }
+    Ok(bytes)
+}
+
+impl<R: Rng + Drop> Journaled<R> {
+    ghost use Rattle.blob_journal.specs.Journals.{FindsNames};
+    ghost use Rattle.blob_journal.specs.Keeping.{KeepsTable, table_in};
+
+    /// Returns the names that the journal gives and the root reaches, and of each edit that nothing settled whether the
+    /// journal has it. Calls still see the names of before. From here on the store draws nothing.
+    ///
+    /// # Errors
+    ///
+    /// `Memory`.
+    pub fn find_names(&mut self, keeps: Keeps) -> Result<(Tree, Vec<bool>), Error>
+        ensures found { IfOk result (λ r. FindsNames self.old keeps (bound r.0.names)) }
+        ensures names { KeepsTable self.old self.new }
+    {
+        self.store.set_config(Config::default());
+        let generation = self.journal.generation;
+        let (_, bytes) = Journal::open(self.alloc, &mut self.store, generation)?;
+        let (names, kept) = kept_names(self.alloc, &bytes, keeps)?;
+        let edits = self.kept_edits(&kept)?;
+        let tree = reached(self.alloc, &names, u64::MAX)?;
+        Ok((tree, edits))
+    }
+
+    fn kept_edits(&self, kept: &[bool]) -> Result<Vec<bool>, AllocError> {
+        let mut edits = Vec::new(self.alloc);
+        for edit in &self.unsettled {
+            let is_kept = kept.get(edit.sector as usize).copied().unwrap_or(false);
+            edits.push(is_kept)?;
+        }
+        Ok(edits)
+    }
+
+    /// Makes these names those that calls see, in a new journal that settles them. The old journal goes once the new one is
+    /// durable. Returns each directory with the one that has it. The store must draw nothing (`find_names`).
+    ///
+    /// # Errors
+    ///
+    /// `Memory`, `OffsetOverflow` if no generation is left. Calls see the names of before, and the old journal is there.
+    pub fn renew(&mut self, tree: Tree) -> Result<BTreeMap<u64, u64>, Error>
+        ensures done { OnOk result (table_in self.new ≡ tree.names) }
+        ensures refused { OnErr result (KeepsTable self.old self.new) }
+    {
+        let old = self.journal.generation;
+        let Some(generation) = old.checked_add(1) else {
+            return Err(Error::OffsetOverflow);
+        };
+        let bytes = checkpoint(self.alloc, &tree)?;
+        let (mut journal, _) = Journal::open(self.alloc, &mut self.store, generation)?;
+        journal.begin(&mut self.store, &bytes)?;
+        let Tree {
+            names,
+            directories,
+            ..
+        } = tree;
+        self.journal = journal;
+        self.names = names;
+        self.unsettled.clear();
+        let _ = remove(&mut self.store, JOURNALS, &old.to_be_bytes());
+        Ok(directories)
+    }
+}

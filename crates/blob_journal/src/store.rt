@@ -1,0 +1,92 @@
+//! The store below files, and the blob of a file in it.
+ghost use Rattle.std.specs.Prelude.{◌≡◌, codes, length, IfOk, Some, true};
+ghost use Rattle.blob_model.specs.Directory.{current, is_current};
+ghost use Rattle.blob_model.specs.Places.{Place};
+ghost use Rattle.blob_memory.specs.Store.{directory, durable, live, place};
+ghost use Rattle.blob_faulty.specs.Wrapper.{inner_of, inside};
+ghost use Rattle.blob_journal.specs.Currents.{KeepsCurrent, KeepsOthers};
+
+use blob_base::laws::opens::accepted_opens;
+use blob_base::{Blob, Error, Storage};
+use rand_core::Rng;
+use std::alloc::Global;
+
+/// A fault wrapper over the memory store.
+pub type Store<R> = blob_faulty::Storage<blob_memory::Storage, R>;
+
+/// The wrapper's handle of a blob.
+pub type Handle = blob_faulty::Blob<blob_memory::Blob>;
+
+/// The partition of files.
+pub(crate) const FILES: &str = "f";
+
+/// The partition of journals.
+pub(crate) const JOURNALS: &str = "j";
+
+/// Opens a blob, and returns its size. No incarnation ends. The errors are those of the layer's open.
+pub(crate) fn open<R: Rng>(
+    store: &mut Store<R>,
+    partition: &str,
+    name: &[u8],
+) -> Result<(Handle, u64), Error>
+    ensures partition { IfOk result (λ r. (place (inside r.0)).partition ≡ partition.now) }
+    ensures name { IfOk result (λ r. (place (inside r.0)).name ≡ name.now) }
+    ensures current { IfOk result (λ r. is_current (directory (inner_of store.new)) (place (inside r.0)) ≡ true) }
+    ensures found { IfOk result (λ r. (o : Place) → current (directory (inner_of store.old)) partition.now name.now ≡ Some o → durable (inner_of store.old) o ≡ Some (live (inside r.0))) }
+    ensures size { IfOk result (λ r. r.1 ≡ length (live (inside r.0))) }
+    ensures kept { KeepsCurrent store.old store.new }
+{
+    accepted_opens();
+    let (blob, size) = store.open(partition, name)?;
+    Ok((blob, size))
+}
+
+/// Opens a blob, and discards what is pending of it. No incarnation ends. The errors are those of the layer's open.
+pub(crate) fn reopen<R: Rng>(
+    store: &mut Store<R>,
+    partition: &str,
+    name: &[u8],
+) -> Result<Handle, Error>
+    ensures partition { IfOk result (λ blob. (place (inside blob)).partition ≡ partition.now) }
+    ensures kept { KeepsCurrent store.old store.new }
+{
+    let (blob, _) = open(store, partition, name)?;
+    let _ = store.admit(partition, name);
+    Ok(blob)
+}
+
+/// Removes a blob. Nothing has changed after an error, which is one of the layer's removal.
+pub(crate) fn remove<R: Rng>(
+    store: &mut Store<R>,
+    partition: &str,
+    name: &[u8],
+) -> Result<(), Error>
+    ensures { KeepsOthers partition.now name.now store.old store.new }
+{
+    store.remove(partition, Some(name))?;
+    Ok(())
+}
+
+/// Returns all bytes of a blob that calls see, by its size. The errors are those of the layer's read, and `Memory`.
+pub(crate) fn read_all<R: Rng>(
+    alloc: Global,
+    store: &mut Store<R>,
+    blob: &Handle,
+    size: u64,
+) -> Result<Vec<u8>, Error>
+    ensures bytes { IfOk result (λ bytes. size ≡ length (live (inside blob.now)) → bytes.items ≡ live (inside blob.now)) }
+    ensures inner { inner_of store.new ≡ inner_of store.old }
+{
+    let mut bytes = Vec::new(alloc);
+    bytes.resize(size as usize, 0)?;
+    let buf = bytes.as_mut_slice();
+    blob.read_into(store, 0, buf)?;
+    Ok(bytes)
+}
+
+/// The open blob of a file.
+#[derive(Drop)]
+pub struct FileBlob {
+    pub(crate) blob: Handle,
+    ghost partition: { (place (inside blob)).partition ≡ codes "f" },
+}
