@@ -13,7 +13,7 @@ returns-clause-text g c =
     let printed : List ℕ = c.into_writer-printed.result.items in
     let done : c.serve_script_to-ending.result ≡ Done → Prints (script_of (lines_of script)) (Some []) (Some printed) = λ e. first_of (search rules, grind (arith, common_steps)) in
     let bad_call : (number : ℕ) → c.serve_script_to-ending.result ≡ BadCall number → PrintsBeforeLine number script (Some []) (Some printed) = λ number e. first_of (search rules, grind (arith, common_steps)) in
-    let explained : IsExplained printed c.in-Ok-explained.text.items = first_of (search rules, grind (arith, common_steps)) in
+    let explained : IsExplained printed c.in-Ok.text.items = first_of (search rules, grind (arith, common_steps)) in
     let none : c.new-script.result.items ≡ [] = first_of (search rules, cc) in
     IfSome_then (g.R.Read.remaining (reader_of c.args.input.now)) c.in_ok-read_all.ensures.read (λ bytes is.
     let same : script ≡ bytes = is ∙ ap (λ (xs : List ℕ). xs ++ bytes) none in
