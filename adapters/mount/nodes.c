@@ -200,10 +200,8 @@ static bool reach(const struct layer_name *found, struct node *directory) {
         return is_new;
     }
     node->links++;
-    if (is_new && is_file(node)) {
-        node_measure(node);
-        node_close(node);
-    }
+    uint64_t inode, size;
+    if (is_new && is_file(node) && layer_find(directory->inode, found->name, &inode, &size) == 0) node_resized(node, size);
     return false;
 }
 
