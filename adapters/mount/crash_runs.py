@@ -117,8 +117,8 @@ class Run:
         """Takes back the faults."""
         keep, tear = self.options.keep or "1/2", self.options.tear or "sectors512"
         kept = f"{keep.replace('/', ' ')} {tear.replace('sectors', 'sectors ')}"
-        calm = {"config write": f"config write 0 1 {kept}", "failed_sync": "failed_sync keeps", "syncs": "syncs honest",
-                "failed_write": "failed_write mode"}
+        calm = {"config write": f"config write 0 1 {kept}", "config resize": "config resize 0 1 0 1",
+                "failed_sync": "failed_sync keeps", "syncs": "syncs honest", "failed_write": "failed_write mode"}
         for fault in self.options.fault:
             words = fault.split()
             kind = " ".join(words[:2]) if words[0] == "config" else words[0]
