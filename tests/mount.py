@@ -100,6 +100,38 @@ def test_missing():
         check("and takes one", not os.path.exists(f"{at}/new"))
 
 
+def test_switches():
+    """A sync that fails and drops, a sync that lies, a bad switch; a removed file doesn't count."""
+    with mounted("--keep", "0/1") as mount:
+        at = mount.at
+        put(f"{at}/f", A)
+        mount.ask("settle")
+        mount.ask("failed_sync drops")
+        mount.ask("config sync 1 1")
+        with open(f"{at}/f", "r+b", buffering=0) as file:
+            file.write(B)
+            check("a sync that fails", refusal(os.fsync, file.fileno()) == "EIO")
+            mount.ask("config sync 0 1")
+            check("the next one succeeds", refusal(os.fsync, file.fileno()) is None)
+        mount.ask("crash")
+        check("and its bytes were dropped", get(f"{at}/f") == A)
+        mount.ask("syncs lie")
+        with open(f"{at}/f", "r+b", buffering=0) as file:
+            file.write(B)
+            os.fsync(file.fileno())
+        mount.ask("crash")
+        check("a sync that lies", get(f"{at}/f") == A)
+        try:
+            check("no such switch", mount.ask("syncs sometimes") is None)
+        except Failed as error:
+            check("no such switch", str(error) == "Invalid argument")
+        mount.ask("syncs honest")
+        before = [mount.control.status()[name] for name in ("bytes", "files")]
+        put(f"{at}/g", bytes(5000))
+        os.unlink(f"{at}/g")
+        check("a removed file", [mount.control.status()[name] for name in ("bytes", "files")] == before)
+
+
 def test_kinds():
     """Kinds, modes and owners survive with their inode."""
     with mounted("--keep", "0/1") as mount:
@@ -321,7 +353,7 @@ def main():
     programs = [PROGRAM] * 17 + [sanitized or PROGRAM] * 3
     tests = [lambda seed=seed, program=program: differential(seed, 2500, program) for seed, program in enumerate(programs, 1)]
     tests.append(lambda: test_survivors(sanitized or PROGRAM))
-    tests += [test_profiles, test_stale, test_names, test_missing, test_kinds, test_bytes, test_write_back, test_power, test_kill]
+    tests += [test_profiles, test_stale, test_names, test_missing, test_switches, test_kinds, test_bytes, test_write_back, test_power, test_kill]
     for test in tests:
         began = time.time()
         try:

@@ -182,6 +182,11 @@ with ProcessPoolExecutor(2) as executor:
 END
 run python3 "$work/cluster.py" "$work/failed"
 ok 'an executor' grep -q '^| ext4 | 3 | 9 | [0-9]* | [0-9]* | 0 | 0 | 3 | 0 | 0 |$' "$work/out"
+# After a write that fails the log acknowledges nothing.
+run tools/crash_run --seeds 4 --fault 'failed_write prefix' --fault 'config write 1 4 1 2 subset' --work "$log append" --check "$log check"
+ok 'writes that fail' [ "$status" -eq 0 ]
+run tools/crash_run --seeds 2 --stop-after 1000 --fault 'syncs lie' --out "$work/failed" --work "$log append" --check "$log check"
+ok 'syncs that lie' [ "$status" -eq 1 ]
 run tools/crash_run --seeds 1 --work true --check false
 ok 'a check that fails without a crash' [ "$status" -eq 2 ]
 

@@ -6,7 +6,6 @@
 
 #include <errno.h>
 #include <fcntl.h>
-#include <limits.h>
 #include <stdlib.h>
 
 int call_truncate(struct node *node, uint64_t length) {
@@ -22,18 +21,11 @@ int call_truncate(struct node *node, uint64_t length) {
     return 0;
 }
 
-/* Truncates a file as an open does: a profile may make the bytes durable that are written until the close. */
+/* Truncates a file as an open does. */
 static int open_truncated(struct node *node) {
-    char path[PATH_MAX];
-    uint64_t inode;
-    bool has_path = !node->is_truncated && node->name && layer_find(node->directory, node->name, &inode) == 0 &&
-                    inode == node->inode && node_path(node, path, sizeof path);
-    if (!has_path) {
-        int error = node_open(node);
-        return error ? error : call_truncate(node, 0);
-    }
+    if (node->is_truncated) return call_truncate(node, 0);
     int error = node_close(node);
-    if (!error) error = layer_open_truncated(path, &node->descriptor);
+    if (!error) error = layer_open_truncated(node->inode, &node->descriptor);
     if (error) {
         node_measure(node);
         return error;

@@ -14,8 +14,8 @@
 void call_lookup(fuse_req_t req, fuse_ino_t parent, const char *name) {
     struct node *directory = call_begin(req, parent, CALL_READS);
     if (!directory) return;
-    uint64_t inode;
-    int error = layer_find(directory->inode, name, &inode);
+    uint64_t inode, size;
+    int error = layer_find(directory->inode, name, &inode, &size);
     struct node *node = error ? NULL : nodes_find(inode);
     if (error == ENOENT) {
         call_reply_no_entry(req);
@@ -103,8 +103,8 @@ void call_link(fuse_req_t req, fuse_ino_t id, fuse_ino_t parent, const char *nam
 
 /* Returns the node of a name, or NULL without one. */
 static struct node *find(const struct node *directory, const char *name) {
-    uint64_t inode;
-    return layer_find(directory->inode, name, &inode) ? NULL : nodes_find(inode);
+    uint64_t inode, size;
+    return layer_find(directory->inode, name, &inode, &size) ? NULL : nodes_find(inode);
 }
 
 /* Takes one name from a node, and its own names from a directory. */

@@ -50,6 +50,14 @@ static int crash_after(const char *text) {
 
 static bool begins(const char *line, const char *word) { return strncmp(line, word, strlen(word)) == 0; }
 
+/* Whether a line is a setting of the layer that may change at any time. */
+static bool is_setting(const char *line) {
+    static const char *const words[] = {"config ", "profile ", "keep ", "failed_sync ", "syncs ", "failed_write "};
+    for (size_t at = 0; at < sizeof words / sizeof *words; at++)
+        if (begins(line, words[at])) return true;
+    return false;
+}
+
 pid_t command_run(const char *line, char *reply, size_t capacity) {
     int error = 0;
     pid_t child = 0;
@@ -61,7 +69,7 @@ pid_t command_run(const char *line, char *reply, size_t capacity) {
     else if (!strcmp(line, "crash")) error = crash(reply, capacity, &child);
     else if (!strcmp(line, "umount")) serve_end();
     else if (begins(line, "crash-after ")) error = crash_after(line + strlen("crash-after "));
-    else if (begins(line, "config ") || begins(line, "profile ") || begins(line, "keep ")) error = layer_set(line);
+    else if (is_setting(line)) error = layer_set(line);
     else error = ENOSYS;
     if (error == ENOSYS) snprintf(reply, capacity, "error: no such command");
     else if (error) snprintf(reply, capacity, "error: %s", strerror(error));

@@ -113,6 +113,17 @@ class Run:
             raise Broken(f"--prepare: {status}{self.tail()}")
         self.mount.ask("settle")
 
+    def end_faults(self):
+        """Takes back the faults."""
+        keep, tear = self.options.keep or "1/2", self.options.tear or "sectors512"
+        kept = f"{keep.replace('/', ' ')} {tear.replace('sectors', 'sectors ')}"
+        calm = {"config write": f"config write 0 1 {kept}", "config resize": "config resize 0 1 0 1",
+                "failed_sync": "failed_sync keeps", "syncs": "syncs honest", "failed_write": "failed_write mode"}
+        for fault in self.options.fault:
+            words = fault.split()
+            kind = " ".join(words[:2]) if words[0] == "config" else words[0]
+            self.mount.ask(calm.get(kind, f"{kind} 0 1"))
+
     def crash(self):
         """Kills what runs, and crashes."""
         self.mount.ask("off")
@@ -154,9 +165,12 @@ class Run:
         """Crashes, recovers and checks. Returns the verdict."""
         self.prepare()
         self.mount.ask(f"crash-after {self.random.randint(1, max(calls, 1))}")
+        for fault in self.options.fault:
+            self.mount.ask(fault)
         if self.command("start") == 0:
             self.command("work")
         self.crash()
+        self.end_faults()
         if self.random.random() < 1 / 3:
             self.mount.ask(f"crash-after {self.random.randint(1, max(calls // 4, 4))}")
             verdict = self.recover()

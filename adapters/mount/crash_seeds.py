@@ -13,6 +13,8 @@ a third of the seeds the power goes off in that recovery too.
   --start CMD        starts the program, and returns when it serves; not needed if the other commands do that
   --work CMD         the workload. It acknowledges by lines in the file $ACKNOWLEDGED, which is outside the mount
   --check CMD        exits with 0 if all that was acknowledged is found, 2 if what is found is damaged, otherwise with 1
+  --fault SETTING    faults from the start of the program until the first crash, such as 'config sync 1 12', one sync of 12 fails;
+                     any setting of tools/mountctl. May be repeated
   --stop-after N     the power goes off after one of the first N changing calls (as many as a run without a crash makes)
   --timeout SECONDS  how long a command may take (60)
   --out FOLDER       where failures are kept (out/crash_run)
@@ -57,6 +59,7 @@ def parse(words):
     parser.add_argument("--timeout", type=float, default=60)
     parser.add_argument("--out", default=KEPT)
     parser.add_argument("--allow-other", action="store_true")
+    parser.add_argument("--fault", action="append", default=[])
     for name in ("prepare", "start", *MOUNT_OPTIONS):
         parser.add_argument("--" + name)
     for name in ("work", "check"):

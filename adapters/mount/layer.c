@@ -58,9 +58,10 @@ int layer_set(const char *setting) {
     return status == BLOBCRASH_BAD_LINE ? EINVAL : error_of(status);
 }
 
-int layer_find(uint64_t directory, const char *name, uint64_t *inode) {
+int layer_find(uint64_t directory, const char *name, uint64_t *inode, uint64_t *size) {
     struct blobcrash_file_reply reply = apply(BLOBCRASH_F_FIND_AT, directory, 0, name);
     *inode = reply.number;
+    *size = reply.size;
     return error_of(reply.status);
 }
 
@@ -121,8 +122,8 @@ int layer_open(uint64_t inode, uint64_t *descriptor) {
     return error_of(reply.status);
 }
 
-int layer_open_truncated(const char *path, uint64_t *descriptor) {
-    struct blobcrash_file_reply reply = apply(BLOBCRASH_F_OPEN_TRUNCATED, 0, 0, path);
+int layer_open_truncated(uint64_t inode, uint64_t *descriptor) {
+    struct blobcrash_file_reply reply = apply(BLOBCRASH_F_OPEN_INODE_TRUNCATED, inode, 0, NULL);
     *descriptor = reply.number;
     return error_of(reply.status);
 }

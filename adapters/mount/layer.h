@@ -29,7 +29,8 @@ void layer_end(void);
 /* Makes a setting of the preamble. EINVAL if it is bad. */
 int layer_set(const char *setting);
 
-int layer_find(uint64_t directory, const char *name, uint64_t *inode);
+/* Returns the inode of a name, and the size of a file. */
+int layer_find(uint64_t directory, const char *name, uint64_t *inode, uint64_t *size);
 /* Returns the names of a directory, which the caller frees. */
 int layer_list(uint64_t directory, struct layer_name **names, size_t *count);
 int layer_create(uint64_t directory, const char *name, uint64_t *inode, uint64_t *descriptor);
@@ -41,8 +42,8 @@ int layer_rename(uint64_t directory, const char *name, uint64_t to_directory, co
 int layer_sync_directory(uint64_t directory);
 
 int layer_open(uint64_t inode, uint64_t *descriptor);
-/* The path has a slash before each name. */
-int layer_open_truncated(const char *path, uint64_t *descriptor);
+/* A profile may make the bytes durable that are written until the close. */
+int layer_open_truncated(uint64_t inode, uint64_t *descriptor);
 int layer_close(uint64_t descriptor);
 int layer_size(uint64_t descriptor, uint64_t *size);
 int layer_truncate(uint64_t descriptor, uint64_t length);

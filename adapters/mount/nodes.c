@@ -86,7 +86,10 @@ static void node_remove(struct node *node) {
 }
 
 void node_rest(struct node *node) {
-    if (node->links == 0 && node->opens == 0) node_close(node);
+    if (is_directory(node) || node->links > 0 || node->opens > 0 || node->is_gone || node_close(node)) return;
+    node->is_gone = true;
+    node_resized(node, 0);
+    node_counts.files--;
 }
 
 int nodes_begin(uid_t owner, gid_t group) {
@@ -182,7 +185,7 @@ static void reset(void) {
         for (struct node *node = table[at]; node; node = node->next) {
             node->links = is_directory(node) ? 2 : 0;
             node->opens = node->size = node->unsynced = 0;
-            node->is_open = node->is_truncated = node->is_reached = false;
+            node->is_open = node->is_truncated = node->is_gone = node->is_reached = false;
         }
     }
 }
@@ -200,10 +203,8 @@ static bool reach(const struct layer_name *found, struct node *directory) {
         return is_new;
     }
     node->links++;
-    if (is_new && is_file(node)) {
-        node_measure(node);
-        node_close(node);
-    }
+    uint64_t inode, size;
+    if (is_new && is_file(node) && layer_find(directory->inode, found->name, &inode, &size) == 0) node_resized(node, size);
     return false;
 }
 

@@ -28,6 +28,7 @@ struct node {
     uint64_t descriptor;
     bool is_open; /* the descriptor is the layer's, of this life */
     bool is_truncated; /* by an open, and not closed since */
+    bool is_gone;      /* no name, and not open: the layer doesn't count it any more */
     bool is_reached;   /* used by nodes_recover */
     /* One of its names. NULL without memory. The name may have been removed. */
     uint64_t directory;
@@ -66,7 +67,7 @@ struct node *nodes_find(uint64_t inode);
 struct node *node_new(mode_t mode, uid_t owner, gid_t group);
 void node_add(struct node *node, uint64_t inode);
 void node_free(struct node *node);
-/* Closes a file that has no name and isn't open in a program. */
+/* Closes a file that has no name and isn't open in a program. It doesn't count against the limits any more. */
 void node_rest(struct node *node);
 
 /* Remembers a name of the node. */
