@@ -3,7 +3,8 @@
 # Prints microseconds an operation, the fastest of three rounds, and the daemon's time as a multiple of passthrough_ll's; transactions a
 # second of pgbench, if there is a PostgreSQL; what a crash takes; with valgrind, the instructions of the daemon for an operation. Goes
 # to standard error. A test runs it, and compares no time. The argument is the seconds of a round, 0.5 if none is given; MEGABYTES and
-# FILES are what a crash finds unsynced, 512 and 20000. On a busy machine compare the instructions.
+# FILES are what a crash finds unsynced, 512 and 20000. Below 0.1 seconds there is no pgbench and no count. On a busy machine compare the
+# instructions.
 set -eu
 
 top=$(CDPATH='' cd -- "$(dirname -- "$0")/.." && pwd -P)
@@ -53,7 +54,8 @@ transactions() {
     $driver pgbench "$seconds"
 }
 
-if ls /usr/lib/postgresql/*/bin/postgres >/dev/null 2>&1; then
+is_short=$(awk -v seconds="$seconds" 'BEGIN { print seconds < 0.1 }')
+if [ "$is_short" -eq 0 ] && ls /usr/lib/postgresql/*/bin/postgres >/dev/null 2>&1; then
     for folder; do echo "pgbench on $(stat -f -c %T "$folder") ${folder##*/}: $(transactions "$folder") transactions a second"; done
 fi
 
@@ -79,7 +81,7 @@ settle
 fill r+
 crash
 
-command -v valgrind >/dev/null || exit 0
+[ "$is_short" -eq 0 ] && command -v valgrind >/dev/null || exit 0
 echo 'instructions of the daemon for an operation:'
 # instructions NAME COUNT: prints those of a daemon that serves so many operations, from its start to its end.
 instructions() {
