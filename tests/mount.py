@@ -353,7 +353,8 @@ def main():
     programs = [PROGRAM] * 17 + [sanitized or PROGRAM] * 3
     tests = [lambda seed=seed, program=program: differential(seed, 2500, program) for seed, program in enumerate(programs, 1)]
     tests.append(lambda: test_survivors(sanitized or PROGRAM))
-    tests += [test_profiles, test_stale, test_names, test_missing, test_switches, test_kinds, test_bytes, test_write_back, test_power, test_kill]
+    tests += [test_profiles, test_stale, test_names, test_missing, test_switches, test_kinds, test_bytes, test_write_back]
+    tests += [test_power, test_kill]
     for test in tests:
         began = time.time()
         try:

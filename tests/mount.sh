@@ -57,7 +57,8 @@ if [ "$(id -u)" -eq 0 ] && unshare -m true 2>/dev/null && has setpriv; then
     chown -R 65534:65534 "$home"
     # shellcheck disable=SC2016
     run unshare -m sh -c 'mount -t tmpfs none /dev && mknod -m 666 /dev/fuse c 10 229 && mknod -m 666 /dev/null c 1 3 && cd "$0" &&
-        exec setpriv --reuid=65534 --regid=65534 --clear-groups sh -c "./daemon m --control s && echo hi >m/a && cat m/a && fusermount3 -u m"' \
+        exec setpriv --reuid=65534 --regid=65534 --clear-groups sh -c \
+            "./daemon m --control s && echo hi >m/a && cat m/a && fusermount3 -u m"' \
         "$home"
     expect 'a mount without root' 0 "hi$line" ''
     rm -rf "$home"

@@ -1,5 +1,8 @@
 #!/usr/bin/env python3
-"""Redis with an append-only file that is synced at each command (appendfsync always), rewritten often: redis.py prepare|start|work|check."""
+"""
+Redis with an append-only file that is synced at each command (appendfsync always) and rewritten often: redis.py
+prepare|start|work|check.
+"""
 
 import os
 import socket
