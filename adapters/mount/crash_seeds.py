@@ -91,6 +91,8 @@ def run_one(options):
         result = {"calls": measure(options, built)} if options.one == "measure" else judge(options, built, options.stop_after)
     except (Broken, Failed) as error:
         result = {"error": str(error)}
+    except KeyboardInterrupt:
+        result = {"error": "interrupted"}
     print(json.dumps(result))
     return 0
 
@@ -165,6 +167,9 @@ def main(words, executor=None):
     except (Broken, Failed) as error:
         print(f"crash_run: {error}", file=sys.stderr)
         return 3 if "docker run" in str(error) else 2
+    except KeyboardInterrupt:
+        print("crash_run: interrupted", file=sys.stderr)
+        return 130
     finally:
         if own:
             own.shutdown()
