@@ -170,18 +170,7 @@ ok 'the command that repeats a seed' [ -n "$again" ]
 ok 'fails again' grep -q '^seed 3: lost$' "$work/again"
 ok 'with the same tree' diff -r "$work/tree" "$work/failed/seed-3/tree"
 # Seeds by an executor, as of a cluster.
-cat >"$work/cluster.py" <<'END'
-import sys
-from concurrent.futures import ProcessPoolExecutor
-
-sys.path.insert(0, "adapters/mount")
-from crash_seeds import main
-
-with ProcessPoolExecutor(2) as executor:
-    sys.exit(main(["--seeds", "3", "--work", "examples/mount_log.py append", "--check", "exit 2", "--out", sys.argv[1],
-                   "--stop-after", "9"], executor))
-END
-run python3 "$work/cluster.py" "$work/failed"
+run examples/mount_cluster.py --seeds 3 --work "$log append" --check 'exit 2' --out "$work/failed" --stop-after 9
 ok 'an executor' grep -q '^| ext4 | 3 | 9 | [0-9]* | [0-9]* | 0 | 0 | 3 | 0 | 0 |$' "$work/out"
 # After a write that fails the log acknowledges nothing.
 run tools/crash_run --seeds 4 --fault 'failed_write prefix' --fault 'config write 1 4 1 2 subset' --work "$log append" --check "$log check"
