@@ -16,10 +16,12 @@ _blobcrash() {
         files:*) words='--limit --last' ;;
         mount:--profile | crash_run:--profile) words='ext4 xfs btrfs posix' ;;
         mount:--tear | crash_run:--tear) words='prefix subset sectors512 sectors4096' ;;
-        mount:--from | mount:--control | crash_run:--from | crash_run:--out) mapfile -t COMPREPLY < <(compgen -f -- "$word") ;;
+        mount:--from | mount:--control | mount:--fifo | mount:--fifo-completed | mount:--log | crash_run:--from | crash_run:--out)
+            mapfile -t COMPREPLY < <(compgen -f -- "$word")
+            ;;
         mount:--seed | mount:--keep | mount:--size | crash_run:--seeds | crash_run:--first | crash_run:--jobs) ;;
         mount:*)
-            words='--seed --profile --tear --keep --size --from --control --allow-other --foreground --help'
+            words='--seed --profile --tear --keep --size --from --control --fifo --fifo-completed --log --allow-other --foreground --help'
             [[ $word == -* ]] || mapfile -t COMPREPLY < <(compgen -d -- "$word")
             ;;
         mountctl:mountctl) mapfile -t COMPREPLY < <(compgen -f -- "$word") ;;
@@ -27,7 +29,7 @@ _blobcrash() {
         mountctl:export) mapfile -t COMPREPLY < <(compgen -d -- "$word") ;;
         mountctl:*) [ "$COMP_CWORD" -ne 3 ] || words='status settle config profile keep off on crash crash-after export umount socket' ;;
         crash_run:*)
-            words='--seeds --first --jobs --prepare --from --start --work --check --stop-after --timeout --out --profile --tear --keep --size
+            words='--seeds --first --jobs --prepare --from --start --work --check --stop-after --timeout --fault --out --profile --tear --keep --size
                 --allow-other --help'
             ;;
         esac

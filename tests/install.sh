@@ -59,6 +59,12 @@ share/blobcrash/tools/mountctl
 FILES
     (cd "$top" && ls adapters/mount/*.py) | sed 's|^|share/blobcrash/|' >>"$work/files"
     ok 'the mount, from a folder that was moved' sh -c 'cp -R "$1" "$2" && "$2/bin/blobcrash" mountctl --help' sh "$prefix" "$work/moved"
+    for tool in mount mountctl crash_run; do
+        # A command or an option begins a line of the help.
+        for word in $("$top/tools/$tool" --help | sed -n 's/^  *\(--[a-z-]*\).*/\1/p; s/^  \([a-z][a-z-]*\)  *[A-Za-z].*/\1/p' | sort -u); do
+            ok "completion knows $tool $word" grep -q -- "[ ']$word\([ ']\|\$\)" "$top/bindings/blobcrash.bash"
+        done
+    done
 else
     skip 'the mount: there is no libfuse 3'
 fi
