@@ -133,6 +133,9 @@ ok 'what is unsynced' grep -qx 'unsynced: inode [0-9]* /lost 5 bytes' "$work/fif
 fifo clear-cache
 run ls "$at"
 expect 'a crash by the fifo' 0 "kept$line" ''
+mkdir "$work/other"
+run "$top/tools/mount" "$work/other" --fifo "$work/fifo"
+expect 'a fifo of another daemon' 1 '' 'mount: --fifo: Address already in use'
 fifo frob
 ok 'no such command of the fifo' grep -qx 'lazyfs::frob: error: no such command' "$work/fifo.log"
 run "$top/tools/mountctl" "$at" umount

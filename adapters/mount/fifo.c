@@ -92,6 +92,11 @@ static int make_fifo(const char *path, int *fd) {
     struct stat there;
     if (lstat(path, &there) == 0) {
         if (!S_ISFIFO(there.st_mode)) return EEXIST;
+        int used = open(path, O_WRONLY | O_NONBLOCK | O_CLOEXEC | O_NOFOLLOW);
+        if (used >= 0) {
+            close(used);
+            return EADDRINUSE;
+        }
         if (unlink(path)) return errno;
     }
     if (mkfifo(path, 0600)) return errno;

@@ -12,7 +12,10 @@
 #ifndef MOUNT_FIFO_H
 #define MOUNT_FIFO_H
 
-/* Makes the fifos, with mode 0600, and opens the log. The last two may be NULL. Returns 0 or a number of errno: EEXIST for another file. */
+/*
+ * Makes the fifos, with mode 0600, and opens the log. The last two may be NULL. Returns 0 or a number of errno: EEXIST if the path is
+ * another file's, EADDRINUSE if another daemon uses it.
+ */
 int fifo_begin(const char *commands, const char *completed, const char *log);
 /* Removes the fifos. */
 void fifo_end(void);
