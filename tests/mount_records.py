@@ -15,7 +15,7 @@ sys.dont_write_bytecode = True
 from mount_calls import Mount, Random, check, counts, get, put, refusal  # noqa: E402
 from mounting import Failed  # noqa: E402
 
-PROGRAM, FILES = sys.argv[1:]
+PROGRAM, FILES = sys.argv[1:3]
 CRASHES, CALLS = 3, 150  # calls before each crash
 
 
@@ -136,7 +136,7 @@ def work(seed):
     while True:
         try:
             draw.choice(calls)()
-        except (OSError, IndexError):
+        except (OSError, IndexError, ValueError):
             pass
 
 for seed in range(int(sys.argv[2]), int(sys.argv[2]) + 6):
