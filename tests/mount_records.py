@@ -131,7 +131,7 @@ def work(seed):
     name = lambda: sys.argv[1] + "/" + draw.choice(["a", "b", "d", "d/x", "e", "e/f", "e/f/g"]) + str(draw.randrange(3))
     calls = [lambda: os.mkdir(name()), lambda: os.rename(name(), name()), lambda: os.unlink(name()), lambda: os.link(name(), name()),
              lambda: held.append(os.open(name(), os.O_RDWR | draw.choice([0, os.O_CREAT, os.O_TRUNC]))),
-             lambda: os.pwrite(draw.choice(held), bytes([seed]) * draw.choice([1, 5000, 100000]), draw.choice([0, 77, 4096])),
+             lambda: os.pwrite(draw.choice(held), bytes([seed]) * draw.choice([1, 5000, 20000]), draw.choice([0, 77, 4096])),
              lambda: os.fsync(draw.choice(held)), lambda: os.close(held.pop(draw.randrange(len(held))))]
     while True:
         try:
@@ -149,7 +149,7 @@ def test_threads():
     crashes, trees, path = [], [], os.path.join(tempfile.mkdtemp(), "record")
     with Mount(PROGRAM, "--profile", "btrfs", "--record", path) as mount:
         for number in range(CRASHES):
-            mount.ask("crash-after 300")
+            mount.ask("crash-after 150")
             process = subprocess.Popen([sys.executable, "-c", THREADS, mount.at, str(10 * number)])
             until = time.monotonic() + 60
             while not mount.control.is_off() and time.monotonic() < until:

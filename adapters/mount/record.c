@@ -13,6 +13,7 @@
 enum {
     PREAMBLE_MOST = 512,
     FLUSH_AT = 1 << 18,
+    BLOCK = 16,
     LINE_MOST = (1 << 21) + (1 << 16), /* the kernel writes at most 1 MB at once, and a byte of a name takes four */
 };
 
@@ -24,8 +25,6 @@ static int failure;      /* the number of errno for which the record stopped */
 static bool reads_draw;  /* since a setting gave reads a rate */
 static uint64_t written; /* bytes of the file */
 static char *buffer, *end;
-/* Each byte in hex. */
-static char digits[256][2];
 
 const char *record_state(void) { return file >= 0 ? "on" : failure ? "failed" : "off"; }
 
@@ -79,6 +78,22 @@ static void put_number(uint64_t number) {
     end += len;
 }
 
+static void write_hex(char *restrict to, const uint8_t *restrict bytes, size_t len) {
+    for (size_t at = 0; at < len; at++) {
+        uint8_t high = bytes[at] >> 4, low = bytes[at] & 15;
+        to[2 * at] = (char)(high + (high > 9 ? 'a' - 10 : '0'));
+        to[2 * at + 1] = (char)(low + (low > 9 ? 'a' - 10 : '0'));
+    }
+}
+
+/* Puts bytes in hex. A compiler vectorizes the loop of a block, whose count is constant. */
+static void put_hex(const uint8_t *bytes, size_t len) {
+    size_t at = 0;
+    for (; at + BLOCK <= len; at += BLOCK) write_hex(end + 2 * at, bytes + at, BLOCK);
+    write_hex(end + 2 * at, bytes + at, len - at);
+    end += 2 * len;
+}
+
 /* Puts a space and a name or a path. */
 static void put_name(const char *name) {
     *end++ = ' ';
@@ -89,8 +104,7 @@ static void put_name(const char *name) {
             continue;
         }
         put_text("\\x");
-        memcpy(end, digits[byte], 2);
-        end += 2;
+        put_hex(&byte, 1);
     }
 }
 
@@ -98,9 +112,7 @@ static void put_name(const char *name) {
 static void put_bytes(const uint8_t *bytes, size_t len) {
     *end++ = ' ';
     if (len == 0) *end++ = '-';
-    char *to = end;
-    for (size_t at = 0; at < len; at++) memcpy(to + 2 * at, digits[bytes[at]], 2);
-    end = to + 2 * len;
+    put_hex(bytes, len);
 }
 
 /* Returns whether a line of at most so many bytes can be put. A replay may have the memory that a call didn't have. */
@@ -120,13 +132,12 @@ static void end_line(void) {
 }
 
 /* What a line has after its word. */
-enum shape { NOTHING, NUMBER, NUMBER_FIRST, NUMBER_NAME, FIRST_NUMBER_NAME, NAMES, PATH };
+enum shape { NOTHING, NUMBER, NUMBER_FIRST, NUMBER_NAME, FIRST_NUMBER_NAME, NAMES };
 
 static const struct {
     const char *word;
     enum shape shape;
 } lines[] = {
-    [BLOBCRASH_F_OPEN_TRUNCATED] = {"open_truncated", PATH},
     [BLOBCRASH_F_CREATE_AT] = {"create_at", NUMBER_NAME},
     [BLOBCRASH_F_LINK_AT] = {"link_at", FIRST_NUMBER_NAME},
     [BLOBCRASH_F_UNLINK_AT] = {"unlink_at", NUMBER_NAME},
@@ -155,7 +166,7 @@ static void put_call(const struct blobcrash_file_call *call, const char *path, c
     enum shape shape = lines[call->kind].shape;
     put_text(lines[call->kind].word);
     if (shape == FIRST_NUMBER_NAME) put_number(call->first);
-    if (shape != NOTHING && shape != PATH) put_number(call->number);
+    if (shape != NOTHING) put_number(call->number);
     if (shape == NUMBER_FIRST) put_number(call->first);
     if (path && shape >= NUMBER_NAME) put_name(path);
     if (shape != NAMES) return;
@@ -235,10 +246,6 @@ int record_begin(const char *path) {
     if (error) {
         free(buffer);
         return error;
-    }
-    for (int byte = 0; byte < 256; byte++) {
-        digits[byte][0] = "0123456789abcdef"[byte >> 4];
-        digits[byte][1] = "0123456789abcdef"[byte & 15];
     }
     signal(SIGXFSZ, SIG_IGN); /* a limit of the file's size stops the record, not the daemon */
     put_text(preamble);
