@@ -78,7 +78,7 @@ static void put_number(uint64_t number) {
     end += len;
 }
 
-static void write_hex(char *restrict to, const uint8_t *restrict bytes, size_t len) {
+static inline void write_hex(char *restrict to, const uint8_t *restrict bytes, size_t len) {
     for (size_t at = 0; at < len; at++) {
         uint8_t high = bytes[at] >> 4, low = bytes[at] & 15;
         to[2 * at] = (char)(high + (high > 9 ? 'a' - 10 : '0'));
@@ -88,10 +88,11 @@ static void write_hex(char *restrict to, const uint8_t *restrict bytes, size_t l
 
 /* Puts bytes in hex. A compiler vectorizes the loop of a block, whose count is constant. */
 static void put_hex(const uint8_t *bytes, size_t len) {
+    char *to = end;
     size_t at = 0;
-    for (; at + BLOCK <= len; at += BLOCK) write_hex(end + 2 * at, bytes + at, BLOCK);
-    write_hex(end + 2 * at, bytes + at, len - at);
-    end += 2 * len;
+    for (; at + BLOCK <= len; at += BLOCK) write_hex(to + 2 * at, bytes + at, BLOCK);
+    write_hex(to + 2 * at, bytes + at, len - at);
+    end = to + 2 * len;
 }
 
 /* Puts a space and a name or a path. */
