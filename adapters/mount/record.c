@@ -14,7 +14,7 @@ enum {
     PREAMBLE_MOST = 512,
     FLUSH_AT = 1 << 18,
     BLOCK = 16,
-    LINE_MOST = (1 << 21) + (1 << 16), /* the kernel writes at most 1 MB at once, and a byte of a name takes four */
+    LINE_MOST = (1 << 21) + (1 << 16), /* a write has at most 1 MB, and a byte of a name takes four */
 };
 
 bool record_notes = true;
