@@ -116,14 +116,20 @@ static void put_bytes(const uint8_t *bytes, size_t len) {
     put_hex(bytes, len);
 }
 
+/* Stops before a call that a replay can't repeat. */
+static void stop_before(int error) {
+    flush();
+    if (file >= 0) fail(error);
+}
+
 /* Returns whether a line of at most so many bytes can be put. A replay may have the memory that a call didn't have. */
 static bool begin_line(size_t most, uint32_t status) {
     if (file < 0)
         record_notes = false; /* too late for a record */
     else if (status == BLOBCRASH_NO_MEMORY || status == BLOBCRASH_E_MEMORY)
-        fail(ENOMEM);
+        stop_before(ENOMEM);
     else if (most > LINE_MOST)
-        fail(EMSGSIZE);
+        stop_before(EMSGSIZE);
     return file >= 0;
 }
 
@@ -180,7 +186,7 @@ void record_call(const struct blobcrash_file_call *call, const char *path, const
     if (only_looks(call->kind)) return;
     if (!begin_line(128 + 4 * ((path ? strlen(path) : 0) + (to ? strlen(to) : 0)), status)) return;
     if (call->kind >= sizeof lines / sizeof *lines || !lines[call->kind].word) {
-        fail(ENOSYS);
+        stop_before(ENOSYS);
         return;
     }
     put_call(call, path, to);
