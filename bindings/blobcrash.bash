@@ -16,21 +16,22 @@ _blobcrash() {
         files:*) words='--limit --last' ;;
         mount:--profile | crash_run:--profile) words='ext4 xfs btrfs posix' ;;
         mount:--tear | crash_run:--tear) words='prefix subset sectors512 sectors4096' ;;
-        mount:--from | mount:--control | mount:--fifo | mount:--fifo-completed | mount:--log | crash_run:--from | crash_run:--out)
+        mount:--from | mount:--control | mount:--fifo | mount:--fifo-completed | mount:--log | mount:--record | \
+            crash_run:--from | crash_run:--out)
             mapfile -t COMPREPLY < <(compgen -f -- "$word")
             ;;
         mount:--seed | mount:--keep | mount:--size | crash_run:--seeds | crash_run:--first | crash_run:--jobs) ;;
         mount:*)
-            words='--seed --profile --tear --keep --size --from --control --fifo --fifo-completed --log --allow-other --foreground --help'
+            words='--seed --profile --tear --keep --size --from --control --fifo --fifo-completed --log --record --allow-other --foreground --help'
             [[ $word == -* ]] || mapfile -t COMPREPLY < <(compgen -d -- "$word")
             ;;
         mountctl:mountctl) mapfile -t COMPREPLY < <(compgen -f -- "$word") ;;
         mountctl:profile) words='ext4 xfs btrfs posix' ;;
         mountctl:export) mapfile -t COMPREPLY < <(compgen -d -- "$word") ;;
-        mountctl:*) [ "$COMP_CWORD" -ne 3 ] || words='status settle config profile keep off on crash crash-after export umount socket' ;;
+        mountctl:*) [ "$COMP_CWORD" -ne 3 ] || words='status settle config profile keep off on crash crash-after record export umount socket' ;;
         crash_run:*)
             words='--seeds --first --jobs --prepare --from --start --work --check --stop-after --timeout --fault --out --profile --tear --keep --size
-                --allow-other --help'
+                --allow-other --no-record --help'
             ;;
         esac
     fi

@@ -8,6 +8,8 @@ top=$(CDPATH='' cd -- "$(dirname -- "$0")/.." && pwd -P)
 # shellcheck source=tests/running.sh
 . "$top/tests/running.sh"
 export PYTHONDONTWRITEBYTECODE=1
+need_program files
+files=${program}_files
 
 at="$work/a mount"
 mkdir "$at"
@@ -172,6 +174,11 @@ ok 'the command that repeats a seed' [ -n "$again" ]
 (eval "$again") >"$work/again" 2>&1
 ok 'fails again' grep -q '^seed 3: lost$' "$work/again"
 ok 'with the same tree' diff -r "$work/tree" "$work/failed/seed-3/tree"
+replay=$(sed -n 's/^  replay: //p' "$work/again")
+ok 'the command that replays its record' [ -n "$replay" ]
+(eval "$replay") >"$work/out" 2>"$work/err"
+[ "$(cat "$work/out")" = "tree /log=$(od -An -v -tx1 "$work/tree/log" | tr -d ' \n')" ]
+tell $? 'a record replays to the same tree'
 # Seeds by an executor, as of a cluster.
 run examples/mount_cluster.py --seeds 3 --work "$log append" --check 'exit 2' --out "$work/failed" --stop-after 9
 ok 'an executor' grep -q '^| ext4 | 3 | 9 | [0-9]* | [0-9]* | 0 | 0 | 3 | 0 | 0 |$' "$work/out"
@@ -233,4 +240,5 @@ else
     skip 'the daemon under the address sanitizer'
 fi
 add python3 "$top/tests/mount.py" "$program" ${sanitized:+"$sanitized"}
+add python3 "$top/tests/mount_records.py" "${sanitized:-$program}" "$files"
 finish

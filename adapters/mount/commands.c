@@ -3,6 +3,7 @@
 #include "layer.h"
 #include "nodes.h"
 #include "power.h"
+#include "record.h"
 #include "serve.h"
 
 #include <errno.h>
@@ -14,10 +15,10 @@
 static void print_status(char *reply, size_t capacity) {
     snprintf(reply, capacity,
              "ok power %s life %" PRIu64 " calls %" PRIu64 " changing %" PRIu64 " bytes %" PRIu64 "/%" PRIu64 " files %" PRIu64
-             "/%" PRIu64 " unsynced %" PRIu64 " names-changed %" PRIu64 "/%" PRIu64 " write-backs %" PRIu64 " stale %" PRIu64,
+             "/%" PRIu64 " unsynced %" PRIu64 " names-changed %" PRIu64 "/%" PRIu64 " write-backs %" PRIu64 " stale %" PRIu64 " record %s",
              power.is_off ? "off" : "on", power.life, power.calls, power.changing_calls, node_counts.bytes, node_limits.bytes,
              node_counts.files, node_limits.files, node_counts.unsynced, node_counts.changes, node_limits.changes,
-             power.write_backs, power.stale_calls);
+             power.write_backs, power.stale_calls, record_state());
 }
 
 static int settle(void) {
@@ -68,10 +69,13 @@ pid_t command_run(const char *line, char *reply, size_t capacity) {
     else if (!strcmp(line, "on")) power_on();
     else if (!strcmp(line, "crash")) error = crash(reply, capacity, &child);
     else if (!strcmp(line, "umount")) serve_end();
+    else if (!strcmp(line, "record stop")) error = record_end();
+    else if (begins(line, "record /")) error = record_begin(line + strlen("record "));
     else if (begins(line, "crash-after ")) error = crash_after(line + strlen("crash-after "));
     else if (is_setting(line)) error = layer_set(line);
     else error = ENOSYS;
     if (error == ENOSYS) snprintf(reply, capacity, "error: no such command");
+    else if (error == EALREADY) snprintf(reply, capacity, "error: too late: a record begins before the first change, as with --record");
     else if (error) snprintf(reply, capacity, "error: %s", strerror(error));
     return error ? 0 : child;
 }

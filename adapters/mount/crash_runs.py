@@ -8,7 +8,7 @@ import subprocess
 import tempfile
 import time
 
-from mounting import Mount
+from mounting import Failed, Mount
 
 MOUNT_OPTIONS = ("profile", "tear", "keep", "size")
 VERDICTS = ("held", "lost", "damaged", "not started", "too slow")
@@ -163,6 +163,8 @@ class Run:
 
     def judge(self, calls):
         """Crashes, recovers and checks. Returns the verdict."""
+        if not self.options.no_record:
+            self.mount.ask(f"record {self.folder}/run.script")
         self.prepare()
         self.mount.ask(f"crash-after {self.random.randint(1, max(calls, 1))}")
         for fault in self.options.fault:
@@ -184,7 +186,11 @@ class Run:
         return verdict
 
     def keep_tree(self):
-        """Copies what is durable."""
+        """Copies what is durable. The record ends with the crash before."""
+        try:
+            self.mount.ask("record stop")
+        except Failed as error:
+            self.log.write(f"# the record isn't complete: {error}\n".encode())
         command = ["cp", "-a", "--", os.path.join(self.mount.at, "."), os.path.join(self.folder, "tree")]
         if subprocess.run(command, stderr=self.log).returncode:
             self.log.write(b"# the tree isn't complete\n")
@@ -201,7 +207,7 @@ class Run:
             return "".join("\n  " + line for line in file.read().decode(errors="replace").splitlines()[-6:])
 
     def close(self, kept=None):
-        """Ends the mount. Moves the log, the acknowledgements and the tree to a folder, or removes them."""
+        """Ends the mount. Moves the log, the record, the acknowledgements and the tree to a folder, or removes them."""
         kill_started(self.mount.daemon.pid, 20)
         self.mount.close()
         self.log.close()

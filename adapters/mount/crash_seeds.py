@@ -18,6 +18,7 @@ a third of the seeds the power goes off in that recovery too.
   --stop-after N     the power goes off after one of the first N changing calls (as many as a run without a crash makes)
   --timeout SECONDS  how long a command may take (60)
   --out FOLDER       where failures are kept (out/crash_run)
+  --no-record        doesn't record the runs
   --profile, --tear, --keep, --size, --allow-other   as for tools/mount
 
 A command is run by sh in this folder, with MOUNT, the folder of the mount, ACKNOWLEDGED and SEED in the environment.
@@ -45,6 +46,7 @@ TOP = os.path.dirname(os.path.dirname(os.path.dirname(os.path.realpath(__file__)
 # Where failures are kept: an installed tool keeps them in the current folder.
 KEPT = os.path.join(TOP if os.path.isdir(os.path.join(TOP, "crates")) else os.getcwd(), "out", "crash_run")
 TOOL = os.path.join(TOP, "tools", "crash_run")
+PROGRAM = shlex.quote(os.path.join(TOP, "blobcrash")) if os.path.isdir(os.path.join(TOP, "crates")) else "blobcrash"
 SET_CHILD_SUBREAPER = 36
 
 
@@ -60,6 +62,7 @@ def parse(words):
     parser.add_argument("--out", default=KEPT)
     parser.add_argument("--allow-other", action="store_true")
     parser.add_argument("--fault", action="append", default=[])
+    parser.add_argument("--no-record", action="store_true")
     for name in ("prepare", "start", *MOUNT_OPTIONS):
         parser.add_argument("--" + name)
     for name in ("work", "check"):
@@ -144,6 +147,9 @@ def run_all(options, words, executor, at_once):
         if result["kept"]:
             print(f"seed {seed}: {result['verdict']}{result['tail']}\n  the durable tree: {result['kept']}/tree", flush=True)
             tool = os.path.relpath(TOOL) if os.path.samefile(TOP, ".") else TOOL
+            script = os.path.join(result["kept"], "run.script")
+            if os.path.exists(script):
+                print(f"  replay: (cat {shlex.quote(script)}; echo tree) | {PROGRAM} files | tail -n 1", flush=True)
             print(f"  again: {shlex.join([tool, *of_seed(words, seed, calls)])}", flush=True)
         if time.monotonic() > shown_at + 2:
             shown_at, number = time.monotonic(), sum(counts.values())

@@ -1,6 +1,7 @@
 #include "layer.h"
 
 #include "blobcrash_files.h"
+#include "record.h"
 
 #include <errno.h>
 #include <stdlib.h>
@@ -34,7 +35,10 @@ static const uint8_t *bytes_of(const char *text) { return text ? (const uint8_t 
 static size_t length_of(const char *text) { return text ? strlen(text) : 0; }
 
 static struct blobcrash_file_reply apply_two(struct blobcrash_file_call call, const char *path, const char *to) {
-    return blobcrash_files_apply(&files, &call, bytes_of(path), length_of(path), bytes_of(to), length_of(to));
+    struct blobcrash_file_reply reply =
+        blobcrash_files_apply(&files, &call, bytes_of(path), length_of(path), bytes_of(to), length_of(to));
+    if (record_notes) record_call(&call, path, to, reply.status);
+    return reply;
 }
 
 static struct blobcrash_file_reply apply(uint32_t kind, uint64_t number, uint64_t first, const char *path) {
@@ -48,6 +52,7 @@ static int run(uint32_t kind, uint64_t number, uint64_t first, const char *path)
 int layer_begin(const char *preamble, uint64_t *line) {
     struct blobcrash_script_ran ran = blobcrash_files_open(&files, bytes_of(preamble), length_of(preamble));
     *line = ran.line;
+    record_preamble(preamble);
     return ran.status == BLOBCRASH_BAD_LINE ? EINVAL : error_of(ran.status);
 }
 
@@ -55,6 +60,7 @@ void layer_end(void) { blobcrash_files_close(&files); }
 
 int layer_set(const char *setting) {
     uint32_t status = blobcrash_files_configure(&files, bytes_of(setting), length_of(setting));
+    if (record_notes && status == BLOBCRASH_DONE) record_setting(setting);
     return status == BLOBCRASH_BAD_LINE ? EINVAL : error_of(status);
 }
 
@@ -143,11 +149,14 @@ int layer_sync(uint64_t descriptor, bool only_data) {
 }
 
 int layer_write(uint64_t descriptor, uint64_t offset, const void *bytes, size_t len) {
-    return error_of(blobcrash_files_write(&files, descriptor, offset, bytes, len));
+    uint32_t status = blobcrash_files_write(&files, descriptor, offset, bytes, len);
+    if (record_notes) record_write(descriptor, offset, bytes, len, status);
+    return error_of(status);
 }
 
 int layer_read(uint64_t descriptor, uint64_t offset, void *into, size_t capacity, size_t *len) {
     struct blobcrash_ran ran = blobcrash_files_read(&files, descriptor, offset, into, capacity);
+    if (record_notes) record_read(descriptor, offset, capacity, ran.status);
     *len = ran.len;
     return error_of(ran.status);
 }

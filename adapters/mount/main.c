@@ -8,6 +8,7 @@
 #include "fifo.h"
 #include "layer.h"
 #include "power.h"
+#include "record.h"
 #include "serve.h"
 
 #include <errno.h>
@@ -26,11 +27,11 @@ enum { FAILED = 1, BAD_OPTION = 2, NO_FUSE = 3 };
 
 static const char usage_text[] =
     "usage: blobcrash_mount DIR --control SOCKET [--seed N] [--profile ext4|xfs|btrfs|posix] [--tear prefix|subset|sectorsN]\n"
-    "                       [--keep N/D] [--size BYTES] [--fifo FIFO] [--fifo-completed FIFO] [--log FILE] [--allow-other]\n"
-    "                       [--foreground]";
+    "                       [--keep N/D] [--size BYTES] [--record FILE] [--fifo FIFO] [--fifo-completed FIFO] [--log FILE]\n"
+    "                       [--allow-other] [--foreground]";
 
 static struct {
-    const char *directory, *control, *seed, *profile, *tear, *keep, *fifo, *completed, *log;
+    const char *directory, *control, *seed, *profile, *tear, *keep, *record, *fifo, *completed, *log;
     uint64_t size;
     bool allows_other, stays;
 } options = {.seed = "1", .profile = "ext4", .tear = "sectors512", .keep = "1/2", .size = (uint64_t)1 << 30};
@@ -62,7 +63,7 @@ static void read_options(int count, char **words) {
         {"profile", required_argument, NULL, 'p'}, {"tear", required_argument, NULL, 't'},
         {"keep", required_argument, NULL, 'k'},    {"size", required_argument, NULL, 'z'},
         {"fifo", required_argument, NULL, 'F'},    {"fifo-completed", required_argument, NULL, 'C'},
-        {"log", required_argument, NULL, 'l'},
+        {"log", required_argument, NULL, 'l'},     {"record", required_argument, NULL, 'r'},
         {"allow-other", no_argument, NULL, 'o'},   {"foreground", no_argument, NULL, 'f'},
         {NULL, 0, NULL, 0}};
     for (int option; (option = getopt_long(count, words, "", names, NULL)) != -1;) {
@@ -76,6 +77,7 @@ static void read_options(int count, char **words) {
         case 'F': options.fifo = optarg; break;
         case 'C': options.completed = optarg; break;
         case 'l': options.log = optarg; break;
+        case 'r': options.record = optarg; break;
         case 'o': options.allows_other = true; break;
         case 'f': options.stays = true; break;
         default: end(BAD_OPTION, "%s", usage_text);
@@ -117,6 +119,8 @@ static void begin_layer(void) {
     if (error == EINVAL) end(BAD_OPTION, "%s", line >= 1 && line <= 5 ? bad[line - 1] : "a bad option");
     if (error) end(FAILED, "the layer: %s", strerror(error));
     if (nodes_begin(getuid(), getgid())) end(FAILED, "no memory");
+    error = options.record ? record_begin(options.record) : 0;
+    if (error) end(FAILED, "--record %s: %s", options.record, strerror(error));
 }
 
 /* Says what is missing for a mount, in one line. */
@@ -165,11 +169,13 @@ int main(int count, char **words) {
         end(FAILED, "%s: %s", options.directory, strerror(errno));
     }
     options.directory = directory;
+    record_mounted_on(directory);
     struct fuse_session *session = mount_it(words[0]);
     /* In the foreground the daemon ends with the process that started it. */
     if (options.stays && prctl(PR_SET_PDEATHSIG, SIGTERM)) end(FAILED, "the foreground: %s", strerror(errno));
     if (!options.stays && daemon(0, 0)) end(FAILED, "the background: %s", strerror(errno));
     error = serve(session);
+    record_end();
     fuse_session_unmount(session);
     end_paths();
     fuse_remove_signal_handlers(session);
