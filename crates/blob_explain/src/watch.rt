@@ -141,7 +141,12 @@ impl Watch {
     }
 
     /// Returns the durable bytes before a write that keeps bytes although it fails; no bytes for any other call.
-    fn durable_before(&self, wrapper: &Wrapper, call: &Call, drawn: &Drawn) -> Result<Vec<u8>, Error> {
+    fn durable_before(
+        &self,
+        wrapper: &Wrapper,
+        call: &Call,
+        drawn: &Drawn,
+    ) -> Result<Vec<u8>, Error> {
         if let Call::Write { handle, .. } = call {
             if let Drawn::Write(WriteFate::Failed(kept)) = drawn {
                 if kept.contains(&true) {

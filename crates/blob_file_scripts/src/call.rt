@@ -1,7 +1,6 @@
 //! The calls of a script of files, and their words.
 use crate::path_text::read_path;
-use blob_file_sessions::FileCall;
-use blob_file_sessions::kinds;
+use blob_file_sessions::{FileCall, kinds};
 use blob_lab::script::RefusedLine;
 use blob_script::script::token::{Tokens, number};
 use std::alloc::Global;
@@ -23,11 +22,19 @@ pub enum Call {
         to: Vec<u8>,
     },
     /// A call of a kind on a file, with a length if it has one.
-    OnFile { kind: u32, file: Named, len: u64 },
+    OnFile {
+        kind: u32,
+        file: Named,
+        len: u64,
+    },
     /// Reads all paths and the bytes of files.
     Tree,
     /// Reads up to `len` bytes.
-    Read { file: Named, offset: u64, len: u64 },
+    Read {
+        file: Named,
+        offset: u64,
+        len: u64,
+    },
     Write {
         file: Named,
         offset: u64,
@@ -156,12 +163,7 @@ fn link_at(alloc: Global, tokens: &mut Tokens) -> Result<Call, RefusedLine> {
     let inode = tokens.number()?;
     let directory = tokens.number()?;
     let name = path_in(alloc, tokens)?;
-    Ok(plain(
-        kinds::LINK_AT,
-        (directory, inode, 0),
-        name,
-        Vec::new(alloc),
-    ))
+    Ok(plain(kinds::LINK_AT, (directory, inode, 0), name, Vec::new(alloc)))
 }
 
 fn rename(alloc: Global, tokens: &mut Tokens) -> Result<Call, RefusedLine> {

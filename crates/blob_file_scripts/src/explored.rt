@@ -40,7 +40,10 @@ struct Leaf {
 
 /// Whether a line is one of words or of a seed.
 fn is_generator(line: &[u8]) -> bool {
-    let start = line.iter().position(|byte| *byte != b' ').unwrap_or(line.len());
+    let start = line
+        .iter()
+        .position(|byte| *byte != b' ')
+        .unwrap_or(line.len());
     let text = &line[start.min(line.len())..];
     text.starts_with(b"words ") || text.starts_with(b"seed ")
 }

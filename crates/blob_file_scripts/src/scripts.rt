@@ -149,7 +149,11 @@ impl Run {
     pub(crate) fn words_left(&self) -> Option<usize> {
         let files = self.files.as_ref()?;
         let ran = files.words_left();
-        if ran.status == DONE { Some(ran.len) } else { None }
+        if ran.status == DONE {
+            Some(ran.len)
+        } else {
+            None
+        }
     }
 }
 
