@@ -20,7 +20,7 @@ CRASHES, CALLS = 3, 150  # calls before each crash
 
 
 def names_and_bytes(root):
-    """Returns each path below a folder, with a slash after that of a folder, and the bytes of each file. A link's target isn't in the layer."""
+    """Returns each path below a folder, with a slash after that of a folder, and the bytes of each file. Links are empty in the layer."""
     found = {}
     for folder, folders, files in os.walk(os.fsencode(root)):
         for name in folders + files:
