@@ -16,11 +16,12 @@ from mount_calls import Mount, Random, check, counts, get, put, refusal  # noqa:
 from mounting import Failed  # noqa: E402
 
 PROGRAM, FILES = sys.argv[1:3]
+FOLDER = tempfile.TemporaryDirectory()  # removed at the end
 CRASHES, CALLS = 3, 150  # calls before each crash
 
 
 def names_and_bytes(root):
-    """Returns each path below a folder, with a slash after that of a folder, and the bytes of each file. A link's target isn't in the layer."""
+    """Returns each path below a folder, with a slash after that of a folder, and the bytes of each file. Links are empty in the layer."""
     found = {}
     for folder, folders, files in os.walk(os.fsencode(root)):
         for name in folders + files:
@@ -100,7 +101,7 @@ def crash(mount, crashes, trees):
 
 def random_run(seed, *options, settings=()):
     """Random calls, with crashes between them."""
-    crashes, trees, folder = [], [], tempfile.mkdtemp()
+    crashes, trees, folder = [], [], tempfile.mkdtemp(dir=FOLDER.name)
     path = os.path.join(folder, "a record")
     with Mount(PROGRAM, "--seed", str(seed), "--record", path, *options) as mount:
         calls = Random(seed, [mount.at])
@@ -146,7 +147,7 @@ for seed in range(int(sys.argv[2]), int(sys.argv[2]) + 6):
 
 def test_threads():
     """A program with six threads, which is killed at each crash."""
-    crashes, trees, path = [], [], os.path.join(tempfile.mkdtemp(), "record")
+    crashes, trees, path = [], [], os.path.join(tempfile.mkdtemp(dir=FOLDER.name), "record")
     with Mount(PROGRAM, "--profile", "btrfs", "--record", path) as mount:
         for number in range(CRASHES):
             mount.ask("crash-after 150")
@@ -171,7 +172,7 @@ def refused(mount, line):
 
 def test_commands():
     """When a record may begin, and where."""
-    folder = tempfile.mkdtemp()
+    folder = tempfile.mkdtemp(dir=FOLDER.name)
     path = f"{folder}/record"
     with Mount(PROGRAM) as mount:
         check("not on the mount", refused(mount, f"record {mount.at}/record") == "Resource deadlock avoided")
@@ -192,7 +193,7 @@ def test_commands():
 
 def test_full():
     """A record that can't be written stops with a whole line, and no call fails."""
-    path = os.path.join(tempfile.mkdtemp(), "record")
+    path = os.path.join(tempfile.mkdtemp(dir=FOLDER.name), "record")
     with Mount(PROGRAM, "--record", path) as mount:
         resource.prlimit(mount.daemon.pid, resource.RLIMIT_FSIZE, (400000, 400000))
         for number in range(20):
