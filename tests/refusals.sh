@@ -150,13 +150,27 @@ for script in "$top"/tests/refusals/*.script "$top/examples/FIRST.script"; do
     refuse_script "$script"
 done
 
+# is_one_explained: whether one call of `explain` was refused, and the others have the replies that they have without it. Its remarks
+# aren't compared.
+is_one_explained() {
+    mv "$work/right" "$work/explained"
+    "$program" <"$script" >"$work/right"
+    grep -v '^# ' "$work/out" >"$work/replies"
+    mv "$work/replies" "$work/out"
+    is_one_refused && was=0 || was=1
+    mv "$work/explained" "$work/right"
+    return "$was"
+}
+
 # `explain`: each request of the program refused in turn. Either it ends the program, which has written whole lines of the right
-# output from its start, or the output is that of a run without a refusal, with its pictures.
+# output from its start; or the output is that of a run without a refusal, with its pictures; or the reply to one call is the refusal.
 refuse_explain() {
     script=$1
+    rm -f "$work"/without.*
     "${program}_explain" <"$script" >"$work/right"
     ended=0
     same=0
+    told=0
     n=0
     while :; do
         n=$((n + 1))
@@ -166,6 +180,8 @@ refuse_explain() {
             ended=$((ended + 1))
         elif [ "$status" -eq 0 ] && [ ! -s "$work/err" ] && cmp -s "$work/right" "$work/out"; then
             same=$((same + 1))
+        elif [ "$status" -eq 0 ] && [ ! -s "$work/err" ] && is_one_explained; then
+            told=$((told + 1))
         else
             fail "explain of $script with request $n refused: status $status"
         fi
@@ -175,7 +191,7 @@ refuse_explain() {
     else
         fail "explain of $script with no request refused: status $status"
     fi
-    echo "refusals.sh: explain $(basename "$script"): $ended refusals ended it, $same changed nothing"
+    echo "refusals.sh: explain $(basename "$script"): $ended refusals ended it, $told are replies, $same changed nothing"
 }
 
 refuse_explain "$top/tests/refusals/kept.script"
