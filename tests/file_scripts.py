@@ -9,7 +9,7 @@ import subprocess
 import sys
 
 from files_model import PROFILES
-from files_random import SECTOR, SETTINGS, step, steps_of, tree
+from files_random import step, steps_of, tree
 
 from blobcrash import Files
 
@@ -34,7 +34,7 @@ def flat(found, above=""):
 def run(seed, profile):
     """A random program with faults and crashes. Returns its lines and the tree that it leaves."""
     chance = random.Random(seed)
-    with Files(profile=profile, settings=SETTINGS) as files:
+    with Files(0, profile=profile) as files:
         steps = steps_of(chance, 12, files)
     with Files(seed, profile=profile, settings=RATES) as files:
         for number, (word, *arguments) in enumerate(steps):
