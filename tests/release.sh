@@ -98,6 +98,12 @@ if [ -z "$all" ]; then
     for name in $(cd "$top/out" && ls -d blobcrash blobcrash_* libblobcrash.a libblobcrash.so); do
         [ ! -f "$top/out/$name.sum" ] || cp -p "$top/out/$name" "$top/out/$name.sum" "$copy/out"
     done
+    # What the gate said is in PROVED.
+    if [ -f "$top/out/gate.sums" ] && [ -f "$top/out/test/rt ci/log" ]; then
+        mkdir -p "$copy/out/test/rt ci"
+        cp "$top/out/gate.sums" "$copy/out/gate.sums"
+        cp "$top/out/test/rt ci/log" "$copy/out/test/rt ci/log"
+    fi
     one=
     ! has taskset || one='taskset -c 0'
     # shellcheck disable=SC2086,SC2016
