@@ -52,6 +52,8 @@ put 755 "$top/bindings/launcher.sh" "$to/bin/blobcrash"
 help_of_all ${tools:+"$(mount_help)"} >"$work/help"
 put 644 "$work/help" "$to/share/blobcrash/help"
 for header in "$top"/bindings/c/*.h; do
+    # What two tests share isn't installed.
+    [ "${header##*/}" != files_checks.h ] || continue
     put 644 "$header" "$to/include/blobcrash/${header##*/}"
 done
 put 644 "$top/out/libblobcrash.a" "$to/lib/libblobcrash.a"
