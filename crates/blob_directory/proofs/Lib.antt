@@ -1,4 +1,6 @@
 pub mod Journals
+pub mod Ranges
 pub mod Maps
 pub mod Sectors
+pub mod Walks
 pub mod Withins

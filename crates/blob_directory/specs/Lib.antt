@@ -1,4 +1,5 @@
 pub mod Names
 pub mod Tables
+pub mod Trees
 pub mod Sectors
 pub mod Profiles

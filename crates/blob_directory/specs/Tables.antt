@@ -2,7 +2,10 @@
 use Rattle.std.specs.Prelude.{◌≡◌, ℕ, true, List, [], ◌∷◌, Option, Some, None, is_some}
 use Rattle.std.specs.BTreeMap.{get_by}
 use Rattle.std.specs.Cmp.Lexicographic.{slice_cmp}
+use Rattle.std.specs.Global.{Global}
+use Rattle.std.specs.List.{Contains}
 use Rattle.std.specs.Ordering.{nat_cmp}
+use Rattle.std.specs.Prelude.{Vec}
 use Rattle.blob_directory.specs.declared.edit.Binding.{Binding}
 use Rattle.blob_directory.specs.declared.table.Table.{Table}
 use Rattle.blob_directory.specs.Names.{Edit, Names}
@@ -31,3 +34,7 @@ HasRoomFor table (c ∷ edit) = HasRoom table c.0 × HasRoomFor table edit
 -- room isn't lost
 abbrev pub KeepsRoom : Table → Table → Type 0
 KeepsRoom table table' = (e : List ℕ) → HasRoom table e → HasRoom table' e
+
+-- a list of names has this one, with this binding
+abbrev pub HasName : List (Vec ℕ Global × Binding) → List ℕ → Binding → Type 0
+HasName names name to = (n : Vec ℕ Global × Binding) × Contains names n × (n.0.items ≡ name) × (n.1 ≡ to)

@@ -10,8 +10,9 @@ use Rattle.blob_draws.specs.declared.selections.Selections.{Selections}
 use Rattle.blob_memory.specs.Store.{directory, durable}
 use Rattle.blob_faulty.specs.Keeps.{OverMemory}
 use Rattle.blob_faulty.specs.Wrapper.{inner_of, pending_of}
-use Rattle.blob_directory.specs.Names.{Names, Within}
+use Rattle.blob_directory.specs.Names.{Names}
 use Rattle.blob_directory.specs.Profiles.{names_told}
+use Rattle.blob_directory.specs.Trees.{Finds}
 use Rattle.blob_directory.specs.declared.profile.Keeps.{Keeps}
 use Rattle.blob_journal.specs.declared.journaled.Journaled.{Journaled}
 
@@ -32,10 +33,6 @@ store_of j = j.store
 
 abbrev pub generation_of : {R : Type 0} → Journaled R → ℕ
 generation_of j = j.journal.generation
-
--- what is found of the names that a journal gives
-pub record Finds (found told : Names) : Type 0 where
-  pub within : Within found told
 
 -- the journal has these bytes, and the names are those that a recovery finds by them
 pub record FindsNames {R : Type 0} (j : Journaled R) (keeps : Keeps) (names : Names) : Type 0 where

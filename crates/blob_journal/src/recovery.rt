@@ -47,7 +47,7 @@ impl<R: Rng + Drop> Journaled<R> {
         let (_, bytes) = Journal::open(self.alloc, &mut self.store, generation)?;
         let (names, kept) = kept_names(self.alloc, &bytes, keeps)?;
         let edits = self.kept_edits(&kept)?;
-        let tree = reached(self.alloc, &names, u64::MAX)?;
+        let tree = reached(self.alloc, &names)?;
         Ok((tree, edits))
     }
 

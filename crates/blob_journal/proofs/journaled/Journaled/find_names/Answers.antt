@@ -29,5 +29,5 @@ returns-clause-found g c =
     record {
       journal = c.in_ok-bytes.bytes.items;
       is = record { place = at; current = here; durable = sym (ap (λ (s : memory.Storage). durable s at) inner) ∙ found };
-      finds = record { within = c.in_ok-tree.ensures (names_told c.args.keeps c.in_ok-bytes.bytes.items) same };
+      finds = c.in_ok-tree.ensures.finds (names_told c.args.keeps c.in_ok-bytes.bytes.items) same;
     }
