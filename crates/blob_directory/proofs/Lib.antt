@@ -1,3 +1,5 @@
+pub mod Checkpoints
+pub mod Fitting
 pub mod Journals
 pub mod Ranges
 pub mod Maps

@@ -243,3 +243,16 @@ only_one x d h = All-contains (λ y. y ≡ x) (x ∷ []) d (All-cons (λ y. y �
 
 pub not_in_none : (xs : List ℕ) (d : ℕ) → xs ≡ [] → Contains xs d → ⊥
 not_in_none xs d e h = All-contains (λ y. ⊥) [] d (All-nil (λ y. ⊥)) (subst (λ l. Contains l d) e h)
+
+-- what was found is found again
+module _ (again found told : Names) (f : Finds found told) (g : Finds again found) where
+  again_at : (e : List ℕ) (x y : Option Binding) → found e ≡ x → again e ≡ y → again e ≡ found e
+  again_at e (Some to) y h a =
+      let at = (f.within e to h).1 in
+      all_names again found g (record { once = λ p q d _ _. f.once p q d; root = λ p _. f.root p }) e
+      (record { directory = at.directory; name = at.name; is = at.is; reached = f.directories at.directory at.reached })
+  again_at e None None h a = a ∙ sym h
+  again_at e None (Some to) h a = absurd (none_told to (sym h ∙ (g.within e to a).0))
+
+  pub found_again : Same again found
+  found_again e = again_at e (found e) (again e) refl refl

@@ -6,7 +6,7 @@ use Rattle.blob_directory.specs.declared.edit.Binding.{Binding}
 use Rattle.blob_directory.specs.declared.edit.Kind.{Kind}
 use Rattle.blob_directory.specs.declared.edit.Kind.TheVariants.{File, Directory}
 use Rattle.blob_directory.specs.declared.tree.Tree.{Tree}
-use Rattle.blob_directory.specs.Names.{IsReached, Names, Reached, Within, changed, directory_at, entry, file}
+use Rattle.blob_directory.specs.Names.{IsReached, Names, Reached, Same, Within, changed, directory_at, entry, file}
 use Rattle.blob_directory.specs.Tables.{bound}
 
 -- Of the names that are told, those that the root reaches are found, but a directory is found by one name, and the root by none.
@@ -25,6 +25,10 @@ pub record NamesOnce (told : Names) : Type 0 where
 -- then exactly the names that the root reaches are found
 abbrev pub FindsAll : Type 0
 FindsAll = (found told : Names) → Finds found told → NamesOnce told → (e : List ℕ) → IsReached told e → found e ≡ told e
+
+-- what is found of names that were found is what was found
+abbrev pub FindsAgain : Type 0
+FindsAgain = (again found told : Names) → Finds found told → Finds again found → Same again found
 
 abbrev pub has_directory : Tree → ℕ → Bool
 has_directory tree d = is_some (get nat_cmp tree.directories d)

@@ -1,5 +1,6 @@
 //! The names that a crash leaves, from the sectors of a journal.
 ghost use Rattle.std.specs.Prelude.{◌≡◌, ◌&&◌, ◌||◌, ℕ, nat_eq, not, None, IfOk, OnOk};
+ghost use Rattle.blob_directory.specs.Checkpoints.{FitSectors};
 ghost use Rattle.blob_directory.specs.Names.{Names, Same, entry};
 ghost use Rattle.blob_directory.specs.Profiles.{counts, is_prefix, names_told, with_found};
 ghost use Rattle.blob_directory.specs.Sectors.{found_in};
@@ -98,7 +99,8 @@ pub fn kept_names(
     bytes: &[u8],
     keeps: Keeps,
 ) -> Result<(Table, Vec<bool>), AllocError>
-    ensures { IfOk result (λ r. Same (bound r.0) (names_told keeps bytes.now)) }
+    ensures names { IfOk result (λ r. Same (bound r.0) (names_told keeps bytes.now)) }
+    ensures sectors { IfOk result (λ r. FitSectors (bound r.0)) }
 {
     let mut names = Table::new(alloc);
     let mut kept = Vec::new(alloc);
