@@ -1,32 +1,19 @@
 //! The recovery: names from the journal, and a new journal.
 ghost use Rattle.std.specs.Prelude.{◌≡◌, IfOk, OnOk, OnErr};
+ghost use Rattle.blob_directory.specs.Checkpoints.{FitsJournal};
 ghost use Rattle.blob_directory.specs.Tables.{bound};
 
 use crate::journal::Journal;
 use crate::journaled::Journaled;
 use crate::store::{JOURNALS, remove};
 use blob_base::Error;
-use blob_directory::edit::{Edit, entry_of};
+use blob_directory::checkpoint::checkpoint;
 use blob_directory::profile::Keeps;
-use blob_directory::sector::encode;
 use blob_directory::tree::{Tree, kept_names, reached};
 use blob_faulty::Config;
 use rand_core::Rng;
-use std::alloc::{AllocError, Global};
+use std::alloc::AllocError;
 use std::collections::BTreeMap;
-
-/// Returns the bytes of a journal that settles the names of a tree. Fails only if memory runs out.
-fn checkpoint(alloc: Global, tree: &Tree) -> Result<Vec<u8>, AllocError> {
-    let mut bytes = Vec::new(alloc);
-    for (directory, _) in &tree.directories {
-        for (name, to) in &tree.names.names_in(*directory)? {
-            let entry = entry_of(alloc, *directory, name)?;
-            let sector = encode(alloc, &Edit::one(entry, Some(*to)), true)?;
-            bytes.extend_from_slice(&sector)?;
-        }
-    }
-    Ok(bytes)
-}
 
 impl<R: Rng + Drop> Journaled<R> {
     ghost use Rattle.blob_journal.specs.Journals.{FindsNames};
@@ -40,6 +27,7 @@ impl<R: Rng + Drop> Journaled<R> {
     /// `Memory`.
     pub fn find_names(&mut self, keeps: Keeps) -> Result<(Tree, Vec<bool>), Error>
         ensures found { IfOk result (λ r. FindsNames self.old keeps (bound r.0.names)) }
+        ensures fits { IfOk result (λ r. FitsJournal r.0) }
         ensures names { KeepsTable self.old self.new }
     {
         self.store.set_config(Config::default());
