@@ -16,7 +16,7 @@ use std::alloc::AllocError;
 use std::collections::BTreeMap;
 
 impl<R: Rng + Drop> Journaled<R> {
-    ghost use Rattle.blob_journal.specs.Journals.{FindsNames};
+    ghost use Rattle.blob_journal.specs.Journals.{FindsNames, GivesNames};
     ghost use Rattle.blob_journal.specs.Keeping.{KeepsTable, table_in};
 
     /// Returns the names that the journal gives and the root reaches, and of each edit that nothing settled whether the
@@ -53,9 +53,10 @@ impl<R: Rng + Drop> Journaled<R> {
     ///
     /// # Errors
     ///
-    /// `Memory`, `OffsetOverflow` if no generation is left. Calls see the names of before, and the old journal is there.
+    /// `Memory`; `OffsetOverflow` if no generation is left, or the next one has bytes, which no recovery leaves. Calls see the names of before, and the old journal is there.
     pub fn renew(&mut self, tree: Tree) -> Result<BTreeMap<u64, u64>, Error>
         ensures done { OnOk result (table_in self.new ≡ tree.names) }
+        ensures gives { OnOk result (FitsJournal tree → GivesNames self.new) }
         ensures refused { OnErr result (KeepsTable self.old self.new) }
     {
         let old = self.journal.generation;
@@ -63,7 +64,10 @@ impl<R: Rng + Drop> Journaled<R> {
             return Err(Error::OffsetOverflow);
         };
         let bytes = checkpoint(self.alloc, &tree)?;
-        let (mut journal, _) = Journal::open(self.alloc, &mut self.store, generation)?;
+        let (mut journal, found) = Journal::open(self.alloc, &mut self.store, generation)?;
+        if !found.is_empty() {
+            return Err(Error::OffsetOverflow);
+        }
         journal.begin(&mut self.store, &bytes)?;
         let Tree {
             names,

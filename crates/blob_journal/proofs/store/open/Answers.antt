@@ -16,3 +16,6 @@ returns-clause-found g c = λ o is. (c.accepted_opens.ensures.goes_on _ _ _ _ _ 
 
 pub returns-clause-kept : goal.returns-clause-kept
 returns-clause-kept g c = λ o h. opened_keeps _ _ _ _ _ _ _ _ _ _ _ c.in_ok-blob.ensures.opened o h
+
+pub returns-clause-durable : goal.returns-clause-durable
+returns-clause-durable g c = c.accepted_opens.ensures.durable _ _ _ _ _ _ _ _ _ _ _ c.in_ok-blob.ensures.opened
