@@ -197,7 +197,7 @@ among_keys (e ∷ es) d h = ⊎_elim
     (λ n. inr (among_keys es d (ap is_some (sym (cond-false (is_eq (nat_cmp d e.0)) (Some e.1) (lookup (is_at (nat_cmp d)) es) n)) ∙ h)))
     (cases_Bool (is_eq (nat_cmp d e.0)))
 
--- the bytes are sectors of the names, but for those in directories that are left
+-- the bytes are sectors of the names, except those in directories that are left
 pub record Written (names : Names) (has : ℕ → Bool) (left : List (ℕ × ℕ)) (bytes : List ℕ) : Type 0 where
   pub list : Bindings
   pub is : bytes ≡ settled_sectors list

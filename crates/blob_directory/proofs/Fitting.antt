@@ -1,4 +1,4 @@
--- The names that a journal gives have room in its sectors.
+-- Each name that a journal gives fits in a sector.
 use Rattle.std.proofs.Common.{◌≡◌, ℕ, zero, suc, ◌+◌, ◌<◌, ◌≤◌, ◌/◌, ◌^◌, ◌∷◌, [], ◌++◌, List, Bool, true, false, ◌||◌, ◌&&◌, not, Option, None, Some, length, take, drop, get_or, refl, sym, ap, subst, ◌∙◌, ⊎_elim, arith, lit<, if◌then◌else◌, nat_eq, nat_lt, nat_le, length-drop}
 use Rattle.std.specs.List.{All}
 use Rattle.std.specs.Cmp.Lexicographic.{bytes_decides}
@@ -58,8 +58,8 @@ change_fits bytes all short has =
     let n = number_told bytes in
     let size = tests n (length bytes) has in
     let entry = take n (drop 17 bytes) in
-    let room : n ≤ length (drop 17 bytes) = omega (arith, size.1, length-drop 17 bytes) in
-    let long : length entry ≡ n = length-take-le n (drop 17 bytes) room in
+    let enough : n ≤ length (drop 17 bytes) = omega (arith, size.1, length-drop 17 bytes) in
+    let long : length entry ≡ n = length-take-le n (drop 17 bytes) enough in
     let whole : length (edit_bytes (change_told bytes ∷ [])) ≡ 17 + length entry = ap length (one_bytes (change_told bytes)) ∙ length-change_bytes (change_told bytes) in (
       record {
         named = omega (arith, size.0, long);
@@ -69,7 +69,7 @@ change_fits bytes all short has =
       omega (arith, size.1, long, whole),
     )
 
--- each change of an edit alone has room
+-- each change of an edit fits in a sector of its own
 abbrev FitEdit : Edit → Type 0
 FitEdit [] = Unit {0}
 FitEdit (c ∷ edit) = FitsSector (c ∷ []) × FitEdit edit
@@ -141,7 +141,7 @@ all_fit : (a : Names) (edits : List Edit) → FitSectors a → FitEdits edits �
 all_fit a [] before fits = before
 all_fit a (edit ∷ edits) before fits = all_fit (edited a edit) edits (edited_fits a edit before fits.0) fits.1
 
--- a sector has room for each name that a journal gives
+-- each name that a journal gives fits in a sector
 pub told_fits : (keeps : Keeps) (journal : List ℕ) → All (λ b. b < 256) journal → FitSectors (names_told keeps journal)
 told_fits keeps journal all =
     all_fit (λ _. None) (edits_of keeps journal) (λ e to h. absurd (let none : None ≡ Some to = h in cc))

@@ -38,7 +38,7 @@ Ascends (e ∷ es) = ((k : List ℕ) (v : Option Binding) → Among es k v → s
 abbrev pub IsFrom : List ℕ → List Cell → Type 0
 IsFrom start es = (k : List ℕ) (v : Option Binding) → Among es k v → is_gt (slice_cmp nat_cmp start k) ≡ false
 
--- what a look-up finds is there
+-- a look-up finds one of the cells
 pub among_found : (k : List ℕ) (v : Option Binding) (es : List Cell) → lookup (is_at (λ (n : Vec ℕ Global). slice_cmp nat_cmp k n.items)) es ≡ Some v → Among es k v
 among_found k v [] h = absurd (cc)
 among_found k v (e ∷ es) h = ⊎_elim
@@ -80,7 +80,7 @@ module _ (p : Cell → Bool) where
       (λ n. inr (among_all k v es (subst (λ l. Among l k v) (cond-false (p e) (e ∷ filter p es) (filter p es) n) h)))
       (cases_Bool (p e))
 
-  -- a filter keeps a cell whose key passes
+  -- a filter keeps a cell if its key passes
   pub among_filter : (k : List ℕ) (v : Option Binding) → ((e : Cell) → e.0.items ≡ k → p e ≡ true) → (es : List Cell) → Among es k v → Among (filter p es) k v
   among_filter k v passes [] h = h
   among_filter k v passes (e ∷ es) (inl here) = subst (λ l. Among l k v) (sym (cond-true (p e) (e ∷ filter p es) (filter p es) (passes e here.0))) (inl here)
@@ -157,7 +157,7 @@ name_new xs ys n name to pushed is bound = subst (λ l. HasName l name to) (sym 
 pub same_rest : (start a b : List ℕ) → start ++ a ≡ start ++ b → a ≡ b
 same_rest start a b e = sym (drop-append_seam start a) ∙ ap (drop (length start)) e ∙ drop-append_seam start b
 
--- behind a key that doesn't begin with the prefix no key does
+-- after a key that doesn't begin with the prefix no key does
 pub none_behind : (start : List ℕ) (t u : List Cell) (e : Cell) (name : List ℕ) (v : Option Binding) → t ≡ e ∷ u → Ascends t → IsFrom start t
     → ((rest : List ℕ) → e.0.items ≡ start ++ rest → ⊥) → Among t (start ++ name) v → ⊥
 none_behind start t u e name v more ascends begins other h =
@@ -167,7 +167,7 @@ none_behind start t u e name v more ascends begins other h =
     (λ behind. let r = before_prefix start e.0.items name (begins e.0.items e.1 (subst (λ l. Among l e.0.items e.1) (sym more) (inl (refl, refl)))) (up.0 (start ++ name) v behind) in other r.0 r.1)
     (subst (λ l. Among l (start ++ name) v) more h)
 
--- a test has told that a key doesn't begin with these bytes
+-- by a test a key doesn't begin with these bytes
 pub not_prefixed : (start key : List ℕ) → pointwise nat_eq (take (length start) key) start ≡ false → (rest : List ℕ) → key ≡ start ++ rest → ⊥
 not_prefixed start key e rest is =
     let front : take (length start) key ≡ start = ap (take (length start)) is ∙ take-append_seam start rest in

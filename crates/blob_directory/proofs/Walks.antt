@@ -41,7 +41,7 @@ reached_grows : (a b : Names) (d : ℕ) → ((e : List ℕ) (to : Binding) → a
 reached_grows a b _ more Root = Root
 reached_grows a b _ more (Below d name i there has) = Below d name i (reached_grows a b d more there) (more (entry d name) (directory_at i) has)
 
--- what is seen is reached by the names that are told
+-- each directory that was seen is reached by all names
 pub seen_reached : (told found : Names) (seen : ℕ → Bool) (d : ℕ) → Walked told found seen → seen d ≡ true → Reached told d
 seen_reached told found seen d w s = reached_grows found told d (λ e to h. (w.within e to h).0) (w.linked d s)
 

@@ -24,11 +24,11 @@ abbrev pub bindings_in : ℕ → List (Vec ℕ Global × Binding) → Bindings
 bindings_in directory [] = []
 bindings_in directory (n ∷ names) = (entry directory n.0.items, n.1) ∷ bindings_in directory names
 
--- a sector has room for each of these names
+-- each of these names fits in a sector
 abbrev pub FitSectors : Names → Type 0
 FitSectors names = (e : List ℕ) (to : Binding) → names e ≡ Some to → FitsSector ((e, Some to) ∷ [])
 
--- each name of a tree is in a directory that the tree has, and a sector has room for it
+-- each name of a tree is in a directory that the tree has, and fits in a sector
 pub record FitsJournal (tree : Tree) : Type 0 where
   pub places : HasPlaces tree
   pub sectors : FitSectors (bound tree.names)

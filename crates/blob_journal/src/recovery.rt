@@ -53,7 +53,8 @@ impl<R: Rng + Drop> Journaled<R> {
     ///
     /// # Errors
     ///
-    /// `Memory`; `OffsetOverflow` if no generation is left, or the next one has bytes, which no recovery leaves. Calls see the names of before, and the old journal is there.
+    /// `Memory`; `OffsetOverflow` if no generation is left, or the journal of the next one isn't empty, which no recovery
+    /// leaves. Calls see the names of before, and the old journal is there.
     pub fn renew(&mut self, tree: Tree) -> Result<BTreeMap<u64, u64>, Error>
         ensures done { OnOk result (table_in self.new ≡ tree.names) }
         ensures gives { OnOk result (FitsJournal tree → GivesNames self.new) }

@@ -14,7 +14,7 @@ invariant-loop l = record {
   closed : (d : ℕ) → has_directory l.tree d ≡ true → Contains l.next.items d ⊎ Closed (bound l.names) (bound l.tree.names) (has_directory l.tree) d;
 }
 
--- the same but for the directory that is visited, of which the names so far are kept
+-- the same, except for the directory that is visited: its names so far are kept
 abbrev pub invariant-loop-name : goal.invariant-loop-name
 invariant-loop-name l = record {
   walked : Walked (bound l.names) (bound l.tree.names) (has_directory l.tree);

@@ -1,4 +1,4 @@
-use Rattle.std.proofs.Common.{◌≡◌, ap, ◌∙◌}
+use Rattle.std.proofs.Common.{ap, ◌∙◌}
 use Rattle.blob_model.specs.Directory.{Directory, is_current}
 use Rattle.blob_memory.specs.Store.{directory, place}
 use Rattle.blob_faulty.specs.Wrapper.{inner_of, inside}

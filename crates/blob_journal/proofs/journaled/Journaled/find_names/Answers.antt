@@ -1,7 +1,7 @@
 use Rattle.std.proofs.Common.{◌≡◌, List, ℕ, Some, ap, ap₂, refl, sym, ◌∙◌}
 use Rattle.std.specs.Prelude.{codes}
 use Rattle.std.specs.Int.{w64, to_be_bytes}
-use Rattle.blob_model.specs.Directory.{Directory, current}
+use Rattle.blob_model.specs.Directory.{current}
 use Rattle.blob_model.specs.Places.{Place}
 use Rattle.blob_memory.specs.Store.{directory, durable, place}
 use Rattle.blob_memory.specs.declared.storage.Storage as memory
@@ -10,7 +10,6 @@ use Rattle.blob_faulty.specs.Wrapper.{inner_of, inside}
 use Rattle.blob_directory.specs.Names.{Same}
 use Rattle.blob_directory.specs.Profiles.{names_told}
 use Rattle.blob_directory.specs.Tables.{bound}
-use Rattle.blob_directory.specs.declared.table.Table.{Table}
 use Rattle.blob_journal.proofs.Currents.{current_of_name}
 use Rattle.blob_journal.proofs.journaled.Journaled.find_names.Goals as goal
 
