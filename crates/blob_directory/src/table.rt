@@ -1,8 +1,7 @@
 //! The names of all directories, as a table of entries.
-ghost use Rattle.std.specs.Prelude.{◌≡◌, ℕ, List, None, Some, All, IfOk, OnOk, OnErr};
+ghost use Rattle.std.specs.Prelude.{◌≡◌, None, Some, IfOk, OnOk, OnErr};
 ghost use Rattle.blob_directory.specs.Names.{Same, changed, edit_of, edited, entry};
-ghost use Rattle.blob_directory.specs.declared.edit.Binding.{Binding};
-ghost use Rattle.blob_directory.specs.Tables.{HasName, HasRoom, HasRoomFor, KeepsRoom, bound};
+ghost use Rattle.blob_directory.specs.Tables.{HasAll, HasOnly, HasRoom, HasRoomFor, KeepsRoom, bound};
 
 use crate::edit::{Binding, Edit, entry_of};
 use std::alloc::{AllocError, Global};
@@ -115,8 +114,8 @@ impl Table {
 
     /// Returns the names in a directory with their bindings, in the order of their bytes. Fails only if memory runs out.
     pub fn names_in(&self, directory: u64) -> Result<Vec<(Vec<u8>, Binding)>, AllocError>
-        ensures told { IfOk result (λ names. All (λ n. bound self.now (entry directory n.0.items) ≡ Some n.1) names.items) }
-        ensures all { IfOk result (λ names. (name : List ℕ) (to : Binding) → bound self.now (entry directory name) ≡ Some to → HasName names.items name to) }
+        ensures told { IfOk result (λ names. HasOnly (bound self.now) directory names.items) }
+        ensures all { IfOk result (λ names. HasAll (bound self.now) directory names.items) }
     {
         let start = directory.to_be_bytes();
         let mut names = Vec::new(self.alloc);

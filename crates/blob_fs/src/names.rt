@@ -1,9 +1,8 @@
 //! Names by directory: files are created, linked and unlinked, directories are made, removed and listed.
-ghost use Rattle.std.specs.Prelude.{◌≡◌, ◌∷◌, [], ℕ, List, All, None, Some, OnOk, OnErr, IfOk};
+ghost use Rattle.std.specs.Prelude.{◌≡◌, ◌∷◌, [], None, Some, OnOk, OnErr, IfOk};
 ghost use Rattle.blob_fs.specs.Files.{KeepsNames, MakesEdit, SameNames, fresh_inode, names_of};
 ghost use Rattle.blob_directory.specs.Names.{binds, directory_at, entry, file, frees};
-ghost use Rattle.blob_directory.specs.Tables.{HasName};
-ghost use Rattle.blob_directory.specs.declared.edit.Binding.{Binding};
+ghost use Rattle.blob_directory.specs.Tables.{HasAll, HasOnly};
 
 use crate::error::FsError;
 use crate::file_system::{Descriptor, File, FileSystem, LINKS_MAX};
@@ -226,8 +225,8 @@ impl<R: Rng + Drop> FileSystem<R> {
     ///
     /// `NotFound`, `NotDirectory`, `Memory`.
     pub fn list_at(&self, directory: u64) -> Result<Vec<(Vec<u8>, Binding)>, FsError>
-        ensures bound { IfOk result (λ names. All (λ n. names_of self.now (entry directory n.0.items) ≡ Some n.1) names.items) }
-        ensures all { IfOk result (λ names. (name : List ℕ) (to : Binding) → names_of self.now (entry directory name) ≡ Some to → HasName names.items name to) }
+        ensures only { IfOk result (λ names. HasOnly (names_of self.now) directory names.items) }
+        ensures all { IfOk result (λ names. HasAll (names_of self.now) directory names.items) }
     {
         if self.files.contains_key(&directory) {
             return Err(FsError::NotDirectory);

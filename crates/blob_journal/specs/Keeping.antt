@@ -1,9 +1,12 @@
 -- The names that calls see, and what calls leave of them.
-use Rattle.std.specs.Prelude.{◌≡◌}
+use Rattle.std.specs.Prelude.{◌≡◌, ℕ, ◌+◌, ◌*◌, List, false}
 use Rattle.blob_faulty.specs.Lends.{with_rng}
-use Rattle.blob_faulty.specs.Wrapper.{rng_of}
+use Rattle.blob_faulty.specs.Wrapper.{inside, rng_of}
+use Rattle.blob_memory.specs.Store.{live}
+use Rattle.blob_model.specs.Bytes.{write_live}
 use Rattle.blob_directory.specs.declared.table.Table.{Table}
 use Rattle.blob_directory.specs.Names.{Edit, Names, Same, edited}
+use Rattle.blob_directory.specs.Sectors.{sector_of}
 use Rattle.blob_directory.specs.Tables.{bound}
 use Rattle.blob_journal.specs.declared.journaled.Journaled.{Journaled}
 
@@ -34,3 +37,15 @@ SameBindings j j' = Same (names_in j) (names_in j')
 -- the names are those of before with this edit
 abbrev pub Edits : {R : Type 0} → Edit → Journaled R → Journaled R → Type 0
 Edits edit j j' = Same (names_in j') (edited (names_in j) edit)
+
+-- the bytes of the journal, as calls see them
+abbrev pub journal_bytes : {R : Type 0} → Journaled R → List ℕ
+journal_bytes j = live (inside j.journal.blob)
+
+-- how many sectors the journal has
+abbrev pub sectors_in : {R : Type 0} → Journaled R → ℕ
+sectors_in j = j.journal.sectors
+
+-- one write, of one more sector, which has this edit whole
+abbrev pub AddsSector : {R : Type 0} → Edit → Journaled R → Journaled R → Type 0
+AddsSector edit j j' = (journal_bytes j' ≡ write_live (journal_bytes j) (sectors_in j * 1024) (sector_of edit false)) × (sectors_in j' ≡ sectors_in j + 1)
