@@ -198,7 +198,7 @@ finds_same found a b same f =
 module _ (found told : Names) (f : Finds found told) (o : NamesOnce told) where
   one_of : (e : List ℕ) (i d : ℕ) → IsReached told e → told e ≡ Some (directory_at i) → d ≡ i → Reached found d → found e ≡ Some (directory_at i)
   one_of e i _ at h is Root = absurd (o.root e at (h ∙ ap (λ x. Some (directory_at x)) (sym is)))
-  one_of e i _ at h is (Below d name j there has) =
+  one_of e i _ at h is (Below d name j above has) =
       let named : found (entry d name) ≡ Some (directory_at i) = has ∙ ap (λ x. Some (directory_at x)) is in
       let t = f.within (entry d name) (directory_at i) named in
       ap found (o.once e (entry d name) i at t.1 h t.0) ∙ named
