@@ -1,5 +1,5 @@
 -- The names that the root reaches, as a tree has them.
-use Rattle.std.specs.Prelude.{◌≡◌, ℕ, List, Bool, true, false, ◌&&◌, Some, is_some, if◌then◌else◌}
+use Rattle.std.specs.Prelude.{◌≡◌, ℕ, List, Bool, true, false, ◌&&◌, ◌||◌, nat_eq, Some, is_some, if◌then◌else◌}
 use Rattle.std.specs.BTreeMap.{get}
 use Rattle.std.specs.Ordering.{nat_cmp}
 use Rattle.blob_directory.specs.declared.edit.Binding.{Binding}
@@ -40,6 +40,10 @@ HasPlaces tree = (e : List ℕ) (to : Binding) → bound tree.names e ≡ Some t
 abbrev pub is_directory : Kind → Bool
 is_directory File = false
 is_directory Directory = true
+
+-- whether the tree has a directory after one more name
+abbrev pub has_then : Tree → Binding → ℕ → Bool
+has_then tree to d = has_directory tree d || (is_directory to.kind && nat_eq to.inode d)
 
 -- the names with one more, unless it's a second one of a directory
 abbrev pub added : Tree → List ℕ → Binding → Names

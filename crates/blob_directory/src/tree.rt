@@ -5,7 +5,7 @@ ghost use Rattle.blob_directory.specs.Names.{Names, Same, entry};
 ghost use Rattle.blob_directory.specs.Profiles.{counts, is_prefix, names_told, with_found};
 ghost use Rattle.blob_directory.specs.Sectors.{found_in};
 ghost use Rattle.blob_directory.specs.Tables.{bound};
-ghost use Rattle.blob_directory.specs.Trees.{Finds, HasPlaces, added, has_directory, is_directory};
+ghost use Rattle.blob_directory.specs.Trees.{Finds, HasPlaces, added, has_directory, has_then, is_directory};
 
 use crate::edit::{Binding, Kind};
 use crate::profile::Keeps;
@@ -45,7 +45,7 @@ impl Tree {
     /// Adds a name. A directory that has a name already gets no other.
     fn add(&mut self, directory: u64, name: &[u8], to: Binding) -> Result<bool, AllocError>
         ensures names { OnOk result (Same (bound self.new.names) (added self.old (entry directory name.now) to)) }
-        ensures directories { OnOk result ((d : ℕ) → has_directory self.new d ≡ (has_directory self.old d || (is_directory to.kind && nat_eq to.inode d))) }
+        ensures directories { OnOk result ((d : ℕ) → has_directory self.new d ≡ has_then self.old to d) }
         ensures new { IfOk result (λ is_new. is_new ≡ (is_directory to.kind && not (has_directory self.old to.inode))) }
     {
         match to.kind {

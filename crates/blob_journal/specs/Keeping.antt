@@ -8,6 +8,7 @@ use Rattle.blob_directory.specs.declared.table.Table.{Table}
 use Rattle.blob_directory.specs.Names.{Edit, Names, Same, edited}
 use Rattle.blob_directory.specs.Sectors.{sector_of}
 use Rattle.blob_directory.specs.Tables.{bound}
+use Rattle.blob_journal.specs.declared.journal.Journal.{Journal}
 use Rattle.blob_journal.specs.declared.journaled.Journaled.{Journaled}
 
 -- the table of the names that calls see
@@ -38,14 +39,14 @@ SameBindings j j' = Same (names_in j) (names_in j')
 abbrev pub Edits : {R : Type 0} → Edit → Journaled R → Journaled R → Type 0
 Edits edit j j' = Same (names_in j') (edited (names_in j) edit)
 
--- the bytes of the journal, as calls see them
-abbrev pub journal_bytes : {R : Type 0} → Journaled R → List ℕ
-journal_bytes j = live (inside j.journal.blob)
+-- the bytes of a journal, as calls see them
+abbrev pub bytes_in : Journal → List ℕ
+bytes_in journal = live (inside journal.blob)
 
--- how many sectors the journal has
-abbrev pub sectors_in : {R : Type 0} → Journaled R → ℕ
-sectors_in j = j.journal.sectors
+-- the same after one write of one more sector, which has this edit whole
+abbrev pub with_sector : Journal → Edit → List ℕ
+with_sector journal edit = write_live (bytes_in journal) (journal.sectors * 1024) (sector_of edit false)
 
--- one write, of one more sector, which has this edit whole
+-- the journal has one more sector, of this edit
 abbrev pub AddsSector : {R : Type 0} → Edit → Journaled R → Journaled R → Type 0
-AddsSector edit j j' = (journal_bytes j' ≡ write_live (journal_bytes j) (sectors_in j * 1024) (sector_of edit false)) × (sectors_in j' ≡ sectors_in j + 1)
+AddsSector edit j j' = (bytes_in j'.journal ≡ with_sector j.journal edit) × (j'.journal.sectors ≡ j.journal.sectors + 1)

@@ -1,14 +1,13 @@
 //! The journal: a blob with one edit in each sector.
-ghost use Rattle.std.specs.Prelude.{◌≡◌, ◌+◌, ◌*◌, Some, true, false, codes, IfOk, OnOk};
+ghost use Rattle.std.specs.Prelude.{◌≡◌, ◌+◌, Some, true, codes, IfOk, OnOk};
 ghost use Rattle.std.specs.Int.{w64, to_be_bytes};
 ghost use Rattle.blob_model.specs.Directory.{current, is_current};
-ghost use Rattle.blob_model.specs.Bytes.{write_live};
 ghost use Rattle.blob_model.specs.Places.{Place};
 ghost use Rattle.blob_directory.specs.Names.{edit_of};
-ghost use Rattle.blob_directory.specs.Sectors.{sector_of};
-ghost use Rattle.blob_memory.specs.Store.{directory, durable, live, place};
+ghost use Rattle.blob_memory.specs.Store.{directory, durable, place};
 ghost use Rattle.blob_faulty.specs.Wrapper.{inner_of, inside};
 ghost use Rattle.blob_journal.specs.Currents.{BeginsAs, KeepsCurrent, SameDirectory};
+ghost use Rattle.blob_journal.specs.Keeping.{bytes_in, with_sector};
 
 use crate::store::{Handle, JOURNALS, Store, open, read_all};
 use blob_base::{Blob, Error, Probability, SectorSize, WriteOptions};
@@ -83,7 +82,7 @@ impl Journal {
         ensures place { place (inside self.new.blob) ≡ place (inside self.old.blob) }
         ensures generation { self.new.generation ≡ self.old.generation }
         ensures directory { SameDirectory store.old store.new }
-        ensures bytes { OnOk result (live (inside self.new.blob) ≡ write_live (live (inside self.old.blob)) (self.old.sectors * 1024) (sector_of (edit_of edit.now) false)) }
+        ensures bytes { OnOk result (bytes_in self.new ≡ with_sector self.old (edit_of edit.now)) }
         ensures sectors { OnOk result (self.new.sectors ≡ self.old.sectors + 1) }
         ensures sector { IfOk result (λ sector. sector ≡ self.old.sectors) }
     {
