@@ -31,6 +31,8 @@ struct disk {
 /* What a crash kept of the writes for which it drew, and of the changes of names that nothing had settled. */
 struct disk_crash {
     uint64_t writes, kept_bytes, lost_bytes, edits, kept_edits;
+    /* The writes and changes for which it drew and kept something. Of a change that follows a lost one a profile may keep nothing. */
+    uint64_t kept_draws;
 };
 
 /*

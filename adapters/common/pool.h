@@ -4,9 +4,11 @@
 
 #include "driver.h"
 
+enum { POOL_MODE = 96 };
+
 /* What the lives of a mode came to. */
 struct pool_outcome {
-    const char *mode;
+    char mode[POOL_MODE];
     uint64_t lives, counts[DRIVER_COUNTS];
     /* Of the lives with a finding, in order; malloc'd. */
     uint64_t *seeds;
