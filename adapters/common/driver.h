@@ -53,7 +53,7 @@ struct driver {
     int (*explore)(const char *const *modes, size_t modes_len);
 };
 
-/* Does what the arguments say. Returns an exit status. Each life is in a child process, but that of `--seed` in this one. */
+/* Does what the arguments say. Returns an exit status. Each life is in a child process, that of `--seed` in this one. */
 int driver_main(const struct driver *driver, int argc, char **argv);
 
 #ifdef __cplusplus

@@ -15,7 +15,7 @@ struct pool_outcome {
     size_t seeds_len;
 };
 
-/* The seeds from `first` on, in each mode, in so many processes. */
+/* The seeds from `first` on, in each mode, in `jobs` processes. */
 struct pool_work {
     const struct driver *driver;
     struct pool_outcome *outcomes;

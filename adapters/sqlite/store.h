@@ -14,7 +14,7 @@ enum { LONGEST_NAME = 512 };
 
 struct memory;
 
-/* What the connections of this process share of a file that is open, beside its bytes: its locks and shared memory. */
+/* What the connections of this process share of an open file, apart from its bytes: locks and shared memory. */
 struct node {
     struct node *next;
     uint64_t inode;

@@ -11,7 +11,7 @@
 /* A crash makes a choice for each sector of an unsynced write and for each change of names. So many of one crash are explored at most. */
 enum { MOST_CHOICES = 20, MOST_PREAMBLE = 16 + 4 * 2 * MOST_CHOICES + WORDS_PREAMBLE };
 
-static const char *const default_names[] = {"delete-full", "truncate-full", "persist-full", "wal-full"};
+static const char *const default_names[] = {"delete-extra", "truncate-full", "persist-full", "wal-full"};
 
 /* What was found after crashes. */
 struct findings {
