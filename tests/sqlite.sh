@@ -121,6 +121,12 @@ if [ "$(sed -n 's/^#define SQLITE_VERSION  *"\(.*\)"/\1/p' "$(echo '#include <sq
     while read -r seed mode; do
         check "a fault of SQLite 3.40.1: $mode, seed $seed" run 1 "$crash" --seed "$seed" "$mode"
     done <"$work/faults"
+    for profile in ext4 xfs btrfs posix; do
+        check "a header that is torn on $profile" run 0 "$crash" --seed 163 "persist-full-bytes-$profile"
+        check 'damages the database' grep -q '^crash 7: corrupt' "$work/out"
+        check "a deletion that is not durable on $profile" run 0 "$crash" --seed 1 "delete-full-$profile"
+        check 'loses a commit' grep -q '1 acknowledged transactions are lost' "$work/out"
+    done
 else
     echo 'sqlite.sh: the seeds of docs/SQLITE.md are of SQLite 3.40.1, which this is not'
 fi
