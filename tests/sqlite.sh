@@ -143,6 +143,9 @@ export ASAN_OPTIONS=allocator_may_return_null=1
 # shellcheck disable=SC2086
 check 'the tests of the VFS are built' run 0 $compiler $flags -o "$work/test_vfs" adapters/sqlite/test_vfs.c $vfs "$archive" -lsqlite3
 check 'the tests of the VFS' run 0 "$work/test_vfs"
+# shellcheck disable=SC2086
+check 'the tests of locks are built' run 0 $compiler $flags -o "$work/test_locks" adapters/sqlite/test_locks.c $vfs "$archive" -lsqlite3
+check "locks and shared memory are those of SQLite's own VFS" run 0 "$work/test_locks"
 echo 'int main(void) { return 0; }' >"$work/empty.c"
 # shellcheck disable=SC2086
 if run 0 $compiler $sanitize -o "$work/empty" "$work/empty.c" && run 0 "$work/empty"; then
