@@ -43,8 +43,9 @@ void words_write_setting(const char *tear, const char *fails, uint64_t *draws, c
     static const struct {
         const char *tear, *rate, *mode;
     } settings[] = {
-        {"none", "0 1", "prefix"},       {"all", "1 1", "prefix"},         {"whole", NULL, "sectors 9223372036854775807"},
-        {"prefix", NULL, "prefix"},      {"sectors512", NULL, "sectors 512"}, {"sectors4096", NULL, "sectors 4096"},
+        {"none", "0 1", "prefix"},           {"all", "1 1", "prefix"},
+        {"whole", NULL, "sectors 9223372036854775807"}, {"prefix", NULL, "prefix"},
+        {"sectors512", NULL, "sectors 512"}, {"sectors4096", NULL, "sectors 4096"},
         {"bytes", NULL, "subset"},
     };
     const char *rate = rates[random_below(draws, 3)], *prefix = prefixes[random_below(draws, 3)];

@@ -8,7 +8,7 @@
 #include <stdlib.h>
 #include <string.h>
 
-/* A crash makes a choice for each sector of an unsynced write and for each change of names. So many of one crash are explored at most. */
+/* A crash makes a choice for each sector of an unsynced write and for each change of names. This is the most that is explored. */
 enum { MOST_CHOICES = 20, MOST_PREAMBLE = 16 + 4 * 2 * MOST_CHOICES + WORDS_PREAMBLE };
 
 static const char *const default_names[] = {"delete-extra", "truncate-full", "persist-full", "wal-full"};
