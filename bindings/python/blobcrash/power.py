@@ -69,6 +69,10 @@ class Supply:
         self._spend(True)
         return self._layer.write(handle, offset, data, sync)
 
+    def state(self, images: Any) -> Any:
+        """What follows depends on, right after a restart."""
+        return self._left, self._layer.state(images)
+
     def __getattr__(self, name: str) -> Any:
         return getattr(self._layer, name)
 
