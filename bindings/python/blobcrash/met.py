@@ -9,7 +9,7 @@ from typing import Any, Dict, Iterable, List, Set, Tuple
 from .foreign import DONE, E_BLOB_MISSING, NO_ROOM, Ran, Session
 from .grammar import unhex
 
-# Where a run is after a restart, and what follows depends on.
+# What the rest of a run depends on after a restart.
 State = Tuple[Any, ...]
 # Each state that a run came to, and the choices by which it did.
 Met = Dict[State, State]
