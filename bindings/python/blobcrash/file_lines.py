@@ -3,6 +3,7 @@
 from __future__ import annotations
 
 import re
+from functools import lru_cache
 from typing import Any, Dict, List, NamedTuple, Tuple
 
 from .errors import BadLine
@@ -62,9 +63,10 @@ class FileLine(NamedTuple):
 
 def is_setting(line: str) -> bool:
     """Whether a line is a setting."""
-    return line.split()[:1] != [] and line.split()[0] in _SETTINGS
+    return line.split(None, 1)[0] in _SETTINGS
 
 
+@lru_cache(maxsize=4096)
 def file_line(line: str) -> FileLine:
     """The call of a line that is no comment and no setting. Raises `BadLine`."""
     tokens = _tokens(line)

@@ -139,10 +139,10 @@ class CrashStates:
         for line in self._lines[:count]:
             if not line.startswith("#"):
                 session.call(line)
-                if session.words_left() == 0:
-                    session.close()
-                    return session, None
-        return session, len(words) - session.words_left()
+        left = session.words_left()
+        if left == 0:
+            session.close()
+        return session, len(words) - left if left else None
 
 
 class _Crash:
