@@ -1,6 +1,6 @@
 #!/bin/sh
 # Tests of explorations of code: in C (bindings/c/explore.c, a log with power losses in explore_log.c, and programs on files in
-# explore_files.c), in Python (tests/explore_bodies.py, explore_bounds.py), and the log of examples/log.py over
+# explore_files.c), in Python (tests/explore_bodies.py, explore_bounds.py, explore_met.py), and the log of examples/log.py over
 # every outcome of small runs, with planted bugs (tests/explore_log.py). The last line is `N passed, M failed`.
 top=$(CDPATH='' cd -- "$(dirname -- "$0")/.." && pwd -P)
 # shellcheck source=tests/counting.sh
@@ -69,6 +69,7 @@ python=$(with_distributed)
 export PYTHONDONTWRITEBYTECODE=1
 add "$python" "$top/tests/explore_bodies.py"
 add "$python" "$top/tests/explore_bounds.py"
+add "$python" "$top/tests/explore_met.py"
 add "$python" "$top/tests/explore_log.py"
 
 # The example finds nothing in the log, and a lost record if the log forgets its sync.

@@ -73,8 +73,9 @@ def records_or_zeros(data):
     return records, end
 
 
-def life(store, kind, records):
-    """One log: appends until one fails, a crash, and a recovery. What a recovery found is found again."""
+def life(store, kind, records, expects=False):
+    """One log: appends until one fails, a crash, and a recovery. What a recovery found is found again. Returns it. With `expects` the
+    restarts say what is expected."""
     log = None
     try:
         log = kind(store)
@@ -83,10 +84,11 @@ def life(store, kind, records):
     except (Injected, PowerLoss):
         pass
     acknowledged, unsure = ([], None) if log is None else (log.acknowledged, log.unsure)
-    found = store.recover(recovered, store, kind)
+    found = store.recover(recovered, store, kind, expecting=(acknowledged, unsure) if expects else None)
     check(acknowledged, unsure, found)
-    if store.recover(recovered, store, kind) != found:
+    if store.recover(recovered, store, kind, expecting=found if expects else None) != found:
         raise Broken("a second recovery finds other records")
+    return tuple(found)
 
 
 def recovered(store, kind):
