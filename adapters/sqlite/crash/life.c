@@ -129,13 +129,13 @@ struct view {
     uint64_t hash;
 };
 
-/* Sometimes lets the connection that isn't in use begin to read, which needs a write-ahead log: then the other can write. */
+/* Sometimes lets the connection that isn't in use begin to read. Without a write-ahead log that is in the way of a COMMIT. */
 static void begin_reading(struct life *life, struct view *view) {
     *view = (struct view){0};
     if (!life->mode->has_two_connections) return;
     struct database *other = &life->connections[random_below(&life->draws, 2)];
     life->database = &life->connections[other == &life->connections[0]];
-    if (strcmp(life->mode->journal, "wal") != 0 || random_below(&life->draws, 3) != 0) return;
+    if (random_below(&life->draws, 3) != 0) return;
     *view = (struct view){.reader = other, .current = history.current};
     view->code = database_run(other, "BEGIN");
     if (!view->code) view->code = database_look(other, &view->attempt, &view->hash);
@@ -161,8 +161,9 @@ static enum step transact(struct life *life) {
     begin_reading(life, &view);
     int code = random_below(&life->draws, 40) ? work_transact(life->database, &history, &life->draws, &in_commit)
                                               : work_maintain(life->database, &life->draws);
-    life->counts[COMMITS] += history.last > last && history.attempts[history.last].is_acknowledged;
     if (end_reading(life, &view) == DAMAGED) return DAMAGED;
+    if (in_commit && (code & 0xff) == SQLITE_BUSY) code = work_commit(life->database, &history, &in_commit);
+    life->counts[COMMITS] += history.last > last && history.attempts[history.last].is_acknowledged;
     if (blobcrash_vfs_is_off()) {
         life->counts[IN_COMMIT] += in_commit;
         return OFF;
