@@ -1,6 +1,6 @@
 /* splitmix64 */
-#ifndef CRASH_RANDOM_H
-#define CRASH_RANDOM_H
+#ifndef COMMON_RANDOM_H
+#define COMMON_RANDOM_H
 
 #include <stdint.h>
 
