@@ -33,7 +33,7 @@ alike_in_slot None len index c whole fits j low = absurd whole
 alike_in_slot (Some (Prefix, rate)) len index c whole fits j low = absurd whole
 alike_in_slot (Some (Subset, rate)) len index c whole fits j low = absurd whole
 alike_in_slot (Some (Sectors size, rate)) len index c whole fits j low =
-    fits whole.0 j 0 low (omega (arith, low)) (one_sector len size index j whole.1 low ∙ sym (one_sector len size index 0 whole.1 (omega (arith, low))))
+    fits whole.0 j 0 low (omega (arith, low)) (one_sector len size index j whole.2 low ∙ sym (one_sector len size index 0 whole.2 (omega (arith, low))))
 
 -- a test that passed still does, if it is at another index or the put bytes pass it
 pub passes_put : (k : Retained) (len index : ℕ) (b x y : List ℕ) (c : ℕ → Bool) → length b ≡ len → KeepsSlotsWhole k len → FitsRetained k (index * len) (length b) c → y ≡ overlay_by x (index * len) b c →

@@ -44,12 +44,16 @@ pub record Passes {R : Type 0} (r : Records) (w : OverMemory R) (i : ℕ) (test 
 abbrev pub AreOpen : {R : Type 0} → Records → OverMemory R → Type 0
 AreOpen r w = Passes r w 0 (λ _. true)
 
--- a sector is one slot or several, so a crash keeps or loses a slot whole
+-- a sector is one slot or several
+abbrev pub AreSlots : PartialWriteMode → ℕ → Type 0
+AreSlots Prefix len = ⊥
+AreSlots Subset len = ⊥
+AreSlots (Sectors size) len = (0 < size) × (0 < len) × (size % len ≡ 0)
+
+-- some bytes of unsynced writes may survive, and only in such sectors, so a slot survives whole or not at all
 abbrev pub KeepsSlotsWhole : Option (PartialWriteMode × Rate) → ℕ → Type 0
 KeepsSlotsWhole None len = ⊥
-KeepsSlotsWhole (Some (Prefix, rate)) len = ⊥
-KeepsSlotsWhole (Some (Subset, rate)) len = ⊥
-KeepsSlotsWhole (Some (Sectors size, rate)) len = (0 < size) × (size % len ≡ 0)
+KeepsSlotsWhole (Some kept) len = AreSlots kept.0 len
 
 abbrev pub WritesSlotsWhole : Config → ℕ → Type 0
 WritesSlotsWhole config len = KeepsSlotsWhole (retention config.write_rate) len

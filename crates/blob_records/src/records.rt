@@ -1,8 +1,8 @@
 //! Records of one length in one blob, each in its slot.
-ghost use Rattle.std.specs.Prelude.{◌≡◌, ◌≢◌, ◌<◌, ℕ, List, OnOk, OnErr, IfOk, length};
+ghost use Rattle.std.specs.Prelude.{◌≡◌, ◌≢◌, ◌↔◌, ℕ, IsTrue, List, OnOk, OnErr, IfOk, length};
 ghost use Rattle.blob_header.specs.Refusals.{IsMemory};
 ghost use Rattle.blob_faulty.specs.Wrapper.{config_of};
-ghost use Rattle.blob_records.specs.Records.{AreOpen, FindsNoMore, FindsRead, FindsReadFrom, FindsRecords, PutsRecord, SameRecords, StillPasses, WritesSlotsWhole, len_of, place_of, record_at};
+ghost use Rattle.blob_records.specs.Records.{AreOpen, AreSlots, FindsNoMore, FindsRead, FindsReadFrom, FindsRecords, PutsRecord, SameRecords, StillPasses, WritesSlotsWhole, len_of, place_of, record_at};
 
 use blob_base::laws::opens::{accepted_opens, numbers_are_given};
 use blob_base::{Blob, Error, Storage, WriteOptions};
@@ -10,6 +10,7 @@ use blob_faulty::laws::current_handles::{found, sizes};
 use blob_faulty::laws::fits::writes;
 use blob_faulty::laws::leaves;
 use blob_faulty::laws::names::opens;
+use blob_faulty::{Config, PartialWriteMode};
 use rand_core::Rng;
 use std::alloc::Global;
 
@@ -25,6 +26,27 @@ pub struct Records {
     alloc: Global,
     blob: Handle,
     len: u64,
+}
+
+/// Returns whether a sector is one slot or several.
+fn is_slots(mode: PartialWriteMode, len: u64) -> bool
+    ensures { IsTrue result ↔ AreSlots mode len }
+{
+    match mode {
+        PartialWriteMode::Prefix | PartialWriteMode::Subset => false,
+        PartialWriteMode::Sectors(size) => len > 0 && size.get() % len == 0,
+    }
+}
+
+/// Returns whether `put` may be called under this configuration with records of `len` bytes: in `Sectors` mode, with a retention
+/// rate above zero, if a sector is one slot or several. Then an unsynced slot survives a crash whole or not at all.
+pub fn keeps_slots_whole(config: &Config, len: u64) -> bool
+    ensures { IsTrue result ↔ WritesSlotsWhole config.now len }
+{
+    let Some(writes) = &config.write_rate else {
+        return false;
+    };
+    !writes.retention_rate.is_zero() && is_slots(writes.mode, len)
 }
 
 impl Records {
