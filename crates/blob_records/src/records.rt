@@ -1,7 +1,8 @@
 //! Records of one length in one blob, each in its slot.
 ghost use Rattle.std.specs.Prelude.{◌≡◌, ◌≢◌, ◌↔◌, ℕ, IsTrue, List, OnOk, OnErr, IfOk, length};
-ghost use Rattle.blob_header.specs.Refusals.{IsMemory};
+ghost use Rattle.blob_header.specs.Refusals.{IsMemory, error_of};
 ghost use Rattle.blob_faulty.specs.Wrapper.{config_of};
+ghost use Rattle.blob_records.specs.Answers.{MayPut, MaySync};
 ghost use Rattle.blob_records.specs.Records.{AreOpen, AreSlots, FindsNoMore, FindsRead, FindsReadFrom, FindsRecords, PutsRecord, SameRecords, StillPasses, WritesSlotsWhole, len_of, place_of, record_at};
 
 use blob_base::laws::opens::{accepted_opens, numbers_are_given};
@@ -72,6 +73,7 @@ impl Records {
     ) -> Result<(), Error>
         requires len { length bytes.now ≡ len_of self.old }
         requires whole { WritesSlotsWhole (config_of store.old) (len_of self.old) }
+        ensures answer { MayPut R.stream self.old store.old index bytes.now (error_of result) }
         ensures found { PutsRecord self.old store.old self.new store.new index bytes.now }
         ensures read { OnOk result (record_at self.new index ≡ bytes.now) }
         ensures others { AreOpen self.old store.old → (i : ℕ) → i ≢ index → record_at self.new i ≡ record_at self.old i }
@@ -97,6 +99,7 @@ impl Records {
     ///
     /// Those of the wrapper's sync. What may be found is unchanged.
     pub fn sync<R: Rng>(&mut self, store: &mut Store<R>) -> Result<(), Error>
+        ensures answer { MaySync R.stream self.old store.old (error_of result) }
         ensures synced { OnOk result (AreOpen self.old store.old → FindsRead self.new store.new) }
         ensures found { StillPasses self.old store.old self.new store.new }
         ensures read { (i : ℕ) → record_at self.new i ≡ record_at self.old i }

@@ -1,4 +1,4 @@
-use Rattle.std.proofs.Common.{rules, ◌≡◌, ℕ, ◌*◌, List, length, Bool, false, refl, sym, ◌∙◌, ap, ap₂, subst}
+use Rattle.std.proofs.Common.{arith, rules, ◌≡◌, ℕ, ◌*◌, List, length, Bool, false, refl, sym, ◌∙◌, ap, ap₂, subst}
 use Rattle.std.proofs.lemmas.Result.{on_ok_weaker}
 use Rattle.blob_base.specs.Options.{is_sync}
 use Rattle.blob_header.specs.Refusals.{error_of}
@@ -6,7 +6,10 @@ use Rattle.blob_model.specs.Live.{live_written}
 use Rattle.blob_model.specs.Places.{Place}
 use Rattle.blob_model.proofs.Opened.{current_is}
 use Rattle.blob_draws.specs.Faults.{retention}
+use Rattle.blob_faulty.specs.Allowed.{MayWrite}
 use Rattle.blob_faulty.specs.Fits.{LaysFitting}
+use Rattle.blob_faulty.specs.OverMemory.{memory_handle}
+use Rattle.blob_records.specs.Answers.{Asked, Uncounted}
 use Rattle.blob_faulty.specs.Outcomes.{IsNotMissing}
 use Rattle.blob_faulty.specs.Wrapper.{config_of, inner_of, inside, rng_of, size_of}
 use Rattle.blob_memory.specs.Store.{directory, live}
@@ -65,3 +68,16 @@ returns-clause-others g c = λ now i other.
     let there : IsNotMissing answer = c.found.ensures r.blob w c.in-Some.offset b sync answer (current_is (directory (inner_of w)) o.partition o.name o now.found.here) e.allowed in
     read_beside (retention (config_of w).write_rate) r.len c.args.index b (live (inside r.blob)) (live (inside c.write_from.new.self)) c.requires.len
     (live_put c.writes.ensures (config_of w) stream (live (inside r.blob)) (live (inside c.write_from.new.self)) c.in-Some.offset (c.args.index * r.len) b sync answer there at plain (e.leaves.live_after refl)) i other
+
+pub returns-clause-answer : goal.returns-clause-answer
+returns-clause-answer g c =
+    let r = c.args.self.now in
+    let w = c.args.store.now in
+    let b = c.args.bytes.now in
+    let answer = error_of c.write_from.result in
+    let plain : is_sync c.default.result ≡ false = first_of (search rules, cc) in
+    Asked answer (subst (λ (n : ℕ). MayWrite memory_handle r.blob w g.R.Rng.stream n b false answer) (c.in-Some.ensures).1
+    (subst (λ (s : Bool). MayWrite memory_handle r.blob w g.R.Rng.stream c.in-Some.offset b s answer) plain c.write_from.ensures.allowed))
+
+pub returns-in_default-clause-answer : goal.returns-in_default-clause-answer
+returns-in_default-clause-answer g c = Uncounted (omega (arith, c.in_default.ensures))
