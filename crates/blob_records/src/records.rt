@@ -97,12 +97,13 @@ impl Records {
     ///
     /// # Errors
     ///
-    /// Those of the wrapper's sync. What may be found is unchanged.
+    /// Those of the wrapper's sync. No record and no durable byte changes.
     pub fn sync<R: Rng>(&mut self, store: &mut Store<R>) -> Result<(), Error>
         ensures answer { MaySync R.stream self.old store.old (error_of result) }
         ensures synced { OnOk result (AreOpen self.old store.old → FindsRead self.new store.new) }
         ensures found { StillPasses self.old store.old self.new store.new }
         ensures read { (i : ℕ) → record_at self.new i ≡ record_at self.old i }
+        ensures err { OnErr result (SameRecords self.old store.old self.new store.new) }
         ensures len { len_of self.new ≡ len_of self.old }
         ensures place { place_of self.new ≡ place_of self.old }
         ensures config { config_of store.new ≡ config_of store.old }
