@@ -104,10 +104,12 @@ struct blobcrash_ran disk_read(struct disk *disk, uint64_t descriptor, uint64_t 
     return ran;
 }
 
-/* Adds what a crash kept of one write. */
+/* Adds what a crash kept of one write. The sector of a change of names is a write too, to no file. */
 static void count_row(struct disk *disk, struct disk_crash *crash, size_t row) {
     struct blobcrash_kept_run kept = blobcrash_files_kept_run(&disk->files, row, 0);
     size_t bytes = kept.bytes, count = 0;
+    crash->kept_draws += kept.len > 0;
+    if (blobcrash_files_kept_place(&disk->files, row).number == 0) return;
     while (kept.len > 0) {
         count += kept.len;
         kept = blobcrash_files_kept_run(&disk->files, row, kept.start + kept.len);
@@ -117,22 +119,22 @@ static void count_row(struct disk *disk, struct disk_crash *crash, size_t row) {
     crash->lost_bytes += bytes - count;
 }
 
+/* Counts what the crash kept that was the last call. */
+static void count_crash(struct disk *disk, const struct blobcrash_file_reply *reply, struct disk_crash *crash) {
+    *crash = (struct disk_crash){.edits = reply->number};
+    for (size_t row = 0; row < reply->size; row++) count_row(disk, crash, row);
+    for (size_t edit = 0; edit < reply->number; edit++) {
+        crash->kept_edits += blobcrash_files_kept_edit(&disk->files, edit).len == 1;
+    }
+}
+
 uint32_t disk_crash(struct disk *disk, struct disk_crash *crash) {
     struct blobcrash_file_call call = {.kind = BLOBCRASH_F_CRASH};
     disk_trace("crash");
     disk->is_on = false;
     struct blobcrash_file_reply reply = blobcrash_files_apply(&disk->files, &call, nothing, 0, nothing, 0);
     if (reply.status != BLOBCRASH_DONE) return reply.status;
-    if (crash) {
-        *crash = (struct disk_crash){.edits = reply.number};
-        for (size_t edit = 0; edit < reply.number; edit++) {
-            crash->kept_edits += blobcrash_files_kept_edit(&disk->files, edit).len == 1;
-        }
-        for (size_t row = 0; row < reply.size; row++) {
-            /* The sector of an edit is a write too, to no file. */
-            if (blobcrash_files_kept_place(&disk->files, row).number) count_row(disk, crash, row);
-        }
-    }
+    if (crash) count_crash(disk, &reply, crash);
     disk->calls_left = -1;
     disk->is_on = true;
     return BLOBCRASH_DONE;

@@ -1,5 +1,5 @@
 /*
- * The disk of a database that a driver crashes: a file system of the layer whose power goes off. It counts the calls that change
+ * The disk of a database that a driver crashes: a file system of the layer, of which the power goes off. It counts the calls that change
  * something and the faults that were injected. One thread at a time uses a disk.
  */
 #ifndef COMMON_DISK_H
@@ -15,7 +15,7 @@
 extern "C" {
 #endif
 
-/* The status of a call while the power is off, beside those of blobcrash_files.h. It changes nothing. */
+/* The status of a call while the power is off. All others are those of blobcrash_files.h. It changes nothing. */
 enum { DISK_OFF = 128 };
 
 /* Of all zeros it has no file system, and is off. */
@@ -31,6 +31,8 @@ struct disk {
 /* What a crash kept of the writes for which it drew, and of the changes of names that nothing had settled. */
 struct disk_crash {
     uint64_t writes, kept_bytes, lost_bytes, edits, kept_edits;
+    /* The writes and changes for which it drew and kept something. Of a change that follows a lost one a profile may keep nothing. */
+    uint64_t kept_draws;
 };
 
 /*
@@ -44,7 +46,7 @@ void disk_end(struct disk *disk);
 /* Makes a setting, as "config sync 1 40" or "syncs lie". DONE; BAD_LINE, NO_MEMORY and CLOSED, which change nothing. */
 uint32_t disk_set(struct disk *disk, const char *setting);
 
-/* Lets so many more calls change something. After them every call but a close fails until the crash. A negative number cancels this. */
+/* Lets `calls` more calls change something. After them every call except a close fails until the crash. A negative number cancels this. */
 void disk_power_off_after(struct disk *disk, int64_t calls);
 
 /*

@@ -11,7 +11,7 @@
 enum { MODE_WIDTH = 26, VERDICT_WIDTH = 19, LEAST_WIDTH = 7 };
 
 static int usage(const struct driver *driver) {
-    fprintf(stderr, "usage: %s [--first SEED] [--jobs N] SEEDS [MODE ..]\n", driver->name);
+    fprintf(stderr, "usage: %s [--first SEED] [--jobs N] [--with WORD] SEEDS [MODE ..]\n", driver->name);
     fprintf(stderr, "       %s --seed SEED MODE\n", driver->name);
     if (driver->explore) fprintf(stderr, "       %s --explore [MODE ..]\n", driver->name);
     fprintf(stderr, "       %s --list\n", driver->name);
@@ -77,14 +77,21 @@ static void print_findings(const struct driver *driver, const struct pool_outcom
     }
 }
 
-static int run_table(const struct driver *driver, struct pool_work *work, const char *const *modes) {
-    int status = 0;
+/* Makes an outcome for each mode. False, with a message, if there is no such mode. */
+static bool make_outcomes(const struct driver *driver, struct pool_work *work, const char *const *modes, const char *word) {
     work->outcomes = (struct pool_outcome *)calloc(work->outcomes_len, sizeof *work->outcomes);
-    if (!work->outcomes) return 2;
-    for (uint64_t i = 0; i < work->outcomes_len; i++) {
-        work->outcomes[i].mode = modes[i];
-        if (!driver->is_mode(modes[i])) return fprintf(stderr, "%s: no mode: %s\n", driver->name, modes[i]), 2;
+    for (uint64_t i = 0; work->outcomes && i < work->outcomes_len; i++) {
+        char *name = work->outcomes[i].mode;
+        int len = snprintf(name, POOL_MODE, "%s%s%s", modes[i], word ? "-" : "", word ? word : "");
+        if (len < POOL_MODE && driver->is_mode(name)) continue;
+        fprintf(stderr, "%s: no mode: %s\n", driver->name, name);
+        return false;
     }
+    return work->outcomes != NULL;
+}
+
+static int run_table(const struct driver *driver, struct pool_work *work) {
+    int status = 0;
     if (!pool_run(work)) return 2;
     print_heading(driver);
     for (uint64_t i = 0; i < work->outcomes_len; i++) print_row(driver, &work->outcomes[i]);
@@ -93,14 +100,14 @@ static int run_table(const struct driver *driver, struct pool_work *work, const 
         if (is_broken(driver, &work->outcomes[i])) status = 1;
         free(work->outcomes[i].seeds);
     }
-    free(work->outcomes);
     return status;
 }
 
 static int run_one(const struct driver *driver, const char *seed, const char *mode) {
-    struct pool_outcome outcome = {.mode = mode, .lives = 1};
+    struct pool_outcome outcome = {.lives = 1};
     uint64_t number;
-    if (!read_number(seed, &number) || !driver->is_mode(mode)) return usage(driver);
+    if (!read_number(seed, &number) || strlen(mode) >= POOL_MODE || !driver->is_mode(mode)) return usage(driver);
+    strcpy(outcome.mode, mode);
     driver->live(mode, number, true, outcome.counts);
     print_heading(driver);
     print_row(driver, &outcome);
@@ -112,20 +119,30 @@ static int list(const struct driver *driver) {
     return 0;
 }
 
+/* Reads the arguments of a table, after which the modes are made. Returns the index of the first mode, or 0. */
+static int read_arguments(struct pool_work *work, const char **with, int argc, const char *const *words) {
+    int at = 1;
+    for (; at + 1 < argc && strncmp(words[at], "--", 2) == 0; at += 2) {
+        uint64_t *option = strcmp(words[at], "--first") == 0 ? &work->first : strcmp(words[at], "--jobs") == 0 ? &work->jobs : NULL;
+        if (strcmp(words[at], "--with") == 0) *with = words[at + 1];
+        else if (!option || !read_number(words[at + 1], option)) return 0;
+    }
+    if (at >= argc || !read_number(words[at], &work->seeds) || work->seeds == 0) return 0;
+    return work->jobs == 0 || work->jobs > DRIVER_JOBS ? 0 : at + 1;
+}
+
 int driver_main(const struct driver *driver, int argc, char **argv) {
     struct pool_work work = {.driver = driver, .first = 1, .jobs = (uint64_t)sysconf(_SC_NPROCESSORS_ONLN)};
     const char *const *words = (const char *const *)argv;
-    int at = 1;
+    const char *with = NULL;
     if (argc == 2 && strcmp(words[1], "--list") == 0) return list(driver);
     if (argc == 4 && strcmp(words[1], "--seed") == 0) return run_one(driver, words[2], words[3]);
     if (argc > 1 && driver->explore && strcmp(words[1], "--explore") == 0) return driver->explore(words + 2, (size_t)argc - 2);
-    for (; at + 1 < argc && strncmp(words[at], "--", 2) == 0; at += 2) {
-        uint64_t *option = strcmp(words[at], "--first") == 0 ? &work.first : strcmp(words[at], "--jobs") == 0 ? &work.jobs : NULL;
-        if (!option || !read_number(words[at + 1], option)) return usage(driver);
-    }
-    if (at >= argc || !read_number(words[at], &work.seeds) || work.seeds == 0) return usage(driver);
-    if (work.jobs == 0 || work.jobs > DRIVER_JOBS) return usage(driver);
-    at++;
+    int at = read_arguments(&work, &with, argc, words);
+    if (at == 0) return usage(driver);
     work.outcomes_len = at == argc ? driver->modes_len : (uint64_t)(argc - at);
-    return run_table(driver, &work, at == argc ? driver->modes : words + at);
+    bool is_well = make_outcomes(driver, &work, at == argc ? driver->modes : words + at, with);
+    int status = is_well ? run_table(driver, &work) : 2;
+    free(work.outcomes);
+    return status;
 }

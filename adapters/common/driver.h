@@ -2,7 +2,9 @@
  * What the programs that crash a database by seed have in common: arguments, lives in processes side by side, the table, and the
  * command that repeats a life. A life is one database, from its creation to the last of its crashes.
  *
- *     PROGRAM [--first SEED] [--jobs N] SEEDS [MODE ..]    these seeds in each mode; without a mode, in those of the table
+ *     PROGRAM [--first SEED] [--jobs N] [--with WORD] SEEDS [MODE ..]
+ *                                                          these seeds in each mode; without a mode, in those of the table. With a
+ *                                                          word, as `xfs`, each mode's name has this word too
  *     PROGRAM --seed SEED MODE                             one life, with what was found
  *     PROGRAM --explore [MODE ..]                          what `explore` does
  *     PROGRAM --list                                       the names of the table's modes
@@ -51,7 +53,7 @@ struct driver {
     int (*explore)(const char *const *modes, size_t modes_len);
 };
 
-/* Does what the arguments say. Returns an exit status. Each life is in a child process, but that of `--seed` in this one. */
+/* Does what the arguments say. Returns an exit status. Each life is in a child process, that of `--seed` in this one. */
 int driver_main(const struct driver *driver, int argc, char **argv);
 
 #ifdef __cplusplus

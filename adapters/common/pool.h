@@ -4,16 +4,18 @@
 
 #include "driver.h"
 
+enum { POOL_MODE = 96 };
+
 /* What the lives of a mode came to. */
 struct pool_outcome {
-    const char *mode;
+    char mode[POOL_MODE];
     uint64_t lives, counts[DRIVER_COUNTS];
     /* Of the lives with a finding, in order; malloc'd. */
     uint64_t *seeds;
     size_t seeds_len;
 };
 
-/* The seeds from `first` on, in each mode, in so many processes. */
+/* The seeds from `first` on, in each mode, in `jobs` processes. */
 struct pool_work {
     const struct driver *driver;
     struct pool_outcome *outcomes;
