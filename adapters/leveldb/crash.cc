@@ -14,7 +14,7 @@ static const char* const MODES[] = {
     "sync-lie",     "nosync",           "nosync-posix",       "nosync-none",  "nosync-whole",      "nosync-prefix",     "nosync-bytes",
     "nosync-paranoid"};
 static const driver_column COLUMNS[] = {{"batches", false}, {"crashes", false}, {"in write", false}, {"recovery", false},
-                                        {"faults", false},  {"lost", true},     {"corrupt", true},   {"wrong", true}};
+                                        {"faults", false},  {"lost", false},     {"corrupt", false},   {"wrong", false}, {"broken", true}};
 
 static bool is_mode(const char* name) {
     Mode mode;

@@ -53,6 +53,7 @@ class Life {
             close(&db);
         }
         counts_[FAULTS] += files_.faults();
+        counts_[BROKEN] += !wrong_.empty();
         return wrong_;
     }
 

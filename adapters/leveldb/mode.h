@@ -12,7 +12,7 @@ struct Mode {
 };
 
 // What lives count: the columns of the table.
-enum Count { BATCHES, CRASHES, IN_WRITE, RECOVERY, FAULTS, LOST, CORRUPT, WRONG };
+enum Count { BATCHES, CRASHES, IN_WRITE, RECOVERY, FAULTS, LOST, CORRUPT, WRONG, BROKEN };
 
 // Reads a name: `sync` or `nosync`, and then words of adapters/common/words.h or
 //

@@ -2,7 +2,7 @@
 #ifndef BLOBCRASH_LEVELDB_SCENARIOS_H
 #define BLOBCRASH_LEVELDB_SCENARIOS_H
 
-// Runs each scenario in each profile, and prints a row for each. Returns an exit status: 1 if one fails on ext4, XFS or btrfs.
+// Runs each scenario in each profile, and prints a row for each. Returns an exit status: 1 if one fails.
 int scenarios_run();
 
 #endif

@@ -1,16 +1,25 @@
 // Crashes RocksDB by seed: docs/ROCKSDB.md. The arguments are those of adapters/common/driver.h, and
 //
 //     crash --compare SEEDS     some modes on two disks, the library's and that of simple_disk.h, with the crashes a second
+//     crash --scenarios         the scenarios of RocksDB's own test of faults, in each profile
 #include "compare.h"
 #include "driver.h"
 #include "life.h"
 #include "mode.h"
+#include "scenarios.h"
 
 #include <cstring>
 
-static const char* const MODES[] = {"sync"};
+static const char* const MODES[] = {
+    "sync",             "sync-xfs",            "sync-btrfs",         "sync-posix",         "sync-bytes",    "sync-faults",
+    "sync-drops-faults", "sync-reads",         "sync-lie",           "sync-manual",        "sync-track",    "sync-recycle",
+    "sync-keep",        "sync-queues",         "sync-tolerate",      "sync-absolute",      "sync-skip",     "sync-families",
+    "sync-atomic",      "sync-transactions",   "sync-queues-transactions", "sync-blobs",   "sync-checkpoints", "sync-checkpoints-posix",
+    "sync-backups",     "sync-backups-posix",  "nosync",             "nosync-posix",       "nosync-manual", "nosync-track",
+    "nosync-recycle",   "nosync-keep",         "nosync-tolerate",    "nosync-absolute",    "nosync-skip",   "nosync-families",
+    "nosync-atomic",    "nosync-transactions", "nosync-blobs",       "nosync-bytes"};
 static const driver_column COLUMNS[] = {{"batches", false}, {"crashes", false}, {"in write", false}, {"in work", false}, {"recovery", false},
-                                        {"faults", false},  {"lost", true},     {"corrupt", true},   {"wrong", true}};
+                                        {"faults", false},  {"lost", false},     {"corrupt", false},   {"wrong", false}, {"broken", true}};
 
 static bool is_mode(const char* name) {
     Mode mode;
@@ -19,6 +28,7 @@ static bool is_mode(const char* name) {
 
 int main(int argc, char** argv) {
     if (argc == 3 && strcmp(argv[1], "--compare") == 0) return compare(argv[2]);
+    if (argc == 2 && strcmp(argv[1], "--scenarios") == 0) return scenarios_run();
     driver rocksdb = {};
     rocksdb.name = "crash";
     rocksdb.modes = MODES;

@@ -27,14 +27,14 @@ class TracedLog : public rocksdb::Logger {
 
 Database::Database(const Mode& mode, CrashEnv* env) : mode_(mode), env_(env), log_(std::make_shared<TracedLog>()) {}
 
-// Small sizes, so that small databases are flushed and compacted. Writes never wait for background work: it is done after them.
+// Small sizes, so that small databases are compacted. Writes never wait for background work: it is done after them. The memtable is never full:
+// its size has a random part, of which a seed knows nothing, so Life asks for flushes.
 rocksdb::Options Database::options() const {
     rocksdb::Options options;
     options.env = env_;
     options.info_log = log_;
     options.create_if_missing = options.create_missing_column_families = true;
     options.compression = rocksdb::kNoCompression;
-    options.write_buffer_size = 65536;
     options.arena_block_size = 4096;
     options.max_write_buffer_number = 64;
     options.level0_file_num_compaction_trigger = 2;

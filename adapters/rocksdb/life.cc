@@ -2,19 +2,26 @@
 
 #include "copies.h"
 #include "database.h"
+#include "driver.h"
 #include "prepared.h"
 #include "random.h"
 #include "simple_disk.h"
 
 #include <cinttypes>
 #include <cstdio>
+#include <cstdlib>
 #include <cstring>
+
+#include <sys/mman.h>
+#include <sys/wait.h>
+#include <unistd.h>
 
 using rocksdb::Status;
 
 namespace {
 
 const int ROUNDS = 12;
+const size_t FLUSHED_AFTER = 65536;
 
 std::unique_ptr<adapters::Disk> disk_of(const Mode& mode, uint64_t seed) {
     char lines[WORDS_PREAMBLE];
@@ -56,6 +63,7 @@ class Life {
             if (!is_last) crash();
         }
         counts_[FAULTS] += files_.faults();
+        counts_[BROKEN] += !wrong_.empty();
         return wrong_;
     }
 
@@ -70,6 +78,8 @@ class Life {
     Copies copies_;
     std::string tear_, wrong_;
     size_t longest_value_;
+    // Of batches since the last flush.
+    size_t unflushed_ = 0;
     // What each batch left, and the number of the last one that was acknowledged.
     std::vector<Rows> states_;
     uint64_t acknowledged_ = 0;
@@ -114,7 +124,9 @@ class Life {
     // Makes what the mode has beside batches. Returns whether all went well.
     bool others() {
         Status status;
-        if (mode_.has_families && below(12) == 0) status = database_.flush(below(3));
+        bool is_due = unflushed_ > FLUSHED_AFTER || (mode_.has_families && below(12) == 0);
+        if (is_due) status = database_.flush(below(3));
+        if (is_due) unflushed_ = 0;
         if (status.ok() && mode_.has_transactions && below(3) == 0) status = prepared_.step(below(64));
         if (status.ok() && (mode_.has_checkpoints || mode_.has_backups) && below(16) == 0) status = copies_.make(database_, states_.back());
         if (status.ok() && mode_.flushes_log && !mode_.syncs && below(8) == 0) status = database_.db()->FlushWAL(below(2) == 0);
@@ -154,6 +166,7 @@ class Life {
         draw(&batch, &next);
         states_.push_back(next);
         Status status = mode_.has_transactions && below(2) == 0 ? transact(&batch) : database_.write(&batch);
+        unflushed_ += batch.GetDataSize();
         if (status.ok()) {
             acknowledged_ = states_.size() - 1;
             counts_[BATCHES]++;
@@ -190,9 +203,27 @@ class Life {
 
 }  // namespace
 
+// A process for each life, so that none finds what another left in RocksDB's variables, and an assertion of RocksDB ends no more than one.
 void live(const char* name, uint64_t seed, bool is_told, uint64_t* counts) {
-    Mode mode;
-    mode_read(name, &mode);
-    std::string wrong = Life(mode, seed, counts).live();
-    if (is_told && !wrong.empty()) printf("%s, seed %" PRIu64 ": %s\n", name, seed, wrong.c_str());
+    size_t len = DRIVER_COUNTS * sizeof *counts;
+    void* shared = mmap(nullptr, len, PROT_READ | PROT_WRITE, MAP_SHARED | MAP_ANONYMOUS, -1, 0);
+    if (shared == MAP_FAILED) abort();
+    fflush(nullptr);
+    pid_t process = fork();
+    if (process == 0) {
+        Mode mode;
+        mode_read(name, &mode);
+        std::string wrong = Life(mode, seed, static_cast<uint64_t*>(shared)).live();
+        if (is_told && !wrong.empty()) printf("%s, seed %" PRIu64 ": %s\n", name, seed, wrong.c_str());
+        fflush(nullptr);
+        _exit(0);
+    }
+    int status = 0;
+    if (process < 0 || waitpid(process, &status, 0) != process) abort();
+    memcpy(counts, shared, len);
+    munmap(shared, len);
+    if (status == 0) return;
+    counts[CORRUPT]++;
+    counts[BROKEN]++;
+    if (is_told) printf("%s, seed %" PRIu64 ": the process was ended by signal %d\n", name, seed, WTERMSIG(status));
 }

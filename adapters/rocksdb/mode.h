@@ -16,7 +16,7 @@ struct Mode {
 };
 
 // What lives count: the columns of the table.
-enum Count { BATCHES, CRASHES, IN_WRITE, IN_WORK, RECOVERY, FAULTS, LOST, CORRUPT, WRONG };
+enum Count { BATCHES, CRASHES, IN_WRITE, IN_WORK, RECOVERY, FAULTS, LOST, CORRUPT, WRONG, BROKEN };
 
 // Reads a name: `sync` or `nosync`, and then words of adapters/common/words.h or
 //

@@ -19,7 +19,7 @@ Status Prepared::prepare() {
     return status;
 }
 
-Status Prepared::end(const std::string& name, bool commits) {
+Status Prepared::end(std::string name, bool commits) {
     std::unique_ptr<Transaction> one = std::move(handles_[name]);
     handles_.erase(name);
     states_[name] = {commits ? Step::COMMIT : Step::ROLLBACK, false};

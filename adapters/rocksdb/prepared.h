@@ -35,7 +35,7 @@ class Prepared {
     std::map<std::string, std::unique_ptr<rocksdb::Transaction>> handles_;
 
     rocksdb::Status prepare();
-    rocksdb::Status end(const std::string& name, bool commits);
+    rocksdb::Status end(std::string name, bool commits);
     std::string compare(const State& state, bool is_prepared, bool has_row) const;
 };
 

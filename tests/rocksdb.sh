@@ -1,0 +1,70 @@
+#!/bin/sh
+# The real RocksDB on the layer (adapters/rocksdb): seeds of modes in which nothing may be lost, what docs/ROCKSDB.md says of RocksDB 7.8.3,
+# the scenarios of its own test of faults, and the comparison of two disks. SEEDS is another number of seeds. The last line is
+# `N passed, M failed`, with `, K skipped` if a tool is missing.
+top=$(CDPATH='' cd -- "$(dirname -- "$0")/.." && pwd -P)
+# shellcheck source=tests/counting.sh
+. "$top/tests/counting.sh"
+cd "$top" || exit 1
+crash=$top/out/rocksdb/crash
+
+# expect NAME STATUS COMMAND..: one test. What the command prints is in $work/out, and what the last run of the driver printed in $work/table.
+expect() {
+    name=$1
+    wanted=$2
+    shift 2
+    "$@" >"$work/out" 2>&1
+    status=$?
+    [ "$1" != "$crash" ] || cp "$work/out" "$work/table"
+    if [ "$status" -eq "$wanted" ]; then
+        pass
+    else
+        fail "$name: status $status, wanted $wanted"
+        head -n 40 "$work/out"
+    fi
+}
+
+cxx=${CXX:-c++}
+if ! echo '#include <rocksdb/db.h>' | "$cxx" -x c++ -E - >/dev/null 2>&1; then
+    skip "there is no $cxx with rocksdb/db.h (Debian: g++, librocksdb-dev)"
+    finish
+fi
+expect 'the driver is built' 0 sh adapters/rocksdb/crash.sh --list
+
+held='HELDMODES'
+count=$(echo "$held" | wc -w)
+# shellcheck disable=SC2086
+expect 'with syncs nothing is lost' 0 "$crash" --jobs 2 "${SEEDS:-3}" $held
+expect 'and each mode says so' 0 [ "$(grep -c '| held  *|$' "$work/table")" -eq "$count" ]
+expect 'and acknowledges batches' 0 [ "$(awk -F'|' '/held/ && $4 > 0 && $6 > 0' "$work/table" | wc -l)" -eq "$count" ]
+expect 'without syncs the last batches are lost' 0 "$crash" --jobs 2 5 nosync
+expect 'and no others' 0 grep -q '| lost, as allowed  *|$' "$work/table"
+expect 'a lying sync' 0 "$crash" --jobs 2 5 sync-lie
+expect 'is found' 0 grep -q '| damaged, as allowed  *|$' "$work/table"
+expect "the scenarios of RocksDB's own test" 0 "$crash" --scenarios
+expect 'the comparison' 0 "$crash" --compare 1
+
+version=$(printf '#include <rocksdb/version.h>\nROCKSDB_MAJOR ROCKSDB_MINOR ROCKSDB_PATCH\n' | "$cxx" -x c++ -E - | tail -n 1)
+if [ "$version" = '7 8 3' ]; then
+    while read -r seed mode what; do
+        expect "RocksDB 7.8.3: seed $seed of $mode" 1 "$crash" --seed "$seed" "$mode"
+        expect "RocksDB 7.8.3: $what" 0 grep -q "$what" "$work/table"
+    done <<'ROWS'
+SEEDROWS
+ROWS
+else
+    echo "rocksdb.sh: the seeds of docs/ROCKSDB.md are of RocksDB 7.8.3, and this is $version"
+fi
+
+# A seed repeats a run, also with backups, which have a thread.
+for mode in sync-backups nosync-families; do
+    "$crash" --seed 4 "$mode" >"$work/first" 2>&1
+    "$crash" --seed 4 "$mode" >"$work/second" 2>&1
+    expect "a seed repeats: $mode" 0 cmp -s "$work/first" "$work/second"
+done
+
+for arguments in '' 0 x '1 frob' '1 sync-frob' '--seed 1' '--seed x sync' '--compare 0'; do
+    # shellcheck disable=SC2086
+    expect "these arguments are refused: $arguments" 2 "$crash" $arguments
+done
+finish
