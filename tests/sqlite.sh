@@ -121,6 +121,12 @@ if [ "$(sed -n 's/^#define SQLITE_VERSION  *"\(.*\)"/\1/p' "$(echo '#include <sq
     while read -r seed mode; do
         check "a fault of SQLite 3.40.1: $mode, seed $seed" run 1 "$crash" --seed "$seed" "$mode"
     done <"$work/faults"
+    for profile in ext4 xfs btrfs posix; do
+        check "a header that is torn on $profile" run 0 "$crash" --seed 163 "persist-full-bytes-$profile"
+        check 'damages the database' grep -q '^crash 7: corrupt' "$work/out"
+        check "a deletion that is not durable on $profile" run 0 "$crash" --seed 1 "delete-full-$profile"
+        check 'loses a commit' grep -q '1 acknowledged transactions are lost' "$work/out"
+    done
 else
     echo 'sqlite.sh: the seeds of docs/SQLITE.md are of SQLite 3.40.1, which this is not'
 fi
@@ -137,6 +143,9 @@ export ASAN_OPTIONS=allocator_may_return_null=1
 # shellcheck disable=SC2086
 check 'the tests of the VFS are built' run 0 $compiler $flags -o "$work/test_vfs" adapters/sqlite/test_vfs.c $vfs "$archive" -lsqlite3
 check 'the tests of the VFS' run 0 "$work/test_vfs"
+# shellcheck disable=SC2086
+check 'the tests of locks are built' run 0 $compiler $flags -o "$work/test_locks" adapters/sqlite/test_locks.c $vfs "$archive" -lsqlite3
+check "locks and shared memory are those of SQLite's own VFS" run 0 "$work/test_locks"
 echo 'int main(void) { return 0; }' >"$work/empty.c"
 # shellcheck disable=SC2086
 if run 0 $compiler $sanitize -o "$work/empty" "$work/empty.c" && run 0 "$work/empty"; then

@@ -26,7 +26,7 @@ struct opened {
 
 static int open_as(const char *name, int flags, struct opened *opened) {
     opened->file = calloc(1, (size_t)vfs->szOsFile);
-    opened->name = (sqlite3_filename)sqlite3_create_filename(name, "journal", "wal", 0, NULL);
+    opened->name = (sqlite3_filename)sqlite3_create_filename(name, "/journal", "/wal", 0, NULL);
     if (!opened->file || !opened->name) abort();
     return vfs->xOpen(vfs, opened->name, opened->file, flags | SQLITE_OPEN_READWRITE, NULL);
 }

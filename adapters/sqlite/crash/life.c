@@ -122,10 +122,10 @@ static enum step open_again(struct life *life, bool is_after_crash) {
     return FAILED;
 }
 
-/* What a connection reads in a read transaction of its own. */
+/* What a connection reads in a read transaction of its own, and the attempt that it must read. */
 struct view {
     struct database *reader;
-    int code, attempt;
+    int code, attempt, current;
     uint64_t hash;
 };
 
@@ -136,7 +136,7 @@ static void begin_reading(struct life *life, struct view *view) {
     struct database *other = &life->connections[random_below(&life->draws, 2)];
     life->database = &life->connections[other == &life->connections[0]];
     if (strcmp(life->mode->journal, "wal") != 0 || random_below(&life->draws, 3) != 0) return;
-    view->reader = other;
+    *view = (struct view){.reader = other, .current = history.current};
     view->code = database_run(other, "BEGIN");
     if (!view->code) view->code = database_look(other, &view->attempt, &view->hash);
 }
@@ -148,9 +148,9 @@ static enum step end_reading(struct life *life, const struct view *view) {
     if (!view->reader) return WELL;
     int code = view->code ? view->code : database_look(view->reader, &attempt, &hash);
     if (!sqlite3_get_autocommit(view->reader->db)) database_run(view->reader, "ROLLBACK");
-    if (code || (attempt == view->attempt && hash == view->hash)) return WELL;
+    if (code || (attempt == view->attempt && hash == view->hash && attempt == view->current)) return WELL;
     life->counts[WRONG]++;
-    tell(life, "a read transaction saw attempt %d, and then %d", view->attempt, attempt);
+    tell(life, "a read transaction saw attempt %d, then %d, instead of %d", view->attempt, attempt, view->current);
     return DAMAGED;
 }
 
