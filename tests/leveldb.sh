@@ -43,7 +43,7 @@ expect 'and no others' 0 grep -q '| lost, as allowed  *|$' "$work/table"
 expect 'a lying sync' 0 "$crash" --jobs 2 10 sync-lie
 expect 'is found' 0 grep -q '| damaged, as allowed  *|$' "$work/table"
 expect "the scenarios of LevelDB's own test" 0 "$crash" --scenarios
-expect 'pass on ext4, XFS and btrfs' 0 [ "$(grep -c '| passes |$' "$work/table")" -ge 12 ]
+expect 'pass on each profile' 0 [ "$(grep -c '| passes |$' "$work/table")" -eq 16 ]
 
 # What this version does wrong: docs/LEVELDB.md.
 if [ "$version" = '1 23 ' ]; then
@@ -51,8 +51,19 @@ if [ "$version" = '1 23 ' ]; then
         expect "LevelDB 1.23: seed $seed of $mode" 1 "$crash" --seed "$seed" "$mode"
         expect "LevelDB 1.23: $what" 0 grep -q "$what" "$work/table"
     done <<'ROWS'
-SEEDROWS
+34 sync-reads acknowledged batches are lost
+3 sync-reuse the rows are those of no batch
+6 sync-posix-create CURRENT points to a non-existent file
+4 sync-posix-create the rows are those of no batch
+1 sync-posix-rename acknowledged batches are lost
+43 nosync the rows are those of no batch
+1 nosync-whole-xfs the rows are those of no batch
 ROWS
+    for life in '11 sync-bytes-xfs' '8 sync-paranoid-xfs'; do
+        # shellcheck disable=SC2086
+        expect "LevelDB 1.23: seed $life" 0 "$crash" --seed $life
+        expect 'LevelDB 1.23: a torn record is an error' 0 grep -q "it can't be opened: Corruption" "$work/table"
+    done
 else
     echo "leveldb.sh: the seeds of docs/LEVELDB.md are of LevelDB 1.23, and this is $version"
 fi

@@ -9,10 +9,11 @@
 #include <cstring>
 
 static const char* const MODES[] = {
-    "sync",         "sync-xfs",         "sync-btrfs",         "sync-posix",   "sync-posix-create", "sync-posix-rename", "sync-posix-create-rename",
-    "sync-bytes",   "sync-paranoid",    "sync-faults",        "sync-drops-faults", "sync-reads", "sync-reads-paranoid", "sync-reuse",
-    "sync-lie",     "nosync",           "nosync-posix",       "nosync-none",  "nosync-whole",      "nosync-prefix",     "nosync-bytes",
-    "nosync-paranoid"};
+    "sync", "sync-xfs", "sync-btrfs", "sync-posix", "sync-posix-create", "sync-posix-rename",
+    "sync-posix-create-rename", "sync-bytes", "sync-bytes-xfs", "sync-paranoid", "sync-paranoid-xfs", "sync-faults",
+    "sync-drops-faults", "sync-reads", "sync-reads-paranoid", "sync-reuse", "sync-reuse-xfs", "sync-lie", "nosync",
+    "nosync-xfs", "nosync-posix", "nosync-none", "nosync-whole", "nosync-whole-xfs", "nosync-prefix", "nosync-bytes",
+    "nosync-bytes-xfs", "nosync-paranoid", "nosync-paranoid-xfs"};
 static const driver_column COLUMNS[] = {{"batches", false}, {"crashes", false}, {"in write", false}, {"recovery", false},
                                         {"faults", false},  {"lost", false},     {"corrupt", false},   {"wrong", false}, {"broken", true}};
 

@@ -12,9 +12,12 @@ namespace {
 // Only the newest are compared.
 const size_t MOST = 2;
 
+// Tables aren't shared between backups: for shared ones the engine's thread and its caller change files at the same time, in no order that a
+// seed repeats.
 rocksdb::BackupEngineOptions backup_options(CrashEnv* env) {
     rocksdb::BackupEngineOptions options("/backups", env);
     options.max_background_operations = 1;
+    options.share_table_files = false;
     return options;
 }
 

@@ -105,15 +105,15 @@ void Database::close() {
 
 rocksdb::WriteOptions Database::write_options() const {
     rocksdb::WriteOptions options;
-    options.sync = mode_.syncs && !mode_.flushes_log && !mode_.has_two_queues;
+    options.sync = mode_.syncs && !mode_.flushes_log && (!mode_.has_two_queues || mode_.syncs_queued);
     return options;
 }
 
-// With two queues a write with `sync` would call SyncWAL itself, also after an error, and Debian's library ends the program there.
+// With two queues a write with `sync` calls SyncWAL itself, also after an error, and an assertion of Debian's library ends the program there.
 Status Database::acknowledge(const Status& written) {
     if (!written.ok() || !mode_.syncs) return written;
     if (mode_.flushes_log) return db_->FlushWAL(true);
-    return mode_.has_two_queues ? db_->SyncWAL() : written;
+    return mode_.has_two_queues && !mode_.syncs_queued ? db_->SyncWAL() : written;
 }
 
 Status Database::write(rocksdb::WriteBatch* batch) { return acknowledge(db_->Write(write_options(), batch)); }

@@ -13,7 +13,7 @@ static bool read_switch(const std::string& word, Mode* mode) {
         bool Mode::*is_set;
     } switches[] = {{"manual", &Mode::flushes_log},      {"track", &Mode::tracks},
                     {"recycle", &Mode::recycles},        {"keep", &Mode::keeps_logs},
-                    {"queues", &Mode::has_two_queues},   {"families", &Mode::has_families},
+                    {"queues", &Mode::has_two_queues},   {"queued", &Mode::syncs_queued},   {"families", &Mode::has_families},
                     {"atomic", &Mode::flushes_atomically}, {"transactions", &Mode::has_transactions},
                     {"blobs", &Mode::has_blobs},         {"checkpoints", &Mode::has_checkpoints},
                     {"backups", &Mode::has_backups},     {"faults", &Mode::fails},
@@ -40,6 +40,7 @@ bool mode_read(const char* name, Mode* mode) {
     while (std::getline(all, word, '-'))
         if (!read_switch(word, mode) && !read_recovery(word, mode) && !words_read(&mode->disk, word.c_str())) return false;
     mode->has_families |= mode->flushes_atomically;
+    mode->has_two_queues |= mode->syncs_queued;
     return name[strlen(name) - 1] != '-';
 }
 
