@@ -31,7 +31,7 @@ if ! echo '#include <rocksdb/db.h>' | "$cxx" -x c++ -E - >/dev/null 2>&1; then
 fi
 expect 'the driver is built' 0 sh adapters/rocksdb/crash.sh --list
 
-held='HELDMODES'
+held='sync sync-xfs sync-btrfs sync-manual sync-track sync-families sync-atomic sync-transactions sync-queues-transactions sync-blobs sync-checkpoints sync-backups sync-faults'
 count=$(echo "$held" | wc -w)
 # shellcheck disable=SC2086
 expect 'with syncs nothing is lost' 0 "$crash" --jobs 2 "${SEEDS:-3}" $held
@@ -42,6 +42,7 @@ expect 'and no others' 0 grep -q '| lost, as allowed  *|$' "$work/table"
 expect 'a lying sync' 0 "$crash" --jobs 2 5 sync-lie
 expect 'is found' 0 grep -q '| damaged, as allowed  *|$' "$work/table"
 expect "the scenarios of RocksDB's own test" 0 "$crash" --scenarios
+expect 'pass on each profile' 0 [ "$(grep -c '| passes |$' "$work/table")" -eq 80 ]
 expect 'the comparison' 0 "$crash" --compare 1
 
 version=$(printf '#include <rocksdb/version.h>\nROCKSDB_MAJOR ROCKSDB_MINOR ROCKSDB_PATCH\n' | "$cxx" -x c++ -E - | tail -n 1)
@@ -50,14 +51,19 @@ if [ "$version" = '7 8 3' ]; then
         expect "RocksDB 7.8.3: seed $seed of $mode" 1 "$crash" --seed "$seed" "$mode"
         expect "RocksDB 7.8.3: $what" 0 grep -q "$what" "$work/table"
     done <<'ROWS'
-SEEDROWS
+3 sync-posix No such file or directory: /d/MANIFEST
+5 nosync-families the rows are those of no batch
+1 nosync-blobs the rows are those of no batch
+1 nosync-transactions SST file is ahead of WALs
+1 sync-checkpoints-posix checkpoint[0-9]* is lost
+1 sync-backups-posix backup [0-9]* is lost
+1 sync-queued ended by signal 6
 ROWS
 else
     echo "rocksdb.sh: the seeds of docs/ROCKSDB.md are of RocksDB 7.8.3, and this is $version"
 fi
 
-# A seed repeats a run, also with backups, which have a thread.
-for mode in sync-backups nosync-families; do
+for mode in nosync-families sync-transactions; do
     "$crash" --seed 4 "$mode" >"$work/first" 2>&1
     "$crash" --seed 4 "$mode" >"$work/second" 2>&1
     expect "a seed repeats: $mode" 0 cmp -s "$work/first" "$work/second"
