@@ -7,30 +7,11 @@ top=$(CDPATH='' cd -- "$(dirname -- "$0")/.." && pwd -P)
 # shellcheck source=tests/counting.sh
 . "$top/tests/counting.sh"
 cd "$top" || exit 1
-crash=$top/out/leveldb/crash
+database=leveldb
+# shellcheck source=tests/drivers.sh
+. "$top/tests/drivers.sh"
 
-# expect NAME STATUS COMMAND..: one test. What the command prints is in $work/out, and what the last run of
-# the driver printed in $work/table.
-expect() {
-    name=$1
-    wanted=$2
-    shift 2
-    "$@" >"$work/out" 2>&1
-    status=$?
-    [ "$1" != "$crash" ] || cp "$work/out" "$work/table"
-    if [ "$status" -eq "$wanted" ]; then
-        pass
-    else
-        fail "$name: status $status, wanted $wanted"
-        head -n 40 "$work/out"
-    fi
-}
-
-cxx=${CXX:-c++}
-if ! echo '#include <leveldb/db.h>' | "$cxx" -x c++ -E - >/dev/null 2>&1; then
-    skip "there is no $cxx with leveldb/db.h (Debian: g++, libleveldb-dev)"
-    finish
-fi
+need_header leveldb/db.h libleveldb-dev
 expect 'the driver is built' 0 sh adapters/leveldb/crash.sh --list
 version=$(printf '#include <leveldb/db.h>\nint version = leveldb::kMajorVersion * 1000 + leveldb::kMinorVersion;\n' |
     "$cxx" -x c++ -E - | sed -n 's/.*\(kMajorVersion\|kMinorVersion\) = \([0-9]*\);.*/\2/p' | tr '\n' ' ')
@@ -47,10 +28,7 @@ expect 'pass on each profile' 0 [ "$(grep -c '| passes |$' "$work/table")" -eq 1
 
 # What this version does wrong: docs/LEVELDB.md.
 if [ "$version" = '1 23 ' ]; then
-    while read -r seed mode what; do
-        expect "LevelDB 1.23: seed $seed of $mode" 1 "$crash" --seed "$seed" "$mode"
-        expect "LevelDB 1.23: $what" 0 grep -q "$what" "$work/table"
-    done <<'ROWS'
+    finds 'LevelDB 1.23' <<'ROWS'
 34 sync-reads acknowledged batches are lost
 3 sync-reuse the rows are those of no batch
 6 sync-posix-create CURRENT points to a non-existent file
@@ -68,10 +46,7 @@ else
     echo "leveldb.sh: the seeds of docs/LEVELDB.md are of LevelDB 1.23, and this is $version"
 fi
 
-for arguments in '' 0 x '1 frob' '1 sync-frob' '--seed 1' '--seed x sync' '--jobs 0 1 sync'; do
-    # shellcheck disable=SC2086
-    expect "these arguments are refused: $arguments" 2 "$crash" $arguments
-done
+refuses '' 0 x '1 frob' '1 sync-frob' '--seed 1' '--seed x sync' '--jobs 0 1 sync'
 
 sanitize='-O1 -fsanitize=address,undefined -fno-sanitize-recover=all'
 echo 'int main() { return 0; }' >"$work/empty.cc"

@@ -12,12 +12,12 @@
 
 static const char* const MODES[] = {
     "sync", "sync-xfs", "sync-btrfs", "sync-posix", "sync-bytes", "sync-faults", "sync-drops-faults", "sync-reads",
-    "sync-lie", "sync-manual", "sync-track", "sync-tolerate", "sync-recycle-tolerate", "sync-absolute", "sync-skip",
-    "sync-keep", "sync-queues", "sync-families", "sync-atomic", "sync-transactions", "sync-queues-transactions",
+    "sync-lie", "sync-manual", "sync-track", "sync-tolerate", "sync-absolute", "sync-skip", "sync-keep",
+    "sync-queues", "sync-queued", "sync-families", "sync-atomic", "sync-transactions", "sync-queues-transactions",
     "sync-blobs", "sync-checkpoints", "sync-checkpoints-posix", "sync-backups", "sync-backups-posix", "nosync",
-    "nosync-posix", "nosync-manual", "nosync-track", "nosync-tolerate", "nosync-recycle-tolerate", "nosync-absolute",
-    "nosync-skip", "nosync-keep", "nosync-families", "nosync-atomic", "nosync-transactions",
-    "nosync-families-transactions", "nosync-blobs", "nosync-bytes"};
+    "nosync-posix", "nosync-manual", "nosync-track", "nosync-tolerate", "nosync-absolute", "nosync-skip",
+    "nosync-keep", "nosync-families", "nosync-atomic", "nosync-transactions", "nosync-families-transactions",
+    "nosync-blobs", "nosync-bytes"};
 static const driver_column COLUMNS[] = {{"batches", false}, {"crashes", false}, {"in write", false}, {"in work", false}, {"recovery", false},
                                         {"faults", false},  {"lost", false},     {"corrupt", false},   {"wrong", false}, {"broken", true}};
 

@@ -50,7 +50,6 @@ rocksdb::Options Database::options() const {
     options.wal_recovery_mode = mode_.recovery;
     options.manual_wal_flush = mode_.flushes_log;
     options.track_and_verify_wals_in_manifest = mode_.tracks;
-    options.recycle_log_file_num = mode_.recycles ? 2 : 0;
     options.avoid_flush_during_recovery = mode_.keeps_logs;
     options.two_write_queues = mode_.has_two_queues;
     options.atomic_flush = mode_.flushes_atomically;

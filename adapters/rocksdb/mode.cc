@@ -12,7 +12,7 @@ static bool read_switch(const std::string& word, Mode* mode) {
         const char* word;
         bool Mode::*is_set;
     } switches[] = {{"manual", &Mode::flushes_log},      {"track", &Mode::tracks},
-                    {"recycle", &Mode::recycles},        {"keep", &Mode::keeps_logs},
+                    {"keep", &Mode::keeps_logs},
                     {"queues", &Mode::has_two_queues},   {"queued", &Mode::syncs_queued},   {"families", &Mode::has_families},
                     {"atomic", &Mode::flushes_atomically}, {"transactions", &Mode::has_transactions},
                     {"blobs", &Mode::has_blobs},         {"checkpoints", &Mode::has_checkpoints},

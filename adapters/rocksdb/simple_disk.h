@@ -1,6 +1,6 @@
-// A disk in memory that loses what FaultInjectionTestFS of RocksDB 7.8 loses, whose header isn't in Debian's package: the end of a file
-// after its last sync, all of it or a random part, and the files that were made in a directory since its last sync. A removal is durable
-// when it returns. It is written after that class, and is for comparisons.
+// A disk in memory that loses what FaultInjectionTestFS of RocksDB 7.8 loses: the end of a file after its last sync, all of it or a random
+// part, and the files that were made in a directory since its last sync. A removal is durable when it returns. Debian's package doesn't have the
+// header of that class; this one is written after it, for comparisons.
 #ifndef BLOBCRASH_ROCKSDB_SIMPLE_DISK_H
 #define BLOBCRASH_ROCKSDB_SIMPLE_DISK_H
 
