@@ -30,6 +30,8 @@ expect 'the comparison' 0 "$crash" --compare 1
 version=$(printf '#include <rocksdb/version.h>\nROCKSDB_MAJOR ROCKSDB_MINOR ROCKSDB_PATCH\n' | "$cxx" -x c++ -E - | tail -n 1)
 if [ "$version" = '7 8 3' ]; then
     finds 'RocksDB 7.8.3' <<'ROWS'
+17 sync-xfs checksum mismatch in file /d/MANIFEST
+20 sync-queues-transactions ended by signal 6
 3 sync-posix No such file or directory: /d/MANIFEST
 5 nosync-families the rows are those of no batch
 1 nosync-blobs the rows are those of no batch
