@@ -1,6 +1,6 @@
 """Crashes an application's own transactions on SQLite: transfers between ten accounts, over 100 seeds.
 
-    sqlite_transfers.py [PRAGMA ..]    for each connection, as `synchronous=OFF`, which loses transfers
+    sqlite_transfers.py [PRAGMA ..]    for each connection; `synchronous=EXTRA` without one. `synchronous=FULL` loses a transfer
 """
 
 import os
@@ -16,7 +16,7 @@ control.load_extension(os.environ.get("BLOBCRASH_SQLITE", os.path.join(OUT, "blo
 
 def connect(seed):
     db = sqlite3.connect(f"file:bank.db?vfs=blobcrash&seed={seed}&tear=sectors512", uri=True, isolation_level=None)
-    for pragma in sys.argv[1:]:
+    for pragma in sys.argv[1:] or ["synchronous=EXTRA"]:
         db.execute(f"PRAGMA {pragma}")
     return db
 

@@ -92,7 +92,7 @@ def own_layouts():
 
 def main():
     checks = [(f"{name} is {value}", numbers_of("blobcrash.h").get(name) == value) for name, value in named().items()]
-    checks.append(("eight numbers are compared", len(checks) == 8))
+    checks.append(("nine numbers are compared", len(checks) == 9))
     for crate, sources, header in (
         ("blob_sessions", SESSIONS, "blobcrash.h"),
         ("blob_file_sessions", FILES, "blobcrash_files.h"),

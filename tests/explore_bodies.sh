@@ -1,7 +1,7 @@
 #!/bin/sh
 # Tests of explorations of code: in C (bindings/c/explore.c, a log with power losses in explore_log.c, and programs on files in
-# explore_files.c), in Python (tests/explore_bodies.py, explore_bounds.py), and the log of examples/log.py over
-# every outcome of small runs, with planted bugs (tests/explore_log.py). The last line is `N passed, M failed`.
+# explore_files.c), in Python (tests/explore_bodies.py, explore_bounds.py, explore_met.py), and the log of examples/log.py, a cell and records
+# over every outcome of small runs, with planted bugs (tests/explore_log.py, explore_clients.py). The last line is `N passed, M failed`.
 top=$(CDPATH='' cd -- "$(dirname -- "$0")/.." && pwd -P)
 # shellcheck source=tests/counting.sh
 . "$top/tests/counting.sh"
@@ -69,7 +69,9 @@ python=$(with_distributed)
 export PYTHONDONTWRITEBYTECODE=1
 add "$python" "$top/tests/explore_bodies.py"
 add "$python" "$top/tests/explore_bounds.py"
+add "$python" "$top/tests/explore_met.py"
 add "$python" "$top/tests/explore_log.py"
+add "$python" "$top/tests/explore_clients.py"
 
 # The example finds nothing in the log, and a lost record if the log forgets its sync.
 "$python" "$top/examples/explore_log.py" >"$work/out" 2>&1 && grep -q '^[0-9]* runs, all of them$' "$work/out"

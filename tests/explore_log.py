@@ -6,13 +6,13 @@ also while the log recovers. The log loses nothing, and each planted bug is foun
 
 import os
 import sys
-import time
 
 TOP = os.path.dirname(os.path.dirname(os.path.abspath(__file__)))
 sys.path[:0] = [os.path.join(TOP, "examples"), os.path.join(TOP, "bindings", "python")]
 
 import log as example
 from blobcrash import Failed, Injected, PowerLoss, explore, run
+from explored_cases import run_cases
 from log import HEAD, Broken, Log, check, framed, records_in
 
 
@@ -73,8 +73,9 @@ def records_or_zeros(data):
     return records, end
 
 
-def life(store, kind, records):
-    """One log: appends until one fails, a crash, and a recovery. What a recovery found is found again."""
+def life(store, kind, records, expects=False):
+    """One log: appends until one fails, a crash, and a recovery. What a recovery found is found again. Returns it. With `expects` the
+    restarts say what is expected."""
     log = None
     try:
         log = kind(store)
@@ -83,10 +84,11 @@ def life(store, kind, records):
     except (Injected, PowerLoss):
         pass
     acknowledged, unsure = ([], None) if log is None else (log.acknowledged, log.unsure)
-    found = store.recover(recovered, store, kind)
+    found = store.recover(recovered, store, kind, expecting=(acknowledged, unsure) if expects else None)
     check(acknowledged, unsure, found)
-    if store.recover(recovered, store, kind) != found:
+    if store.recover(recovered, store, kind, expecting=found if expects else None) != found:
         raise Broken("a second recovery finds other records")
+    return tuple(found)
 
 
 def recovered(store, kind):
@@ -134,21 +136,9 @@ def test_bug(kind, settings, power_losses, reason):
 
 
 def main():
-    passed = failed = 0
     tests = [(name, test_case, arguments) for name, *arguments in CASES]
     tests += [(f"{arguments[0].__name__}, {', '.join(arguments[1])}", test_bug, arguments) for arguments in BUGS]
-    for name, test, arguments in tests:
-        began = time.monotonic()
-        try:
-            shown = test(*arguments)
-            passed += 1
-        except AssertionError as error:
-            failed += 1
-            shown = f"FAILED: {error}"
-        if "--count" in sys.argv or shown.startswith("FAILED"):
-            print(f"explore_log.py: {name}: {shown}, {time.monotonic() - began:.1f} s")
-    print(f"{passed} passed, {failed} failed")
-    return int(failed > 0)
+    return run_cases("explore_log.py", tests)
 
 
 if __name__ == "__main__":

@@ -1,74 +1,60 @@
 #!/bin/sh
 # The real LevelDB on the layer (adapters/leveldb): 20 seeds of each mode in which nothing may be lost; a lying sync and what
-# docs/LEVELDB.md says of LevelDB 1.23 are found; the driver under the sanitizers. SEEDS is another number of seeds.
+# docs/LEVELDB.md says of LevelDB 1.23 are found; the scenarios of its own test of faults; the driver under the sanitizers. SEEDS is another
+# number of seeds.
 # The last line is `N passed, M failed`, with `, K skipped` if a tool is missing.
 top=$(CDPATH='' cd -- "$(dirname -- "$0")/.." && pwd -P)
 # shellcheck source=tests/counting.sh
 . "$top/tests/counting.sh"
 cd "$top" || exit 1
-crash=$top/out/leveldb/crash
+database=leveldb
+# shellcheck source=tests/drivers.sh
+. "$top/tests/drivers.sh"
 
-# expect NAME STATUS COMMAND..: one test. What the command prints is in $work/out, and what the last run of
-# the driver printed in $work/table.
-expect() {
-    name=$1
-    wanted=$2
-    shift 2
-    "$@" >"$work/out" 2>&1
-    status=$?
-    [ "$1" != "$crash" ] || cp "$work/out" "$work/table"
-    if [ "$status" -eq "$wanted" ]; then
-        pass
-    else
-        fail "$name: status $status, wanted $wanted"
-        head -n 40 "$work/out"
-    fi
-}
-
-cxx=${CXX:-c++}
-if ! echo '#include <leveldb/db.h>' | "$cxx" -x c++ -E - >/dev/null 2>&1; then
-    skip "there is no $cxx with leveldb/db.h (Debian: g++, libleveldb-dev)"
-    finish
-fi
+need_header leveldb/db.h libleveldb-dev
 expect 'the driver is built' 0 sh adapters/leveldb/crash.sh --list
 version=$(printf '#include <leveldb/db.h>\nint version = leveldb::kMajorVersion * 1000 + leveldb::kMinorVersion;\n' |
     "$cxx" -x c++ -E - | sed -n 's/.*\(kMajorVersion\|kMinorVersion\) = \([0-9]*\);.*/\2/p' | tr '\n' ' ')
 
-expect 'with syncs nothing is lost' 0 "$crash" "${SEEDS:-20}" sync sync-none sync-prefix sync-faults
-expect 'and each mode says so' 0 [ "$(grep -c '| held  *|$' "$work/table")" -eq 4 ]
-expect 'and acknowledges batches' 0 [ "$(awk -F'|' '/held/ && $4 > 0 && $6 > 0' "$work/table" | wc -l)" -eq 4 ]
-expect 'without syncs the last batches are lost' 0 "$crash" 10 nosync-none
+expect 'with syncs nothing is lost' 0 "$crash" --jobs 2 "${SEEDS:-20}" sync sync-xfs sync-btrfs sync-posix-create-rename sync-none sync-prefix
+expect 'and each mode says so' 0 [ "$(grep -c '| held  *|$' "$work/table")" -eq 6 ]
+expect 'and acknowledges batches' 0 [ "$(awk -F'|' '/held/ && $4 > 0 && $6 > 0' "$work/table" | wc -l)" -eq 6 ]
+expect 'without syncs the last batches are lost' 0 "$crash" --jobs 2 10 nosync-none
 expect 'and no others' 0 grep -q '| lost, as allowed  *|$' "$work/table"
-expect 'a lying sync' 0 "$crash" 10 sync-lying
+expect 'a lying sync' 0 "$crash" --jobs 2 10 sync-lie
 expect 'is found' 0 grep -q '| damaged, as allowed  *|$' "$work/table"
+expect "the scenarios of LevelDB's own test" 0 "$crash" --scenarios
+expect 'pass on each profile' 0 [ "$(grep -c '| passes |$' "$work/table")" -eq 16 ]
 
 # What this version does wrong: docs/LEVELDB.md.
 if [ "$version" = '1 23 ' ]; then
-    while read -r seed mode what; do
-        expect "LevelDB 1.23: seed $seed of $mode" 1 "$crash" --seed "$seed" "$mode"
-        expect "LevelDB 1.23: $what" 0 grep -q "$what" "$work/table"
-    done <<'ROWS'
-7 sync-reads acknowledged batches are lost
-1 sync-reuse the rows are those of no batch
-12 nosync the rows are those of no batch
-4 nosync-whole the rows are those of no batch
+    finds 'LevelDB 1.23' <<'ROWS'
+34 sync-reads acknowledged batches are lost
+3 sync-reuse the rows are those of no batch
+6 sync-posix-create CURRENT points to a non-existent file
+4 sync-posix-create the rows are those of no batch
+1 sync-posix-rename acknowledged batches are lost
+43 nosync the rows are those of no batch
+1 nosync-whole-xfs the rows are those of no batch
 ROWS
+    for life in '11 sync-bytes-xfs' '8 sync-paranoid-xfs'; do
+        # shellcheck disable=SC2086
+        expect "LevelDB 1.23: seed $life" 0 "$crash" --seed $life
+        expect 'LevelDB 1.23: a torn record is an error' 0 grep -q "it can't be opened: Corruption" "$work/table"
+    done
 else
     echo "leveldb.sh: the seeds of docs/LEVELDB.md are of LevelDB 1.23, and this is $version"
 fi
 
-for arguments in '' 0 x '1 frob' '1 sync-frob' '--seed 1' '--seed 0 sync' '--seed x sync'; do
-    # shellcheck disable=SC2086
-    expect "these arguments are refused: $arguments" 2 "$crash" $arguments
-done
+refuses '' 0 x '1 frob' '1 sync-frob' '--seed 1' '--seed x sync' '--jobs 0 1 sync'
 
-sanitize='-O1 -g -fsanitize=address,undefined -fno-sanitize-recover=all'
+sanitize='-O1 -fsanitize=address,undefined -fno-sanitize-recover=all'
 echo 'int main() { return 0; }' >"$work/empty.cc"
 # shellcheck disable=SC2086
 if "$cxx" $sanitize -o "$work/empty" "$work/empty.cc" 2>"$work/out" && "$work/empty"; then
-    expect 'the driver is built with sanitizers' 0 "$cxx" -std=c++17 $sanitize -Ibindings/c -o "$work/crash" adapters/leveldb/*.cc \
-        out/libblobcrash.a -lleveldb
-    "$work/crash" 1 >"$work/table" 2>"$work/err"
+    expect 'the driver is built with sanitizers' 0 env OUT="$work" CFLAGS="$sanitize" CXXFLAGS="$sanitize" \
+        sh adapters/common/build_cxx.sh leveldb leveldb/db.h libleveldb-dev -lleveldb
+    "$work/crash" --jobs 2 1 >"$work/table" 2>"$work/err"
     expect 'every mode, sanitized' 0 [ $? -le 1 ]
     expect 'no report of a sanitizer' 0 [ ! -s "$work/err" ]
 else

@@ -1,23 +1,15 @@
 #!/bin/sh
 # Builds out/leveldb/crash if it is older than its sources, and crashes LevelDB:
 #
-#     sh adapters/leveldb/crash.sh 100                 100 seeds of each mode, and the table
-#     sh adapters/leveldb/crash.sh --seed 7 sync-reads one life; BLOBCRASH_TRACE=1 shows each call
+#     sh adapters/leveldb/crash.sh 100                  100 seeds of each mode, and the table
+#     sh adapters/leveldb/crash.sh --seed 34 sync-reads one life; BLOBCRASH_TRACE=1 shows each call
+#     sh adapters/leveldb/crash.sh --scenarios          those of LevelDB's own test of faults
 #
-# It needs a C++ compiler and LevelDB (Debian: g++, libleveldb-dev). docs/LEVELDB.md describes the modes and the exit statuses.
+# docs/LEVELDB.md describes the modes and the exit statuses.
 set -eu
 
-folder=$(CDPATH='' cd -- "$(dirname -- "$0")" && pwd -P)
-repository=$folder/../..
-program=$repository/out/leveldb/crash
-cxx=${CXX:-c++}
-
-sh "$repository/bindings/build.sh"
-mkdir -p "$repository/out/leveldb"
-if [ ! -f "$program" ] || [ -n "$(find "$folder" "$repository/out/libblobcrash.a" -type f -newer "$program" | head -n 1)" ]; then
-    # shellcheck disable=SC2086
-    "$cxx" -std=c++17 -O2 -g -Wall -Wextra -Werror ${CXXFLAGS:-} -I"$repository/bindings/c" -o "$program.$$" "$folder"/*.cc \
-        "$repository/out/libblobcrash.a" -lleveldb
-    mv -f "$program.$$" "$program"
-fi
-exec "$program" "$@"
+here=$(CDPATH='' cd -- "$(dirname -- "$0")" && pwd -P)
+sh "$here/../common/build_cxx.sh" leveldb leveldb/db.h libleveldb-dev -lleveldb
+CRASH_COMMAND="sh adapters/leveldb/crash.sh"
+export CRASH_COMMAND
+exec "${OUT:-$here/../../out/leveldb}/crash" "$@"

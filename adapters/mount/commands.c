@@ -71,6 +71,7 @@ pid_t command_run(const char *line, char *reply, size_t capacity) {
     else if (!strcmp(line, "umount")) serve_end();
     else if (!strcmp(line, "record stop")) error = record_end();
     else if (begins(line, "record /")) error = record_begin(line + strlen("record "));
+    else if (begins(line, "note ")) record_note(line + strlen("note "));
     else if (begins(line, "crash-after ")) error = crash_after(line + strlen("crash-after "));
     else if (is_setting(line)) error = layer_set(line);
     else error = ENOSYS;

@@ -201,6 +201,13 @@ void record_setting(const char *setting) {
     end_line();
 }
 
+void record_note(const char *text) {
+    if (file < 0 || strlen(text) + 4 > LINE_MOST) return;
+    put_text("# ");
+    put_text(text);
+    end_line();
+}
+
 void record_write(uint64_t descriptor, uint64_t offset, const void *bytes, size_t len, uint32_t status) {
     if (!begin_line(2 * len + 64, status)) return;
     put_text("write");

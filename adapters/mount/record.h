@@ -28,6 +28,8 @@ const char *record_state(void);
 /* Notes a call that returned this status, if it changes something or may draw. */
 void record_call(const struct blobcrash_file_call *call, const char *path, const char *to, uint32_t status);
 void record_setting(const char *setting);
+/* Adds a comment to the record, if there is one. It is no change. */
+void record_note(const char *text);
 void record_write(uint64_t descriptor, uint64_t offset, const void *bytes, size_t len, uint32_t status);
 void record_read(uint64_t descriptor, uint64_t offset, size_t len, uint32_t status);
 

@@ -6,6 +6,7 @@ set -eu
 
 here=$(CDPATH='' cd -- "$(dirname -- "$0")" && pwd -P)
 top=$(CDPATH='' cd -- "$here/../.." && pwd -P)
+common=$top/adapters/common
 out=${OUT:-$top/out/sqlite}
 compiler=${CC:-cc}
 archive=${BLOBCRASH_ARCHIVE:-}
@@ -21,7 +22,7 @@ fi
 
 # is_current FILE: whether it is newer than the library and every source.
 is_current() {
-    [ -f "$1" ] && [ -z "$(find "$archive" "$here" "$top/bindings/c/blobcrash.h" -type f -newer "$1" | head -n 1)" ]
+    [ -f "$1" ] && [ -z "$(find "$archive" "$here" "$common" "$top"/bindings/c/blobcrash*.h -type f -newer "$1" | head -n 1)" ]
 }
 
 # shellcheck source=tools/building.sh
@@ -34,13 +35,13 @@ compile() {
     file=$1
     shift
     # shellcheck disable=SC2086
-    "$compiler" -std=c11 -D_XOPEN_SOURCE=700 -O2 -g -Wall -Wextra -Werror "-I$top/bindings/c" "-I$here" "-I$here/crash" ${CFLAGS:-} \
-        -o "$file.new" "$here/layer.c" "$here/store.c" "$here/directory.c" "$here/parameters.c" "$here/vfs.c" "$@"
+    "$compiler" -std=c11 -D_XOPEN_SOURCE=700 -O2 -g -Wall -Wextra -Werror "-I$top/bindings/c" "-I$common" "-I$here" "-I$here/crash" \
+        ${CFLAGS:-} -o "$file.new" "$here/store.c" "$here/locks.c" "$here/memory.c" "$here/parameters.c" "$here/vfs.c" "$common/disk.c" "$@"
     mv -f "$file.new" "$file"
 }
 
 if ! is_current "$out/crash"; then
-    compile "$out/crash" -DSQLITE_CORE "$here"/crash/*.c "$archive" -lsqlite3
+    compile "$out/crash" -DSQLITE_CORE "$here"/crash/*.c "$common/driver.c" "$common/pool.c" "$common/words.c" "$archive" -lsqlite3
 fi
 if ! is_current "$out/blobcrash.so"; then
     # Only the entry point is visible, so that the names of the library don't meet those of a program that loads it.

@@ -4,9 +4,10 @@
  *
  * - blobcrash_crash(): crashes, and returns how many bytes of unsynced writes were lost by its choices.
  * - blobcrash_power_off(calls): lets this many more calls change something; then every call fails until the next crash.
- * - blobcrash_config(settings): makes the settings of a `config` line, as 'sync 1 40'.
- * - blobcrash_changes(): returns how many calls have changed something since the store was started.
- * - blobcrash_reset(): ends the store. The next open starts a new one.
+ * - blobcrash_set(setting): makes a setting of the file system, as 'config sync 1 40' or 'syncs lie'.
+ * - blobcrash_settle(): makes all files durable, without a draw.
+ * - blobcrash_changes(): returns how many calls have changed something since the file system was started.
+ * - blobcrash_reset(): ends the file system. The next open starts a new one.
  * - blobcrash_message(): returns why the last call was refused.
  *
  * Call them on a connection to another database, as ':memory:'. An error has the text of blobcrash_message.
@@ -27,7 +28,7 @@ static void give(sqlite3_context *context, int code) {
 }
 
 static void sql_crash(sqlite3_context *context, int count, sqlite3_value **arguments) {
-    struct blobcrash_vfs_crash crash;
+    struct disk_crash crash;
     (void)count, (void)arguments;
     int code = blobcrash_vfs_crash(&crash);
     if (code) give(context, code);
@@ -43,14 +44,19 @@ static void sql_power_off(sqlite3_context *context, int count, sqlite3_value **a
     give(context, blobcrash_vfs_power_off_after(sqlite3_value_int64(arguments[0])));
 }
 
-static void sql_config(sqlite3_context *context, int count, sqlite3_value **arguments) {
-    const char *settings = (const char *)sqlite3_value_text(arguments[0]);
+static void sql_set(sqlite3_context *context, int count, sqlite3_value **arguments) {
+    const char *setting = (const char *)sqlite3_value_text(arguments[0]);
     (void)count;
-    if (settings && strlen(settings) == (size_t)sqlite3_value_bytes(arguments[0])) {
-        give(context, blobcrash_vfs_config(settings));
+    if (setting && strlen(setting) == (size_t)sqlite3_value_bytes(arguments[0])) {
+        give(context, blobcrash_vfs_set(setting));
     } else {
-        sqlite3_result_error(context, "blobcrash_config takes a text", -1);
+        sqlite3_result_error(context, "blobcrash_set takes a text", -1);
     }
+}
+
+static void sql_settle(sqlite3_context *context, int count, sqlite3_value **arguments) {
+    (void)count, (void)arguments;
+    give(context, blobcrash_vfs_settle());
 }
 
 static void sql_changes(sqlite3_context *context, int count, sqlite3_value **arguments) {
@@ -75,8 +81,9 @@ static int create_functions(sqlite3 *db) {
         void (*call)(sqlite3_context *, int, sqlite3_value **);
     } functions[] = {
         {"blobcrash_crash", 0, sql_crash},   {"blobcrash_power_off", 1, sql_power_off},
-        {"blobcrash_config", 1, sql_config}, {"blobcrash_changes", 0, sql_changes},
-        {"blobcrash_reset", 0, sql_reset},   {"blobcrash_message", 0, sql_message},
+        {"blobcrash_set", 1, sql_set},       {"blobcrash_settle", 0, sql_settle},
+        {"blobcrash_reset", 0, sql_reset},   {"blobcrash_changes", 0, sql_changes},
+        {"blobcrash_message", 0, sql_message},
     };
     int code = SQLITE_OK;
     for (size_t i = 0; i < sizeof functions / sizeof *functions && !code; i++) {

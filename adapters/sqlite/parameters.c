@@ -5,10 +5,20 @@
 #include <stdlib.h>
 #include <string.h>
 
-enum { RATE_SIZE = 48, LINE_SIZE = 160, CALLS = 5 };
+enum { RATE_SIZE = 48, LINE_SIZE = 160, CALLS = 3, SWITCHES = 5 };
 
 /* The calls that have a `config` line of their own, with a rate alone. */
-static const char *const calls[CALLS] = {"open", "read", "sync", "remove", "scan"};
+static const char *const calls[CALLS] = {"open", "read", "sync"};
+
+/* The parameters that are settings of the layer by the same name, with a word that it reads, or with a rate. */
+static const struct {
+    const char *name, *setting;
+    const char *const words[5];
+} switches[SWITCHES] = {
+    {"profile", "profile", {"ext4", "xfs", "btrfs", "posix"}}, {"syncs", "syncs", {"honest", "lie"}},
+    {"failed_sync", "failed_sync", {"keeps", "drops"}},        {"failed_write", "failed_write", {"mode", "prefix"}},
+    {"keep_names", "keep", {NULL}},
+};
 
 /* Parts of `config` lines. An empty text is one that wasn't given. */
 struct settings {
@@ -17,15 +27,14 @@ struct settings {
 
 /* What a URI asks for. */
 struct request {
-    bool has_seed, has_power_off;
+    bool has_seed, has_power_off, repeats_truncations;
     uint64_t seed, power_off;
-    struct blobcrash_vfs_disk disk;
     struct device device;
     struct settings settings;
-    char fails[CALLS][RATE_SIZE];
+    char fails[CALLS][RATE_SIZE], switches[SWITCHES][RATE_SIZE];
 };
 
-/* What the URIs since the start of the store have set. */
+/* What the URIs since the start of the file system have set. */
 static struct settings settings;
 
 /* Values. */
@@ -96,6 +105,15 @@ static bool read_failure(const char *call, const char *value, struct request *re
     return false;
 }
 
+/* Reads the value of a switch. */
+static bool read_switch(int at, const char *value, struct request *request) {
+    if (!switches[at].words[0]) return read_rate(value, request->switches[at]);
+    for (const char *const *word = switches[at].words; *word; word++) {
+        if (strcmp(*word, value) == 0) return strcpy(request->switches[at], value), true;
+    }
+    return false;
+}
+
 /* Parameters of SQLite itself mean nothing here. */
 static bool is_standard(const char *key) {
     static const char *const keys[] = {"vfs", "mode", "cache", "psow", "nolock", "immutable"};
@@ -117,9 +135,10 @@ static bool read_parameter(const char *key, const char *value, struct request *r
     if (strcmp(key, "partial") == 0) return read_rate(value, request->settings.partial);
     if (strcmp(key, "sector") == 0) return read_sector(value, &request->device.sector_size);
     if (strcmp(key, "device") == 0) return read_device(value, &request->device.characteristics);
-    if (strcmp(key, "directory") == 0) return read_word(value, "lags", &request->disk.directory_lags);
-    if (strcmp(key, "sync") == 0) return read_word(value, "lies", &request->disk.sync_lies);
-    if (strcmp(key, "resizes") == 0) return read_word(value, "survive", &request->disk.resize_retries);
+    if (strcmp(key, "resizes") == 0) return read_word(value, "survive", &request->repeats_truncations);
+    for (int i = 0; i < SWITCHES; i++) {
+        if (strcmp(key, switches[i].name) == 0) return read_switch(i, value, request);
+    }
     return is_standard(key);
 }
 
@@ -136,9 +155,9 @@ static int read_request(const char *name, struct request *request) {
     *request = (struct request){.device = default_device};
     for (int i = 0; (key = sqlite3_uri_key(name, i)); i++) {
         const char *value = sqlite3_uri_parameter(name, key);
-        if (is_second(name, i)) return layer_refuse(SQLITE_CANTOPEN, "the parameter %.200s is given twice", key);
+        if (is_second(name, i)) return store_refuse(SQLITE_CANTOPEN, "the parameter %.200s is given twice", key);
         if (!read_parameter(key, value, request)) {
-            return layer_refuse(SQLITE_CANTOPEN, "not a parameter: %.200s=%.200s", key, value);
+            return store_refuse(SQLITE_CANTOPEN, "not a parameter: %.200s=%.200s", key, value);
         }
     }
     return SQLITE_OK;
@@ -146,15 +165,10 @@ static int read_request(const char *name, struct request *request) {
 
 /* Settings. */
 
-/* Starts a store if none is started, or if the URI has another seed. Else its disk must be what the URI asks for. */
+/* Starts a file system if none is started, or if the URI has another seed. */
 static int start(const struct request *request) {
-    const struct blobcrash_vfs_disk *now = store_disk(), *disk = &request->disk;
-    if (!now || (request->has_seed && !store_is_current(request->seed))) return store_start_seed(request->seed, disk);
-    if ((disk->directory_lags && !now->directory_lags) || (disk->sync_lies && !now->sync_lies) ||
-        (disk->resize_retries && !now->resize_retries)) {
-        return layer_refuse(SQLITE_CANTOPEN, "the store was started with another disk");
-    }
-    return SQLITE_OK;
+    bool starts = !store_is_started() || (request->has_seed && !store_is_current(request->seed));
+    return starts ? store_start_seed(request->seed) : SQLITE_OK;
 }
 
 static void merge(char *now, const char *given) {
@@ -178,16 +192,16 @@ static int configure_writes(void) {
     else if (strcmp(tear, "all") == 0) keep = "1 1", tear = "prefix";
     else if (strcmp(tear, "whole") == 0) tear = "sectors 9223372036854775807";
     else if (strcmp(tear, "bytes") == 0) tear = "subset";
-    sqlite3_snprintf(sizeof line, line, "write %s %s %s", fails, keep, tear);
-    return blobcrash_vfs_config(line);
+    sqlite3_snprintf(sizeof line, line, "config write %s %s %s", fails, keep, tear);
+    return blobcrash_vfs_set(line);
 }
 
 static int configure_resizes(void) {
     char line[LINE_SIZE];
     if (!settings.resize_fails[0]) return SQLITE_OK;
-    sqlite3_snprintf(sizeof line, line, "resize %s %s", settings.resize_fails,
+    sqlite3_snprintf(sizeof line, line, "config resize %s %s", settings.resize_fails,
                      settings.partial[0] ? settings.partial : "0 1");
-    return blobcrash_vfs_config(line);
+    return blobcrash_vfs_set(line);
 }
 
 static int configure(const struct request *request) {
@@ -197,9 +211,15 @@ static int configure(const struct request *request) {
     if (!code) code = configure_resizes();
     for (int i = 0; i < CALLS && !code; i++) {
         if (!request->fails[i][0]) continue;
-        sqlite3_snprintf(sizeof line, line, "%s %s", calls[i], request->fails[i]);
-        code = blobcrash_vfs_config(line);
+        sqlite3_snprintf(sizeof line, line, "config %s %s", calls[i], request->fails[i]);
+        code = blobcrash_vfs_set(line);
     }
+    for (int i = 0; i < SWITCHES && !code; i++) {
+        if (!request->switches[i][0]) continue;
+        sqlite3_snprintf(sizeof line, line, "%s %s", switches[i].setting, request->switches[i]);
+        code = blobcrash_vfs_set(line);
+    }
+    if (!code && request->repeats_truncations) code = blobcrash_vfs_repeat_truncations(true);
     return code;
 }
 

@@ -1,290 +1,252 @@
 #include "store.h"
 
-#include "directory.h"
-#include "layer.h"
+#include "memory.h"
 #include "parameters.h"
 
 #include <inttypes.h>
+#include <stdarg.h>
 #include <stdatomic.h>
 #include <stdio.h>
 #include <string.h>
 
 /* Of a call that is repeated while a fault is injected. */
-enum { MOST_TRIES = 1000 };
+enum { MOST_TRIES = 1000, MESSAGE_SIZE = 512 };
 
-/* A variable of the thread that started the store; NULL if none is started. */
+/* A variable of the thread that started the file system; NULL if none is started. */
 static _Atomic(const char *) owner;
-static _Thread_local char this_thread;
+static _Thread_local char this_thread, message[MESSAGE_SIZE];
 
 static struct {
-    struct blobcrash_vfs_disk disk;
-    bool has_seed;
-    uint64_t seed, changes;
+    struct disk disk;
+    bool has_seed, repeats_truncations;
+    uint64_t seed;
+    /* Of the files that are open, and were opened since the last crash. */
     struct node *nodes;
     int open_files;
-    int64_t calls_left; /* Before the power goes off; negative if it stays on. */
-    bool is_off;
-} store = {.calls_left = -1};
+} store;
+
+int store_refuse(int code, const char *format, ...) {
+    va_list words;
+    va_start(words, format);
+    vsnprintf(message, sizeof message, format, words);
+    va_end(words);
+    return code;
+}
+
+const char *blobcrash_vfs_message(void) { return message; }
 
 static bool is_ours(void) { return owner == &this_thread; }
 
 static int refuse_thread(void) {
-    return layer_refuse(SQLITE_MISUSE, owner ? "the store belongs to another thread" : "no store is started");
+    return store_refuse(SQLITE_MISUSE, owner ? "the file system belongs to another thread" : "no file system is started");
 }
 
-const struct blobcrash_vfs_disk *store_disk(void) { return is_ours() ? &store.disk : NULL; }
+bool store_is_started(void) { return is_ours(); }
 bool store_is_current(uint64_t seed) { return is_ours() && store.has_seed && store.seed == seed; }
+bool store_is_on(void) { return is_ours() && store.disk.is_on; }
 
-/* The power. */
-
-int blobcrash_vfs_power_off_after(int64_t calls) {
-    if (!is_ours()) return refuse_thread();
-    store.calls_left = calls < 0 ? -1 : calls;
-    return SQLITE_OK;
-}
-
-bool blobcrash_vfs_is_off(void) { return store.is_off; }
-uint64_t blobcrash_vfs_changes(void) { return store.changes; }
-uint64_t blobcrash_vfs_faults(void) { return layer_faults(); }
-
-bool store_may_read(void) { return is_ours() && !store.is_off; }
-
-bool store_may_change(void) {
-    if (!is_ours()) return false;
-    if (store.calls_left == 0) store.is_off = true;
-    if (store.is_off) return false;
-    if (store.calls_left > 0) store.calls_left--;
-    store.changes++;
-    return true;
+/* Returns the result code of a status: `failed` if the call was made and failed. Keeps a message. */
+static int code_of(uint32_t status, int failed) {
+    switch (status) {
+    case BLOBCRASH_DONE: return SQLITE_OK;
+    case BLOBCRASH_E_INJECTED: return store_refuse(failed, "an injected fault");
+    case DISK_OFF: return store_refuse(failed, "the power is off");
+    case BLOBCRASH_F_STALE: return store_refuse(failed, "the file was opened before a crash");
+    case BLOBCRASH_NO_MEMORY:
+    case BLOBCRASH_E_MEMORY: return store_refuse(SQLITE_IOERR_NOMEM, "out of memory");
+    case BLOBCRASH_F_NO_SPACE: return store_refuse(SQLITE_FULL, "a limit of the file system is reached");
+    default: return store_refuse(failed, "the file system returned %u", (unsigned)status);
+    }
 }
 
 /* Names. */
 
-/* Writes the hex of a blob's name: the file's, and if the directory lags the blob's number after it. */
-static const char *hex_of(const char *name, unsigned blob) {
-    static char hex[2 * LONGEST_NAME + 32];
-    char text[LONGEST_NAME + 16];
-    int len = store.disk.directory_lags ? snprintf(text, sizeof text, "%s#%u", name, blob)
-                                        : snprintf(text, sizeof text, "%s", name);
-    for (int i = 0; i < len; i++) snprintf(hex + 2 * i, 3, "%02x", (unsigned char)text[i]);
-    return hex;
+/* Makes a call on a path. */
+static struct blobcrash_file_reply call(uint32_t kind, const char *path) { return disk_call(&store.disk, kind, 0, 0, path); }
+
+/* Copies the path of the directory of a name: what precedes its last slash. */
+static void copy_directory(const char *name, char path[LONGEST_NAME]) {
+    size_t len = (size_t)(strrchr(name, '/') - name);
+    memcpy(path, name, len);
+    path[len] = 0;
 }
+
+static bool is_too_long(const char *name) { return strlen(name) >= LONGEST_NAME || name[0] != '/'; }
 
 int store_exists(const char *name, int *answer) {
     *answer = 0;
-    if (strlen(name) >= LONGEST_NAME) return SQLITE_OK;
-    if (store.disk.directory_lags) return *answer = directory_find(name) != 0, SQLITE_OK;
-    const char *reply = layer_say("scan db");
-    if (layer_begins(reply, "error PartitionMissing")) return SQLITE_OK;
-    if (!layer_begins(reply, "names")) return layer_refusal(reply, SQLITE_IOERR_ACCESS);
-    const char *hex = hex_of(name, 0);
-    size_t len = strlen(hex);
-    for (const char *at = strchr(reply, ' '); at && !*answer; at = strchr(at + 1, ' ')) {
-        *answer = strncmp(at + 1, hex, len) == 0 && (at[1 + len] == ' ' || at[1 + len] == 0);
-    }
-    return SQLITE_OK;
+    if (is_too_long(name)) return SQLITE_OK;
+    if (!is_ours()) return SQLITE_IOERR_ACCESS;
+    struct blobcrash_file_reply reply = call(BLOBCRASH_F_FIND, name);
+    *answer = reply.status == BLOBCRASH_DONE && (reply.kind == 1 || reply.size > 0);
+    return reply.status == DISK_OFF ? code_of(reply.status, SQLITE_IOERR_ACCESS) : SQLITE_OK;
 }
 
-static struct node *node_of(const char *name) {
-    struct node *node = store.nodes;
-    while (node && (node->is_unlinked || strcmp(node->name, name) != 0)) node = node->next;
-    return node;
+int store_sync_directory(const char *name) {
+    char path[LONGEST_NAME];
+    copy_directory(name, path);
+    disk_trace("sync the directory of %s", name);
+    return code_of(call(BLOBCRASH_F_SYNC_DIRECTORY, path).status, SQLITE_IOERR_DIR_FSYNC);
 }
 
-/* Frees a node without references. A stale one is in no list, and its handle is closed. */
-static void release(struct node *node) {
-    if (!node->is_stale) {
-        struct node **at = &store.nodes;
-        while (*at != node) at = &(*at)->next;
-        *at = node->next;
-        layer_say("close %llu", (unsigned long long)node->handle);
-    }
-    sqlite3_free(node);
+int store_remove(const char *name, bool syncs_directory) {
+    if (is_too_long(name)) return SQLITE_IOERR_DELETE_NOENT;
+    if (!is_ours()) return SQLITE_IOERR_DELETE;
+    disk_trace("delete %s", name);
+    uint32_t status = call(BLOBCRASH_F_UNLINK, name).status;
+    if (status == BLOBCRASH_F_NOT_FOUND) return SQLITE_IOERR_DELETE_NOENT;
+    if (status != BLOBCRASH_DONE) return code_of(status, SQLITE_IOERR_DELETE);
+    return syncs_directory ? store_sync_directory(name) : SQLITE_OK;
 }
 
-/* A blob that can't be removed is left: its number is never used again. */
-void store_drop_blob(const char *name, unsigned blob) {
-    for (int tries = 0; tries < MOST_TRIES; tries++) {
-        if (strcmp(layer_say("remove db %s", hex_of(name, blob)), "error Injected") != 0) return;
+/* Makes the directories of a name that don't exist, each durable. */
+static uint32_t make_directories(const char *name) {
+    char path[LONGEST_NAME];
+    uint32_t status = BLOBCRASH_F_NOT_FOUND;
+    for (const char *slash = strchr(name + 1, '/'); slash; slash = strchr(slash + 1, '/')) {
+        memcpy(path, name, (size_t)(slash - name));
+        path[slash - name] = 0;
+        status = call(BLOBCRASH_F_MAKE_DIRECTORY, path).status;
+        if (status == BLOBCRASH_F_EXISTS) continue;
+        if (status == BLOBCRASH_DONE && store_sync_directory(path) != SQLITE_OK) status = DISK_OFF;
+        if (status != BLOBCRASH_DONE) return status;
     }
+    return status == BLOBCRASH_F_EXISTS ? BLOBCRASH_DONE : status;
 }
 
 /* Files. */
 
-/* Opens a blob that no node has, which is created if `blob` is new. */
-static int open_node(const char *name, unsigned blob, struct node **node) {
-    unsigned long long handle;
-    struct node *opened = sqlite3_malloc(sizeof *opened);
-    if (!opened) return SQLITE_NOMEM;
-    const char *reply = layer_say("open db %s", hex_of(name, blob));
-    if (sscanf(reply, "opened %llu", &handle) != 1) {
-        sqlite3_free(opened);
-        return layer_refusal(reply, SQLITE_CANTOPEN);
-    }
-    memset(opened, 0, sizeof *opened);
-    opened->handle = (size_t)handle;
-    strcpy(opened->name, name);
-    opened->next = store.nodes;
-    store.nodes = opened;
-    *node = opened;
-    return SQLITE_OK;
+/* Finds or makes the node of an inode. */
+static struct node *node_of(uint64_t inode) {
+    struct node *node = store.nodes;
+    while (node && node->inode != inode) node = node->next;
+    if (node || !(node = sqlite3_malloc(sizeof *node))) return node;
+    *node = (struct node){.next = store.nodes, .inode = inode};
+    store.nodes = node;
+    return node;
 }
 
-static int create_node(const char *name, struct node **node) {
-    if (!store_may_change()) return layer_refuse(SQLITE_CANTOPEN, "the power is off");
-    layer_trace("create %s", name);
-    if (!store.disk.directory_lags) return open_node(name, 0, node);
-    unsigned blob = directory_reserve(name);
-    int code = blob ? open_node(name, blob, node) : SQLITE_NOMEM;
-    if (code == SQLITE_OK) directory_link(name, blob);
-    return code;
+static struct blobcrash_file_reply open_path(const char *name, bool creates, bool excludes) {
+    struct blobcrash_file_reply reply = {.status = BLOBCRASH_F_NOT_FOUND};
+    if (!excludes) reply = call(BLOBCRASH_F_OPEN, name);
+    if (!creates || reply.status != BLOBCRASH_F_NOT_FOUND) return reply;
+    disk_trace("create %s", name);
+    reply = call(BLOBCRASH_F_CREATE, name);
+    if (reply.status == BLOBCRASH_F_NOT_FOUND && make_directories(name) == BLOBCRASH_DONE) reply = call(BLOBCRASH_F_CREATE, name);
+    return reply;
 }
 
-int store_open(const char *name, bool creates, bool excludes, struct node **node) {
-    int exists, code;
-    if (strlen(name) >= LONGEST_NAME) return layer_refuse(SQLITE_CANTOPEN, "a name of %zu bytes", strlen(name));
-    *node = node_of(name);
-    if (*node && excludes) return layer_refuse(SQLITE_CANTOPEN, "%s exists", name);
-    if (!*node) {
-        if ((code = store_exists(name, &exists))) return SQLITE_CANTOPEN;
-        if (exists ? excludes : !creates) {
-            return layer_refuse(SQLITE_CANTOPEN, "%s %s", name, exists ? "exists" : "doesn't exist");
-        }
-        unsigned blob = store.disk.directory_lags ? directory_find(name) : 0;
-        if ((code = exists ? open_node(name, blob, node) : create_node(name, node))) return code;
+int store_open(const char *name, bool creates, bool excludes, struct open_file *file) {
+    if (is_too_long(name)) return store_refuse(SQLITE_CANTOPEN, "a name of %zu bytes", strlen(name));
+    if (!is_ours()) return store_refuse(SQLITE_CANTOPEN, "the file system belongs to another thread");
+    struct blobcrash_file_reply reply = open_path(name, creates, excludes);
+    if (reply.status == BLOBCRASH_F_NOT_FOUND) return store_refuse(SQLITE_CANTOPEN, "%s doesn't exist", name);
+    if (reply.status == BLOBCRASH_F_EXISTS) return store_refuse(SQLITE_CANTOPEN, "%s exists", name);
+    if (reply.status != BLOBCRASH_DONE) return code_of(reply.status, SQLITE_CANTOPEN);
+    file->descriptor = reply.number;
+    file->name = name;
+    reply = disk_call(&store.disk, BLOBCRASH_F_INODE_OF, file->descriptor, 0, NULL);
+    if (!(file->node = node_of(reply.number))) {
+        disk_call(&store.disk, BLOBCRASH_F_CLOSE, file->descriptor, 0, NULL);
+        return SQLITE_NOMEM;
     }
-    (*node)->references++;
+    file->node->references++;
     store.open_files++;
     return SQLITE_OK;
 }
 
-void store_close(struct node *node) {
+/* Frees the node of a file that isn't open. One from before a crash is in no list. */
+static void free_node(struct node *node) {
+    struct node **at = &store.nodes;
+    while (*at && *at != node) at = &(*at)->next;
+    if (*at) *at = node->next;
+    memory_free(node->memory);
+    sqlite3_free(node);
+}
+
+void store_close(struct open_file *file) {
     store.open_files--;
-    if (--node->references == 0 && (node->is_unlinked || node->is_stale)) release(node);
+    disk_call(&store.disk, BLOBCRASH_F_CLOSE, file->descriptor, 0, NULL);
+    if (--file->node->references == 0) free_node(file->node);
 }
 
-/* Forgets the name of a removed file. Connections that have it open can still use it. */
-static void unlink_node(const char *name) {
-    struct node *node = node_of(name);
-    if (!node) return;
-    node->is_unlinked = true;
-    if (node->references == 0) release(node);
-}
-
-int store_remove(const char *name, bool syncs_directory) {
-    if (strlen(name) >= LONGEST_NAME) return SQLITE_IOERR_DELETE_NOENT;
-    layer_trace("delete %s%s", name, syncs_directory ? ", sync the directory" : "");
-    if (store.disk.directory_lags) {
-        if (!directory_find(name)) return SQLITE_IOERR_DELETE_NOENT;
-        directory_unlink(name);
-    } else {
-        const char *reply = layer_say("remove db %s", hex_of(name, 0));
-        if (layer_begins(reply, "error BlobMissing") || layer_begins(reply, "error PartitionMissing")) {
-            return SQLITE_IOERR_DELETE_NOENT;
-        }
-        if (!layer_is_done(reply)) return layer_refusal(reply, SQLITE_IOERR_DELETE);
-    }
-    unlink_node(name);
-    if (syncs_directory && store.disk.directory_lags && !store.disk.sync_lies) directory_sync();
-    return SQLITE_OK;
-}
-
-int store_read(struct node *node, void *into, int len, sqlite3_int64 offset) {
-    const char *reply = layer_read(node->handle, into, (size_t)len, (uint64_t)offset);
-    sqlite3_int64 size;
-    if (!reply) return SQLITE_OK;
-    if (!layer_begins(reply, "error BlobInsufficientLength")) return layer_refusal(reply, SQLITE_IOERR_READ);
-    int code = store_size(node, &size);
-    if (code) return code;
+int store_read(const struct open_file *file, void *into, int len, sqlite3_int64 offset) {
+    if (!is_ours()) return SQLITE_IOERR_READ;
+    struct blobcrash_ran ran = disk_read(&store.disk, file->descriptor, (uint64_t)offset, into, (size_t)len);
+    if (ran.status != BLOBCRASH_DONE) return code_of(ran.status, SQLITE_IOERR_READ);
+    if (ran.len == (size_t)len) return SQLITE_OK;
     /* SQLite takes the missing bytes as zeros. */
-    memset(into, 0, (size_t)len);
-    if (offset < size && (reply = layer_read(node->handle, into, (size_t)(size - offset), (uint64_t)offset))) {
-        return layer_refusal(reply, SQLITE_IOERR_READ);
-    }
+    memset((char *)into + ran.len, 0, (size_t)len - ran.len);
     return SQLITE_IOERR_SHORT_READ;
 }
 
-int store_write(struct node *node, const void *bytes, int len, sqlite3_int64 offset) {
-    layer_trace("write %s, %d bytes at %lld", node->name, len, (long long)offset);
-    const char *reply = layer_write(node->handle, bytes, (size_t)len, (uint64_t)offset);
-    return reply ? layer_refusal(reply, SQLITE_IOERR_WRITE) : SQLITE_OK;
+int store_write(const struct open_file *file, const void *bytes, int len, sqlite3_int64 offset) {
+    if (!is_ours()) return SQLITE_IOERR_WRITE;
+    disk_trace("write %s, %d bytes at %lld", file->name, len, (long long)offset);
+    return code_of(disk_write(&store.disk, file->descriptor, (uint64_t)offset, bytes, (size_t)len), SQLITE_IOERR_WRITE);
 }
 
-int store_resize(struct node *node, sqlite3_int64 size) {
-    layer_trace("truncate %s to %lld", node->name, (long long)size);
+int store_truncate(const struct open_file *file, sqlite3_int64 size) {
+    if (!is_ours()) return SQLITE_IOERR_TRUNCATE;
+    disk_trace("truncate %s to %lld", file->name, (long long)size);
     for (int tries = 1;; tries++) {
-        const char *reply = layer_say("resize %llu %lld", (unsigned long long)node->handle, size);
-        if (layer_is_done(reply)) return SQLITE_OK;
-        if (!store.disk.resize_retries || tries == MOST_TRIES || strcmp(reply, "error Injected") != 0) {
-            return layer_refusal(reply, SQLITE_IOERR_TRUNCATE);
+        uint32_t status = disk_call(&store.disk, BLOBCRASH_F_TRUNCATE, file->descriptor, (uint64_t)size, NULL).status;
+        if (!store.repeats_truncations || tries == MOST_TRIES || status != BLOBCRASH_E_INJECTED) {
+            return code_of(status, SQLITE_IOERR_TRUNCATE);
         }
     }
 }
 
-int store_size(struct node *node, sqlite3_int64 *size) {
-    unsigned long long found;
-    const char *reply = layer_say("size %llu", (unsigned long long)node->handle);
-    if (sscanf(reply, "size %llu", &found) != 1 || found > INT64_MAX) return layer_refusal(reply, SQLITE_IOERR_FSTAT);
-    *size = (sqlite3_int64)found;
-    return SQLITE_OK;
+int store_size(const struct open_file *file, sqlite3_int64 *size) {
+    if (!is_ours()) return SQLITE_IOERR_FSTAT;
+    struct blobcrash_file_reply reply = disk_call(&store.disk, BLOBCRASH_F_SIZE, file->descriptor, 0, NULL);
+    if (reply.status == BLOBCRASH_DONE) *size = (sqlite3_int64)reply.size;
+    return code_of(reply.status, SQLITE_IOERR_FSTAT);
 }
 
-int store_sync(struct node *node, bool syncs_directory) {
-    layer_trace("sync %s%s", node->name, syncs_directory ? " and its directory" : "");
-    if (store.disk.sync_lies) return SQLITE_OK;
-    if (!node->is_unlinked) {
-        const char *reply = layer_say("sync %llu", (unsigned long long)node->handle);
-        if (!layer_is_done(reply)) return layer_refusal(reply, SQLITE_IOERR_FSYNC);
-    }
-    if (syncs_directory && store.disk.directory_lags) directory_sync();
-    return SQLITE_OK;
+/* As SQLite's own VFS on Linux, which calls fdatasync. */
+int store_sync(const struct open_file *file) {
+    if (!is_ours()) return SQLITE_IOERR_FSYNC;
+    disk_trace("sync %s", file->name);
+    return code_of(disk_call(&store.disk, BLOBCRASH_F_SYNC_DATA, file->descriptor, 0, NULL).status, SQLITE_IOERR_FSYNC);
 }
 
-/* The store. */
-
-/* Forgets all files. None is open. */
-static void forget(void) {
-    while (store.nodes) {
-        struct node *node = store.nodes;
-        store.nodes = node->next;
-        sqlite3_free(node);
-    }
-    directory_end();
-    parameters_reset();
-    memset(&store, 0, sizeof store);
-    store.calls_left = -1;
-}
+/* The file system. */
 
 int blobcrash_vfs_end(void) {
     if (!owner) return SQLITE_OK;
     if (!is_ours()) return refuse_thread();
-    if (store.open_files) return layer_refuse(SQLITE_BUSY, "%d files are open", store.open_files);
-    forget();
-    layer_close();
+    if (store.open_files) return store_refuse(SQLITE_BUSY, "%d files are open", store.open_files);
+    disk_end(&store.disk);
+    parameters_reset();
+    memset(&store, 0, sizeof store);
     owner = NULL;
     return SQLITE_OK;
 }
 
-int blobcrash_vfs_start(const char *preamble, const struct blobcrash_vfs_disk *disk, uint64_t directory_seed) {
+int blobcrash_vfs_start(const char *preamble) {
     const char *none = NULL;
+    struct disk started = {0};
     bool is_first = atomic_compare_exchange_strong(&owner, &none, &this_thread);
     if (!is_ours()) return refuse_thread();
-    if (store.open_files) return layer_refuse(SQLITE_BUSY, "%d files are open", store.open_files);
-    int code = layer_open(preamble);
-    if (code) {
+    if (store.open_files) return store_refuse(SQLITE_BUSY, "%d files are open", store.open_files);
+    uint32_t status = disk_start(&started, preamble);
+    if (status != BLOBCRASH_DONE) {
         if (is_first) owner = NULL;
-        return code;
+        if (status == BLOBCRASH_BAD_LINE) return store_refuse(SQLITE_MISUSE, "a line of the preamble is no setting");
+        return store_refuse(SQLITE_NOMEM, "out of memory");
     }
-    forget();
-    store.disk = *disk;
-    directory_start(directory_seed);
+    disk_end(&store.disk);
+    parameters_reset();
+    memset(&store, 0, sizeof store);
+    store.disk = started;
     return SQLITE_OK;
 }
 
-int store_start_seed(uint64_t seed, const struct blobcrash_vfs_disk *disk) {
+int store_start_seed(uint64_t seed) {
     char preamble[32];
     snprintf(preamble, sizeof preamble, "seed %" PRIu64 "\n", seed);
-    int code = blobcrash_vfs_start(preamble, disk, seed);
+    int code = blobcrash_vfs_start(preamble);
     if (code == SQLITE_OK) {
         store.has_seed = true;
         store.seed = seed;
@@ -292,57 +254,41 @@ int store_start_seed(uint64_t seed, const struct blobcrash_vfs_disk *disk) {
     return code;
 }
 
-int blobcrash_vfs_change_disk(const struct blobcrash_vfs_disk *disk) {
+int blobcrash_vfs_set(const char *setting) {
     if (!is_ours()) return refuse_thread();
-    if (disk->directory_lags != store.disk.directory_lags) {
-        return layer_refuse(SQLITE_MISUSE, "the directory can't change");
+    if (strpbrk(setting, "\r\n")) return store_refuse(SQLITE_MISUSE, "more than one line");
+    switch (disk_set(&store.disk, setting)) {
+    case BLOBCRASH_DONE: return SQLITE_OK;
+    case BLOBCRASH_NO_MEMORY: return store_refuse(SQLITE_NOMEM, "out of memory");
+    default: return store_refuse(SQLITE_MISUSE, "no setting: %.200s", setting);
     }
-    store.disk = *disk;
+}
+
+int blobcrash_vfs_repeat_truncations(bool repeats) {
+    if (!is_ours()) return refuse_thread();
+    store.repeats_truncations = repeats;
     return SQLITE_OK;
 }
 
-int blobcrash_vfs_config(const char *settings) {
+int blobcrash_vfs_settle(void) {
     if (!is_ours()) return refuse_thread();
-    if (strpbrk(settings, "\r\n")) return layer_refuse(SQLITE_MISUSE, "more than one line");
-    const char *reply = layer_say("config %s", settings);
-    if (layer_is_done(reply)) return SQLITE_OK;
-    if (strcmp(reply, "error Memory") == 0) return layer_refuse(SQLITE_NOMEM, "out of memory");
-    return layer_refuse(SQLITE_MISUSE, "no setting: %.200s", settings);
+    return disk_call(&store.disk, BLOBCRASH_F_SETTLE, 0, 0, NULL).status == BLOBCRASH_DONE ? SQLITE_OK : SQLITE_NOMEM;
 }
 
-/* Counts the choices of a reply `crashed 0:1100 1:0`. */
-static void count_choices(const char *reply, struct blobcrash_vfs_crash *crash) {
-    *crash = (struct blobcrash_vfs_crash){0};
-    bool is_choice = false;
-    for (; *reply; reply++) {
-        if (*reply == ' ') is_choice = false;
-        else if (*reply == ':') is_choice = true, crash->writes++;
-        else if (is_choice) crash->kept_bytes += *reply == '1', crash->lost_bytes += *reply == '0';
-    }
-}
-
-/* Files that are open stay with their users, and every call on them fails. The others are forgotten. */
-static void make_nodes_stale(void) {
-    while (store.nodes) {
-        struct node *node = store.nodes;
-        store.nodes = node->next;
-        layer_say("close %llu", (unsigned long long)node->handle);
-        node->is_stale = true;
-        if (node->references == 0) sqlite3_free(node);
-    }
-}
-
-int blobcrash_vfs_crash(struct blobcrash_vfs_crash *crash) {
+int blobcrash_vfs_power_off_after(int64_t calls) {
     if (!is_ours()) return refuse_thread();
-    layer_trace("crash");
-    store.is_off = true;
-    const char *reply = layer_say("crash");
-    if (!layer_begins(reply, "crashed")) return layer_refuse(SQLITE_NOMEM, "out of memory");
-    if (crash) count_choices(reply, crash);
-    make_nodes_stale();
-    if (!layer_is_done(layer_say("reopen"))) return layer_refuse(SQLITE_NOMEM, "out of memory");
-    directory_crash();
-    store.calls_left = -1;
-    store.is_off = false;
+    disk_power_off_after(&store.disk, calls);
+    return SQLITE_OK;
+}
+
+bool blobcrash_vfs_is_off(void) { return owner && !store.disk.is_on; }
+uint64_t blobcrash_vfs_changes(void) { return store.disk.changes; }
+uint64_t blobcrash_vfs_faults(void) { return store.disk.faults; }
+
+int blobcrash_vfs_crash(struct disk_crash *crash) {
+    if (!is_ours()) return refuse_thread();
+    if (disk_crash(&store.disk, crash) != BLOBCRASH_DONE) return store_refuse(SQLITE_NOMEM, "out of memory");
+    /* Those who have a file open keep its node, and every call on it fails. */
+    store.nodes = NULL;
     return SQLITE_OK;
 }

@@ -62,21 +62,27 @@ class ExtensionTest(unittest.TestCase):
             self.rows(db)
         self.assertEqual(self.rows(self.connect()), [])
 
-    def test_a_wal_in_exclusive_mode(self):
+    def test_a_write_ahead_log(self):
         db = self.connect("&tear=all")
-        db.execute("PRAGMA locking_mode=EXCLUSIVE")
         self.assertEqual(db.execute("PRAGMA journal_mode=WAL").fetchone()[0], "wal")
         db.execute("PRAGMA synchronous=FULL")
         db.execute("CREATE TABLE t(v)")
         db.execute("INSERT INTO t VALUES(1)")
         self.call("blobcrash_crash()")
         db.close()
+        self.assertEqual(self.rows(self.connect()), [1])
+
+    def test_a_write_ahead_log_in_exclusive_mode(self):
         db = self.connect()
         db.execute("PRAGMA locking_mode=EXCLUSIVE")
-        self.assertEqual(self.rows(db), [1])
+        self.assertEqual(db.execute("PRAGMA journal_mode=WAL").fetchone()[0], "wal")
 
-    def test_a_wal_needs_exclusive_mode(self):
-        self.assertEqual(self.connect().execute("PRAGMA journal_mode=WAL").fetchone()[0], "delete")
+    def test_two_connections_share_a_write_ahead_log(self):
+        one, two = self.connect(), self.connect()
+        one.execute("PRAGMA journal_mode=WAL")
+        one.execute("CREATE TABLE t(v)")
+        two.execute("INSERT INTO t VALUES(1)")
+        self.assertEqual(self.rows(one), [1])
 
     def test_the_crash_says_how_many_bytes_it_lost(self):
         db = self.connect("&tear=bytes&keep=1/1000000000")
@@ -126,7 +132,7 @@ class ExtensionTest(unittest.TestCase):
             db.execute("CREATE TABLE t(v)")
 
     def test_faults_by_parameters(self):
-        for call in ("sync", "write", "resize", "remove"):
+        for call in ("sync", "write", "resize"):
             self.call("blobcrash_reset()")
             db = self.connect(f"&fail_{call}=1/1")
             if call == "resize":
@@ -137,18 +143,12 @@ class ExtensionTest(unittest.TestCase):
             db.close()
         self.call("blobcrash_reset()")
         self.refused("&fail_open=1/1", "an injected fault")
-        self.refused("&fail_scan=1/1", "an injected fault")
 
     def test_a_rate_of_one_ends(self):
         db = self.connect("&fail_resize=1/1&resizes=survive")
         db.execute("PRAGMA journal_mode=TRUNCATE")
         with self.assertRaises(sqlite3.OperationalError):
             db.execute("CREATE TABLE t(v)")
-        db.close()
-        self.call("blobcrash_reset()")
-        db = self.connect("&fail_remove=1/1&directory=lags")
-        db.execute("CREATE TABLE t(v)")
-        self.assertEqual(self.rows(db), [])
 
     def test_the_sector_and_the_device(self):
         db = self.connect("&sector=512&device=0")
@@ -162,8 +162,8 @@ class ExtensionTest(unittest.TestCase):
             "taer=none", "tear=", "tear=half", "tear=sectors", "tear=sectors0", "tear=sectors-1",
             "tear=sectors18446744073709551616", "keep=1", "keep=2/1", "keep=1/0", "keep=-1/2", "keep=1/2 ", "keep=/", "partial=x",
             "seed=", "seed=-1", "seed=18446744073709551616", "seed=7x", "power_off=-1", "power_off=9223372036854775808",
-            "sector=0", "sector=513", "sector=131072", "device=x", "device=4294967296", "directory=", "directory=lag",
-            "sync=no", "resizes=1", "fail_=1/2", "fail_sync=1", "fail_sync=1/1/1", "fail_size=1/2", "seed=1%0acrash",
+            "sector=0", "sector=513", "sector=131072", "device=x", "device=4294967296", "profile=", "profile=zfs", "syncs=no",
+            "failed_sync=drop", "failed_write=x", "keep_names=2/1", "keep_names=none", "directory=lags", "fail_scan=1/2", "resizes=1", "fail_=1/2", "fail_sync=1", "fail_sync=1/1/1", "fail_size=1/2", "seed=1%0acrash",
         ):  # fmt: skip
             self.refused("&" + parameter, "not a parameter: " + parameter.replace("%0a", "\n"))
         self.refused("&seed=1&seed=2", "the parameter seed is given twice")
@@ -171,15 +171,47 @@ class ExtensionTest(unittest.TestCase):
         with self.assertRaises(sqlite3.Error):
             self.call("blobcrash_crash()")
 
-    def test_another_disk_needs_another_store(self):
-        self.connect("&seed=1")
-        self.refused("&seed=1&directory=lags", "the store was started with another disk")
+    def last_transaction(self, parameters, synchronous):
+        """Commits one transaction, crashes, and returns whether it is found."""
+        self.call("blobcrash_reset()")
+        db = self.connect(parameters)
+        db.execute("CREATE TABLE t(v)")
+        self.call("blobcrash_settle()")
+        db.execute(f"PRAGMA synchronous={synchronous}")
+        db.execute("INSERT INTO t VALUES(1)")
+        self.call("blobcrash_crash()")
+        db.close()
+        db = self.connect()
+        found = self.rows(db)
+        db.close()
+        return found == [1]
+
+    def test_the_directory_isn_t_synced_at_full(self):
+        for profile in ("ext4", "xfs", "btrfs", "posix"):
+            lost = f"&profile={profile}&keep_names=0/1"
+            self.assertFalse(self.last_transaction(lost, "FULL"), profile)
+            self.assertTrue(self.last_transaction(lost, "EXTRA"), profile)
+            self.assertTrue(self.last_transaction(f"&profile={profile}&keep_names=1/1", "FULL"), profile)
+
+    def test_syncs_that_lie(self):
+        db = self.connect("&syncs=lie")
+        db.execute("CREATE TABLE t(v)")
+        self.call("blobcrash_crash()")
+        db.close()
+        self.assertEqual(self.connect("&syncs=honest").execute("SELECT * FROM sqlite_master").fetchall(), [])
+
+    def test_a_database_in_a_directory(self):
+        db = self.connect(name="/home/me/a.db")
+        db.execute("PRAGMA synchronous=EXTRA")
+        db.execute("CREATE TABLE t(v)")
+        self.call("blobcrash_crash()")
+        self.assertEqual(self.rows(self.connect(name="/home/me/a.db")), [])
 
     def test_arguments_that_are_refused(self):
         self.connect()
         for expression in (
-            "blobcrash_config('sync 2 1')", "blobcrash_config('sync 0 1' || char(10) || 'crash')",
-            "blobcrash_config('sync 0 1' || char(0) || 'x')", "blobcrash_config(NULL)", "blobcrash_config('')",
+            "blobcrash_set('config sync 2 1')", "blobcrash_set('config sync 0 1' || char(10) || 'syncs lie')",
+            "blobcrash_set('config sync 0 1' || char(0) || 'x')", "blobcrash_set(NULL)", "blobcrash_set('')", "blobcrash_set('seed 1')",
             "blobcrash_power_off('x')", "blobcrash_power_off(NULL)", "blobcrash_power_off(1.5)", "blobcrash_reset()",
         ):  # fmt: skip
             with self.assertRaises(sqlite3.Error, msg=expression):
@@ -196,7 +228,7 @@ class ExtensionTest(unittest.TestCase):
 
         def use():
             control = load()
-            for expression in ("blobcrash_crash()", "blobcrash_reset()", "blobcrash_power_off(1)", "blobcrash_config('sync 0 1')"):
+            for expression in ("blobcrash_crash()", "blobcrash_reset()", "blobcrash_power_off(1)", "blobcrash_set('syncs lie')"):
                 try:
                     control.execute(f"SELECT {expression}").fetchone()
                 except sqlite3.Error:

@@ -1,7 +1,6 @@
-/* The VFS: SQLite's calls, its locks, and what they mean to the store. */
-#include "store.h"
-
-#include "parameters.h"
+/* The VFS: SQLite's calls, and what they mean to the store. */
+#include "file.h"
+#include "locks.h"
 
 #include <stdio.h>
 #include <string.h>
@@ -10,100 +9,44 @@
 SQLITE_EXTENSION_INIT3
 #endif
 
-/* Files of these kinds are in the store. Temporary files, which no crash keeps, are in the default VFS. */
+/* Files of these kinds are in the file system. Temporary files, which no crash keeps, are in the default VFS. */
 enum {
     STORED = SQLITE_OPEN_MAIN_DB | SQLITE_OPEN_MAIN_JOURNAL | SQLITE_OPEN_SUPER_JOURNAL | SQLITE_OPEN_WAL,
     LONGEST_SUFFIX = 32
 };
 
-struct file {
-    sqlite3_file base;
-    struct node *node;
-    struct device device;
-    int lock;
-    bool syncs_directory; /* The next sync makes the file's name durable too. */
-};
-
 static sqlite3_vfs *default_vfs;
-
-static struct file *file_of(sqlite3_file *base) { return (struct file *)base; }
-static bool may_read(const struct file *file) { return !file->node->is_stale && store_may_read(); }
-static bool may_change(const struct file *file) { return !file->node->is_stale && store_may_change(); }
-
-/* Locks, as SQLite describes them for xLock. They are between connections of this process. */
-
-static int file_unlock(sqlite3_file *base, int level) {
-    struct file *file = file_of(base);
-    struct node *node = file->node;
-    if (file->lock <= level) return SQLITE_OK;
-    if (node->reserved == file) node->reserved = NULL;
-    if (node->pending == file) node->pending = NULL;
-    if (level == SQLITE_LOCK_NONE) node->shared_locks--;
-    file->lock = level;
-    return SQLITE_OK;
-}
-
-static int file_lock(sqlite3_file *base, int level) {
-    struct file *file = file_of(base);
-    struct node *node = file->node;
-    if (file->lock >= level) return SQLITE_OK;
-    if (node->pending && node->pending != file) return SQLITE_BUSY;
-    if (level == SQLITE_LOCK_SHARED) {
-        node->shared_locks++;
-    } else {
-        if (node->reserved && node->reserved != file) return SQLITE_BUSY;
-        if (level == SQLITE_LOCK_RESERVED) node->reserved = file;
-    }
-    if (level == SQLITE_LOCK_EXCLUSIVE) {
-        node->pending = file;
-        if (node->shared_locks > 1) return file->lock = SQLITE_LOCK_PENDING, SQLITE_BUSY;
-    }
-    file->lock = level;
-    return SQLITE_OK;
-}
-
-static int file_is_reserved(sqlite3_file *base, int *answer) {
-    const struct node *node = file_of(base)->node;
-    *answer = node->reserved || node->pending;
-    return SQLITE_OK;
-}
 
 /* Bytes. */
 
 static int file_close(sqlite3_file *base) {
-    file_unlock(base, SQLITE_LOCK_NONE);
-    store_close(file_of(base)->node);
+    struct file *file = file_of(base);
+    memory_unmap(base, 0);
+    locks_unlock(base, SQLITE_LOCK_NONE);
+    store_close(&file->open);
     return SQLITE_OK;
 }
 
 static int file_read(sqlite3_file *base, void *into, int len, sqlite3_int64 offset) {
-    struct file *file = file_of(base);
-    return may_read(file) ? store_read(file->node, into, len, offset) : SQLITE_IOERR_READ;
+    return store_read(&file_of(base)->open, into, len, offset);
 }
 
 static int file_write(sqlite3_file *base, const void *bytes, int len, sqlite3_int64 offset) {
-    struct file *file = file_of(base);
-    return may_change(file) ? store_write(file->node, bytes, len, offset) : SQLITE_IOERR_WRITE;
+    return store_write(&file_of(base)->open, bytes, len, offset);
 }
 
-static int file_truncate(sqlite3_file *base, sqlite3_int64 size) {
-    struct file *file = file_of(base);
-    return may_change(file) ? store_resize(file->node, size) : SQLITE_IOERR_TRUNCATE;
-}
+static int file_truncate(sqlite3_file *base, sqlite3_int64 size) { return store_truncate(&file_of(base)->open, size); }
 
 static int file_sync(sqlite3_file *base, int flags) {
     struct file *file = file_of(base);
     (void)flags;
-    if (!may_change(file)) return SQLITE_IOERR_FSYNC;
-    int code = store_sync(file->node, file->syncs_directory);
-    if (code == SQLITE_OK) file->syncs_directory = false;
+    int code = store_sync(&file->open);
+    if (code || !file->syncs_directory) return code;
+    if ((code = store_sync_directory(file->open.name)) == SQLITE_OK) file->syncs_directory = false;
     return code;
 }
 
-static int file_size(sqlite3_file *base, sqlite3_int64 *size) {
-    struct file *file = file_of(base);
-    return may_read(file) ? store_size(file->node, size) : SQLITE_IOERR_FSTAT;
-}
+static int file_size(sqlite3_file *base, sqlite3_int64 *size) { return store_size(&file_of(base)->open, size); }
 
 static int file_control(sqlite3_file *base, int operation, void *argument) {
     (void)base, (void)operation, (void)argument;
@@ -113,21 +56,24 @@ static int file_control(sqlite3_file *base, int operation, void *argument) {
 static int file_sector_size(sqlite3_file *base) { return file_of(base)->device.sector_size; }
 static int file_characteristics(sqlite3_file *base) { return file_of(base)->device.characteristics; }
 
-/* Version 1 has no shared memory: a WAL needs PRAGMA locking_mode=EXCLUSIVE. */
 static const sqlite3_io_methods methods = {
-    .iVersion = 1,
+    .iVersion = 2,
     .xClose = file_close,
     .xRead = file_read,
     .xWrite = file_write,
     .xTruncate = file_truncate,
     .xSync = file_sync,
     .xFileSize = file_size,
-    .xLock = file_lock,
-    .xUnlock = file_unlock,
-    .xCheckReservedLock = file_is_reserved,
+    .xLock = locks_lock,
+    .xUnlock = locks_unlock,
+    .xCheckReservedLock = locks_is_reserved,
     .xFileControl = file_control,
     .xSectorSize = file_sector_size,
     .xDeviceCharacteristics = file_characteristics,
+    .xShmMap = memory_map,
+    .xShmLock = memory_lock,
+    .xShmBarrier = memory_barrier,
+    .xShmUnmap = memory_unmap,
 };
 
 /* Names. */
@@ -146,10 +92,7 @@ static int vfs_open(sqlite3_vfs *vfs, const char *name, sqlite3_file *base, int 
     } else {
         parameters_device(sqlite3_filename_database(name), &file->device);
     }
-    if (!store_may_read()) {
-        return layer_refuse(SQLITE_CANTOPEN, "the power is off, or the store belongs to another thread");
-    }
-    int code = store_open(name, flags & SQLITE_OPEN_CREATE, flags & SQLITE_OPEN_EXCLUSIVE, &file->node);
+    int code = store_open(name, flags & SQLITE_OPEN_CREATE, flags & SQLITE_OPEN_EXCLUSIVE, &file->open);
     if (code) return code;
     file->syncs_directory = (flags & SQLITE_OPEN_CREATE) && !(flags & SQLITE_OPEN_MAIN_DB);
     base->pMethods = &methods;
@@ -159,17 +102,19 @@ static int vfs_open(sqlite3_vfs *vfs, const char *name, sqlite3_file *base, int 
 
 static int vfs_delete(sqlite3_vfs *vfs, const char *name, int syncs_directory) {
     (void)vfs;
-    return store_may_change() ? store_remove(name, syncs_directory) : SQLITE_IOERR_DELETE;
+    return store_remove(name, syncs_directory);
 }
 
 static int vfs_access(sqlite3_vfs *vfs, const char *name, int flags, int *answer) {
     (void)vfs, (void)flags;
-    return store_may_read() ? store_exists(name, answer) : SQLITE_IOERR_ACCESS;
+    return store_exists(name, answer);
 }
 
+/* A path from the root on. */
 static int vfs_full_pathname(sqlite3_vfs *vfs, const char *name, int capacity, char *full) {
     (void)vfs;
-    return snprintf(full, (size_t)capacity, "%s", name) < capacity ? SQLITE_OK : SQLITE_CANTOPEN;
+    const char *slash = name[0] == '/' ? "" : "/";
+    return snprintf(full, (size_t)capacity, "%s%s", slash, name) < capacity ? SQLITE_OK : SQLITE_CANTOPEN;
 }
 
 static int vfs_randomness(sqlite3_vfs *vfs, int len, char *bytes) {

@@ -30,7 +30,7 @@ int database_run(struct database *database, const char *format, ...) {
     return sqlite3_exec(database->db, sql, NULL, NULL, NULL);
 }
 
-/* The pragmas must come before anything is read: a WAL without shared memory needs an exclusive lock. */
+/* The pragmas come before anything is read. */
 static int set_up(struct database *database, const char *synchronous) {
     static const int pages[] = {512, 1024, 4096};
     const struct mode *mode = database->mode;
@@ -38,7 +38,7 @@ static int set_up(struct database *database, const char *synchronous) {
     int page = pages[random_below(&draws, 3)], vacuums = (int)random_below(&draws, 2);
     int cache = 5 + (int)random_below(&draws, 12), checkpoint = 10 + (int)random_below(&draws, 60);
     int code = SQLITE_OK;
-    if (strcmp(mode->journal, "wal") == 0) code = database_run(database, "PRAGMA locking_mode=EXCLUSIVE");
+    if (mode->is_exclusive) code = database_run(database, "PRAGMA locking_mode=EXCLUSIVE");
     if (!code) {
         code = database_run(database, "PRAGMA page_size=%d; PRAGMA temp_store=MEMORY; PRAGMA auto_vacuum=%d", page,
                             vacuums);

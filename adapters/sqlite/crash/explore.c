@@ -8,10 +8,10 @@
 #include <stdlib.h>
 #include <string.h>
 
-/* A crash makes a choice for each sector of an unsynced write. This many of one crash are explored at most. */
-enum { MOST_CHOICES = 20, MOST_PREAMBLE = 16 + 4 * 2 * MOST_CHOICES };
+/* A crash makes a choice for each sector of an unsynced write and for each change of names. This is the most that is explored. */
+enum { MOST_CHOICES = 20, MOST_PREAMBLE = 16 + 4 * 2 * MOST_CHOICES + WORDS_PREAMBLE };
 
-static const char *const default_names[] = {"delete-full", "truncate-full", "persist-full", "wal-full"};
+static const char *const default_names[] = {"delete-extra", "truncate-full", "persist-full", "wal-full"};
 
 /* What was found after crashes. */
 struct findings {
@@ -25,7 +25,7 @@ struct exploration {
     struct findings once, twice; /* After a crash; after another in the recovery from it. */
 };
 
-/* One crash: the calls after which the power goes off, and the choices, of which bit `i` set loses sector `i`. */
+/* One crash: the calls after which the power goes off, and the choices, of which bit `i` set loses number `i`. */
 struct crash {
     uint64_t calls;
     unsigned count;
@@ -38,13 +38,13 @@ static int write_words(char *text, const struct crash *crash) {
     return len;
 }
 
-/* Each word decides a choice at the rate 1/2: 0 keeps the sector, and the greatest loses it. Further choices keep. */
-static void write_preamble(char *preamble, const struct crash *first, const struct crash *second) {
+/* Each word decides a choice at the rate 1/2: 0 keeps, and the greatest loses. Further choices keep. */
+static void write_preamble(char *preamble, const struct mode *mode, const struct crash *first, const struct crash *second) {
     int len = sprintf(preamble, "words");
     len += write_words(preamble + len, first);
     if (second) len += write_words(preamble + len, second);
     if (len == 5) len = 0;
-    strcpy(preamble + len, "\n");
+    sprintf(preamble + len, "\nprofile %s\nkeep %s\n", mode->disk.profile, mode->disk.keeps_names ? "1 1" : "1 2");
 }
 
 static _Noreturn void fail(const struct exploration *exploration, const char *what) {
@@ -57,7 +57,7 @@ static int open_small(struct exploration *exploration, struct database *database
     *database = (struct database){.mode = &exploration->mode};
     int code = sqlite3_open_v2("file:test.db", &database->db,
                                SQLITE_OPEN_READWRITE | SQLITE_OPEN_CREATE | SQLITE_OPEN_URI, "blobcrash");
-    if (!code && strcmp(journal, "wal") == 0) code = database_run(database, "PRAGMA locking_mode=EXCLUSIVE");
+    if (!code && exploration->mode.is_exclusive) code = database_run(database, "PRAGMA locking_mode=EXCLUSIVE");
     if (code) return code;
     return database_run(database, "PRAGMA page_size=512; PRAGMA journal_mode=%s; PRAGMA synchronous=%s", journal,
                         exploration->mode.synchronous);
@@ -66,19 +66,19 @@ static int open_small(struct exploration *exploration, struct database *database
 static void set_up(struct exploration *exploration, const struct crash *first, const struct crash *second) {
     struct database database;
     char preamble[MOST_PREAMBLE], line[80];
-    const struct blobcrash_vfs_disk *disk = &exploration->mode.disk, honest = {.directory_lags = disk->directory_lags};
-    const char *tear = exploration->mode.tear,
-               *sector = strncmp(tear, "sectors", 7) == 0 ? tear + 7 : "9223372036854775807";
-    write_preamble(preamble, first, second);
+    const struct words *disk = &exploration->mode.disk;
+    const char *sector = strncmp(disk->tear, "sectors", 7) == 0 ? disk->tear + 7 : "9223372036854775807";
+    write_preamble(preamble, &exploration->mode, first, second);
     sqlite3_test_control(SQLITE_TESTCTRL_PRNG_SEED, 1, NULL);
-    if (blobcrash_vfs_start(preamble, &honest, 1) != SQLITE_OK) fail(exploration, "start");
+    if (blobcrash_vfs_start(preamble) != SQLITE_OK) fail(exploration, "start");
     if (open_small(exploration, &database) != SQLITE_OK ||
         database_run(&database, "CREATE TABLE t(v); INSERT INTO t VALUES('old')") != SQLITE_OK) {
         fail(exploration, "create");
     }
     database_close(&database);
-    snprintf(line, sizeof line, "write 0 1 1 2 sectors %s", sector);
-    if (blobcrash_vfs_config(line) != SQLITE_OK || blobcrash_vfs_change_disk(disk) != SQLITE_OK) {
+    snprintf(line, sizeof line, "config write 0 1 1 2 sectors %s", sector);
+    if (blobcrash_vfs_settle() != SQLITE_OK || blobcrash_vfs_set(line) != SQLITE_OK ||
+        blobcrash_vfs_set(disk->lies ? "syncs lie" : "syncs honest") != SQLITE_OK) {
         fail(exploration, line);
     }
 }
@@ -103,7 +103,7 @@ static char look(struct exploration *exploration) {
 /* How a run ended: whether the last of its parts was done before the power went off, and what the last crash did. */
 struct end {
     bool is_done;
-    struct blobcrash_vfs_crash crash;
+    struct disk_crash crash;
 };
 
 static void crash_now(struct exploration *exploration, struct end *end) {
@@ -144,7 +144,7 @@ static void count_choices(struct exploration *exploration, struct crash *first, 
     struct crash *last = second ? second : first;
     last->choices = UINT64_MAX;
     for (last->count = 0; last->count <= MOST_CHOICES; last->count++) {
-        if (run(exploration, first, second).crash.kept_bytes == 0) break;
+        if (run(exploration, first, second).crash.kept_draws == 0) break;
     }
     if (last->count > MOST_CHOICES) fail(exploration, "a crash makes too many choices to explore");
     if (last->count > exploration->most_choices) exploration->most_choices = last->count;
@@ -186,9 +186,9 @@ static void explore_transaction(struct exploration *exploration) {
 }
 
 static bool parse(const char *name, struct mode *mode) {
-    if (!mode_parse(name, mode) || mode->has_faults || mode->has_resizes || mode->has_two_files) return false;
-    if (strcmp(mode->tear, "mix") == 0) mode->tear = "whole";
-    return strcmp(mode->tear, "whole") == 0 || strncmp(mode->tear, "sectors", 7) == 0;
+    if (!mode_parse(name, mode) || mode->has_faults || mode->has_resizes || mode->has_two_files || mode->has_two_connections) return false;
+    if (strcmp(mode->disk.tear, "mix") == 0) mode->disk.tear = "whole";
+    return strcmp(mode->disk.tear, "whole") == 0 || strncmp(mode->disk.tear, "sectors", 7) == 0;
 }
 
 static void print_row(const char *name, const char *when, const struct exploration *exploration,

@@ -19,43 +19,32 @@ enum step { WELL, FAILED, OFF, DAMAGED };
 struct life {
     const struct mode *mode;
     uint64_t seed, draws;
-    bool is_verbose;
-    struct database database;
-    struct tally tally;
+    bool is_told;
+    /* The connections, of which `database` is the one in use. A mode without `two` has the first. */
+    struct database connections[2], *database;
+    uint64_t *counts;
 };
 
 static struct history history;
 
-void tally_add(struct tally *sum, const struct tally *more) {
-    sum->commits += more->commits;
-    sum->crashes += more->crashes;
-    sum->in_commit += more->in_commit;
-    sum->in_recovery += more->in_recovery;
-    sum->unacknowledged += more->unacknowledged;
-    sum->lost += more->lost;
-    sum->corrupt += more->corrupt;
-    sum->wrong += more->wrong;
-    sum->faults += more->faults;
-}
-
-bool tally_breaks(const struct tally *tally, enum promise promise) {
+bool life_breaks(const uint64_t *counts, enum promise promise) {
     if (promise == NOTHING) return false;
-    return tally->corrupt || tally->wrong || (promise == DURABLE && tally->lost);
+    return counts[CORRUPT] || counts[WRONG] || (promise == DURABLE && counts[LOST]);
 }
 
 static void tell(const struct life *life, const char *format, ...) {
-    if (!life->is_verbose) return;
+    if (!life->is_told) return;
     va_list words;
     va_start(words, format);
-    printf("crash %" PRIu64 ": ", life->tally.crashes);
+    printf("crash %" PRIu64 ": ", life->counts[CRASHES]);
     vprintf(format, words);
     putchar('\n');
     va_end(words);
 }
 
 static enum step corrupt(struct life *life, const char *where, int code) {
-    life->tally.corrupt++;
-    tell(life, "corrupt at %s: %s: %s", where, sqlite3_errstr(code), sqlite3_errmsg(life->database.db));
+    life->counts[CORRUPT]++;
+    tell(life, "corrupt at %s: %s: %s", where, sqlite3_errstr(code), sqlite3_errmsg(life->database->db));
     return DAMAGED;
 }
 
@@ -65,13 +54,13 @@ static enum step compare(struct life *life, int attempt, uint64_t hash, bool is_
     int durable = history.durable;
     switch (history_compare(&history, attempt, hash, is_after_crash, &lost)) {
     case FOUND_DURABLE: return WELL;
-    case FOUND_UNACKNOWLEDGED: life->tally.unacknowledged += is_after_crash; return WELL;
+    case FOUND_UNACKNOWLEDGED: return WELL;
     case FOUND_OLDER:
-        life->tally.lost += lost;
+        life->counts[LOST] += lost;
         tell(life, "%" PRIu64 " acknowledged transactions are lost: found %d, acknowledged %d", lost, attempt, durable);
         return WELL;
     default:
-        life->tally.wrong++;
+        life->counts[WRONG]++;
         tell(life, "no transaction left these rows: attempt %d of %d", attempt, history.last);
         return DAMAGED;
     }
@@ -81,15 +70,15 @@ static enum step judge(struct life *life, bool is_after_crash) {
     char line[200] = "";
     int attempt = -1;
     uint64_t hash = 0, faults = blobcrash_vfs_faults();
-    int code = database_check(&life->database, line, sizeof line);
+    int code = database_check(life->database, line, sizeof line);
     /* The check reports an injected fault as damage. */
     if (blobcrash_vfs_faults() != faults) return blobcrash_vfs_is_off() ? OFF : FAILED;
-    if (!code) code = database_look(&life->database, &attempt, &hash);
+    if (!code) code = database_look(life->database, &attempt, &hash);
     if (blobcrash_vfs_is_off()) return OFF;
     if (code && !database_is_damage(code)) return FAILED;
     if (code) return corrupt(life, "a query", code);
     if (strcmp(line, "ok") != 0) {
-        life->tally.corrupt++;
+        life->counts[CORRUPT]++;
         tell(life, "corrupt: integrity_check says: %s", line);
         return DAMAGED;
     }
@@ -99,37 +88,84 @@ static enum step judge(struct life *life, bool is_after_crash) {
 /* Rolls back after a call failed, and checks the database. */
 static enum step settle(struct life *life) {
     for (int i = 0; i < TRIES; i++) {
-        if (!sqlite3_get_autocommit(life->database.db)) database_run(&life->database, "ROLLBACK");
+        if (!sqlite3_get_autocommit(life->database->db)) database_run(life->database, "ROLLBACK");
         if (blobcrash_vfs_is_off()) return OFF;
-        if (!sqlite3_get_autocommit(life->database.db)) continue;
+        if (!sqlite3_get_autocommit(life->database->db)) continue;
         enum step step = judge(life, false);
         if (step != FAILED) return step;
     }
     return FAILED;
 }
 
-/* Opens the database and checks it. */
+static void close_all(struct life *life) {
+    for (int i = 0; i < 2; i++) database_close(&life->connections[i]);
+}
+
+/* Opens all connections, and checks the database with the first. */
+static enum step open_all(struct life *life, bool is_after_crash) {
+    int code = database_open(life->database = &life->connections[0], NULL);
+    enum step step = code || blobcrash_vfs_is_off() ? FAILED : judge(life, is_after_crash);
+    if (step != FAILED) return step;
+    return database_is_damage(code) && !blobcrash_vfs_is_off() ? corrupt(life, "an open", code) : FAILED;
+}
+
+/* Closes and opens all connections. */
 static enum step open_again(struct life *life, bool is_after_crash) {
     for (int i = 0; i < TRIES; i++) {
-        database_close(&life->database);
-        int code = database_open(&life->database, NULL);
-        if (blobcrash_vfs_is_off()) return OFF;
-        if (database_is_damage(code)) return corrupt(life, "an open", code);
-        enum step step = code ? FAILED : judge(life, is_after_crash);
+        close_all(life);
+        enum step step = open_all(life, is_after_crash);
+        if (step == WELL && life->mode->has_two_connections && database_open(&life->connections[1], NULL) != SQLITE_OK) step = FAILED;
+        if (blobcrash_vfs_is_off()) return step == DAMAGED ? DAMAGED : OFF;
         if (step != FAILED) return step;
-        tell(life, "an open is tried again: %s", sqlite3_errmsg(life->database.db));
+        tell(life, "an open is tried again: %s", sqlite3_errmsg(life->database->db));
     }
     return FAILED;
+}
+
+/* What a connection reads in a read transaction of its own, and the attempt that it must read. */
+struct view {
+    struct database *reader;
+    int code, attempt, current;
+    uint64_t hash;
+};
+
+/* Sometimes lets the connection that isn't in use begin to read. Without a write-ahead log that is in the way of a COMMIT. */
+static void begin_reading(struct life *life, struct view *view) {
+    *view = (struct view){0};
+    if (!life->mode->has_two_connections) return;
+    struct database *other = &life->connections[random_below(&life->draws, 2)];
+    life->database = &life->connections[other == &life->connections[0]];
+    if (random_below(&life->draws, 3) != 0) return;
+    *view = (struct view){.reader = other, .current = history.current};
+    view->code = database_run(other, "BEGIN");
+    if (!view->code) view->code = database_look(other, &view->attempt, &view->hash);
+}
+
+/* Ends the reading. What was read must still be there. */
+static enum step end_reading(struct life *life, const struct view *view) {
+    int attempt = -1;
+    uint64_t hash = 0;
+    if (!view->reader) return WELL;
+    int code = view->code ? view->code : database_look(view->reader, &attempt, &hash);
+    if (!sqlite3_get_autocommit(view->reader->db)) database_run(view->reader, "ROLLBACK");
+    if (code || (attempt == view->attempt && hash == view->hash && attempt == view->current)) return WELL;
+    life->counts[WRONG]++;
+    tell(life, "a read transaction saw attempt %d, then %d, instead of %d", view->attempt, attempt, view->current);
+    return DAMAGED;
 }
 
 static enum step transact(struct life *life) {
     bool in_commit = false;
     int last = history.last;
-    int code = random_below(&life->draws, 40) ? work_transact(&life->database, &history, &life->draws, &in_commit)
-                                              : work_maintain(&life->database, &life->draws);
-    life->tally.commits += history.last > last && history.attempts[history.last].is_acknowledged;
+    struct view view;
+    begin_reading(life, &view);
+    int code = random_below(&life->draws, 40) ? work_transact(life->database, &history, &life->draws, &in_commit)
+                                              : work_maintain(life->database, &life->draws);
+    if (end_reading(life, &view) == DAMAGED) return DAMAGED;
+    if (in_commit && (code & 0xff) == SQLITE_BUSY) code = work_commit(life->database, &history, &in_commit);
+    life->counts[COMMITS] += history.last > last && history.attempts[history.last].is_acknowledged;
     if (blobcrash_vfs_is_off()) {
-        life->tally.in_commit += in_commit;
+        life->counts[IN_COMMIT] += in_commit;
         return OFF;
     }
     if (database_is_damage(code)) return corrupt(life, "a transaction", code);
@@ -143,7 +179,7 @@ static bool live_round(struct life *life, bool is_first) {
         blobcrash_vfs_power_off_after(1 + (int64_t)random_below(&life->draws, 2u << random_below(&life->draws, 6)));
     }
     enum step step = open_again(life, true);
-    life->tally.in_recovery += step == OFF;
+    life->counts[IN_RECOVERY] += step == OFF;
     if (step == WELL) {
         blobcrash_vfs_power_off_after(1 + (int64_t)random_below(&life->draws, 8u << random_below(&life->draws, 8)));
     }
@@ -153,7 +189,7 @@ static bool live_round(struct life *life, bool is_first) {
     }
     /* What the close would write isn't written. */
     blobcrash_vfs_power_off_after(0);
-    database_close(&life->database);
+    close_all(life);
     return step != DAMAGED;
 }
 
@@ -162,64 +198,50 @@ static void fail(const struct life *life, const char *what) {
     exit(2);
 }
 
-static void configure(const struct life *life, const char *settings) {
-    if (blobcrash_vfs_config(settings) != SQLITE_OK) fail(life, settings);
+static void set(const struct life *life, const char *setting) {
+    if (blobcrash_vfs_set(setting) != SQLITE_OK) fail(life, setting);
 }
 
-/* Writes the setting of writes: a rate at which they fail, and what a crash keeps of them. */
-static void write_setting(const char *tear, const char *fails, uint64_t *draws, char *line, size_t capacity) {
-    static const char *const rates[] = {"1 2", "1 8", "7 8"}, *const prefixes[] = {"1 2", "99 100", "1999 2000"};
-    const char *rate = rates[random_below(draws, 3)], *prefix = prefixes[random_below(draws, 3)];
-    if (strcmp(tear, "none") == 0) snprintf(line, capacity, "write %s 0 1 prefix", fails);
-    else if (strcmp(tear, "all") == 0) snprintf(line, capacity, "write %s 1 1 prefix", fails);
-    else if (strcmp(tear, "prefix") == 0) snprintf(line, capacity, "write %s %s prefix", fails, prefix);
-    else if (strcmp(tear, "sectors512") == 0) snprintf(line, capacity, "write %s %s sectors 512", fails, rate);
-    else if (strcmp(tear, "sectors4096") == 0) snprintf(line, capacity, "write %s %s sectors 4096", fails, rate);
-    else if (strcmp(tear, "bytes") == 0) snprintf(line, capacity, "write %s %s subset", fails, rate);
-    else snprintf(line, capacity, "write %s %s sectors 9223372036854775807", fails, rate);
-}
-
-static void configure_faults(struct life *life) {
-    static const char *const mix[] = {"none", "all", "whole", "prefix", "sectors512", "sectors4096"};
-    static const char *const faults[] = {"sync 1 40", "read 1 400", "open 1 60", "remove 1 40", "scan 1 60"};
+static void set_faults(struct life *life) {
+    static const char *const faults[] = {"config sync 1 40", "config read 1 400", "config open 1 60"};
     const struct mode *mode = life->mode;
-    char line[100];
-    const char *tear = strcmp(mode->tear, "mix") == 0 ? mix[random_below(&life->draws, 6)] : mode->tear;
-    write_setting(tear, mode->has_faults ? "1 60" : "0 1", &life->draws, line, sizeof line);
-    tell(life, "config %s", line);
-    configure(life, line);
-    if (mode->has_resizes) configure(life, "resize 1 2 0 1");
+    char line[WORDS_LINE];
+    words_write_setting(words_tear(&mode->disk, &life->draws), mode->has_faults ? "1 60" : "0 1", &life->draws, line);
+    tell(life, "%s", line);
+    set(life, line);
+    if (mode->disk.lies) set(life, "syncs lie");
+    if (mode->has_resizes) set(life, "config resize 1 2 0 1");
+    if (blobcrash_vfs_repeat_truncations(mode->has_resizes) != SQLITE_OK) fail(life, "truncations");
     if (!mode->has_faults) return;
-    for (size_t i = 0; i < sizeof faults / sizeof *faults; i++) configure(life, faults[i]);
-    configure(life, mode->has_partial_resize ? "resize 1 12 1 2" : "resize 1 12 0 1");
+    for (size_t i = 0; i < sizeof faults / sizeof *faults; i++) set(life, faults[i]);
+    set(life, mode->has_partial_resize ? "config resize 1 12 1 2" : "config resize 1 12 0 1");
 }
 
 /* Creates the tables durably. Then the disk and the calls begin to fail. */
 static void begin(struct life *life) {
-    char preamble[32];
-    const struct blobcrash_vfs_disk honest = {.directory_lags = life->mode->disk.directory_lags};
-    snprintf(preamble, sizeof preamble, "seed %" PRIu64 "\n", life->seed);
+    char preamble[WORDS_PREAMBLE];
+    words_preamble(&life->mode->disk, life->seed, preamble);
     sqlite3_test_control(SQLITE_TESTCTRL_PRNG_SEED, (int)(life->seed % 1000000 + 1), NULL);
-    if (blobcrash_vfs_start(preamble, &honest, life->seed) != SQLITE_OK) fail(life, "start");
-    if (database_open(&life->database, "EXTRA") != SQLITE_OK) fail(life, "open");
-    if (database_create(&life->database) != SQLITE_OK) fail(life, "create");
-    database_close(&life->database);
-    if (blobcrash_vfs_change_disk(&life->mode->disk) != SQLITE_OK) fail(life, "disk");
-    configure_faults(life);
+    if (blobcrash_vfs_start(preamble) != SQLITE_OK) fail(life, "start");
+    if (database_open(life->database, "EXTRA") != SQLITE_OK) fail(life, "open");
+    if (database_create(life->database) != SQLITE_OK) fail(life, "create");
+    close_all(life);
+    if (blobcrash_vfs_settle() != SQLITE_OK) fail(life, "settle");
+    set_faults(life);
 }
 
-struct tally life_run(const struct mode *mode, uint64_t seed, bool is_verbose) {
-    struct life life = {.mode = mode, .seed = seed, .draws = seed * 0x2545f4914f6cdd1d + 17, .is_verbose = is_verbose};
-    life.database = (struct database){.mode = mode, .seed = seed};
+void life_run(const struct mode *mode, uint64_t seed, bool is_told, uint64_t *counts) {
+    struct life life = {.mode = mode, .seed = seed, .draws = seed * 0x2545f4914f6cdd1d + 17, .is_told = is_told, .counts = counts};
+    for (int i = 0; i < 2; i++) life.connections[i] = (struct database){.mode = mode, .seed = seed};
+    life.database = &life.connections[0];
     begin(&life);
     history_start(&history);
     for (int round = 0; round < ROUNDS; round++) {
         if (!live_round(&life, round == 0)) break;
         if (blobcrash_vfs_crash(NULL) != SQLITE_OK) fail(&life, "crash");
-        life.tally.crashes++;
+        counts[CRASHES]++;
     }
-    life.tally.faults = blobcrash_vfs_faults();
+    counts[FAULTS] += blobcrash_vfs_faults();
     history_end(&history);
     blobcrash_vfs_end();
-    return life.tally;
 }

@@ -6,11 +6,10 @@
 
 static const char *const journals[] = {"delete", "truncate", "persist", "memory", "wal", NULL};
 static const char *const levels[] = {"off", "normal", "full", "extra", NULL};
-static const char *const tears[] = {"mix",        "none",        "all",   "whole", "prefix",
-                                    "sectors512", "sectors4096", "bytes", NULL};
 
 const char *const mode_names[] = {
     "delete-full",
+    "delete-full-names",
     "delete-extra",
     "delete-normal",
     "delete-off",
@@ -26,41 +25,47 @@ const char *const mode_names[] = {
     "wal-extra",
     "wal-normal",
     "wal-off",
+    "wal-full-exclusive",
     "memory-full",
-    "delete-full-bytes",
+    "delete-extra-bytes",
     "truncate-full-bytes",
     "persist-full-bytes",
     "wal-full-bytes",
-    "delete-full-savepoints",
+    "delete-extra-savepoints",
     "truncate-full-savepoints",
     "persist-full-savepoints",
     "wal-full-savepoints",
-    "delete-full-resizes",
+    "delete-extra-resizes",
     "truncate-full-resizes",
     "persist-full-resizes",
     "wal-full-resizes",
-    "delete-full-attach",
+    "delete-extra-attach",
     "truncate-full-attach",
     "persist-full-attach",
     "wal-full-attach",
-    "delete-full-directory",
-    "delete-extra-directory",
-    "truncate-full-directory",
-    "persist-full-directory",
-    "wal-full-directory",
-    "delete-full-faults",
+    "delete-extra-two",
+    "truncate-full-two",
+    "persist-full-two",
+    "wal-full-two",
+    "wal-full-savepoints-two",
+    "delete-extra-faults",
     "truncate-full-faults",
     "persist-full-faults",
     "wal-full-faults",
-    "delete-full-partial",
+    "wal-full-faults-two",
+    "delete-extra-partial",
     "truncate-full-partial",
     "persist-full-partial",
     "wal-full-partial",
-    "delete-full-lying",
-    "truncate-full-lying",
-    "persist-full-lying",
-    "wal-full-lying",
-    "delete-full-sequential",
+    "delete-extra-faults-drops",
+    "truncate-full-faults-drops",
+    "persist-full-faults-drops",
+    "wal-full-faults-drops",
+    "delete-extra-lie",
+    "truncate-full-lie",
+    "persist-full-lie",
+    "wal-full-lie",
+    "delete-extra-sequential",
     "truncate-full-sequential",
     "persist-full-sequential",
     "wal-full-sequential",
@@ -75,21 +80,19 @@ static const char *find(const char *const *words, const char *word) {
 static bool set_option(struct mode *mode, const char *word) {
     if (strcmp(word, "savepoints") == 0) return mode->has_savepoints = true;
     if (strcmp(word, "attach") == 0) return mode->has_two_files = true;
+    if (strcmp(word, "two") == 0) return mode->has_two_connections = true;
+    if (strcmp(word, "exclusive") == 0) return mode->is_exclusive = true;
     if (strcmp(word, "faults") == 0) return mode->has_faults = true;
     if (strcmp(word, "partial") == 0) return mode->has_faults = mode->has_partial_resize = true;
-    if (strcmp(word, "resizes") == 0) return mode->has_resizes = mode->disk.resize_retries = true;
-    if (strcmp(word, "directory") == 0) return mode->disk.directory_lags = true;
-    if (strcmp(word, "lying") == 0) return mode->disk.sync_lies = true;
+    if (strcmp(word, "resizes") == 0) return mode->has_resizes = true;
     if (strcmp(word, "sequential") == 0) return mode->characteristics = SQLITE_IOCAP_SEQUENTIAL, true;
-    const char *tear = find(tears, word);
-    if (tear) mode->tear = tear;
-    return tear != NULL;
+    return words_read(&mode->disk, word);
 }
 
 bool mode_parse(const char *name, struct mode *mode) {
     char words[sizeof mode->name], *rest = NULL;
     if (strlen(name) >= sizeof words) return false;
-    *mode = (struct mode){.tear = "mix"};
+    *mode = (struct mode){.disk = words_default};
     strcpy(mode->name, name);
     strcpy(words, name);
     const char *word = strtok_r(words, "-", &rest);
@@ -99,7 +102,7 @@ bool mode_parse(const char *name, struct mode *mode) {
     while ((word = strtok_r(NULL, "-", &rest))) {
         if (!set_option(mode, word)) return false;
     }
-    return true;
+    return !(mode->is_exclusive && mode->has_two_connections);
 }
 
 /*
@@ -110,14 +113,12 @@ bool mode_parse(const char *name, struct mode *mode) {
 enum promise mode_promise(const struct mode *mode) {
     bool is_wal = strcmp(mode->journal, "wal") == 0;
     /* https://www.sqlite.org/atomiccommit.html: a sector is taken to be written from one end to the other. */
-    if (strcmp(mode->tear, "bytes") == 0) return NOTHING;
-    if (mode->disk.sync_lies || mode->characteristics || strcmp(mode->journal, "memory") == 0) return NOTHING;
+    if (strcmp(mode->disk.tear, "bytes") == 0) return NOTHING;
+    if (mode->disk.lies || mode->characteristics || strcmp(mode->journal, "memory") == 0) return NOTHING;
     if (is_wal && mode->has_two_files) return NOTHING;
     if (strcmp(mode->synchronous, "off") == 0) return NOTHING;
     if (strcmp(mode->synchronous, "normal") == 0) return is_wal ? CONSISTENT : NOTHING;
     /* Only EXTRA syncs the directory after the journal is deleted. */
-    if (mode->disk.directory_lags && strcmp(mode->journal, "delete") == 0 && strcmp(mode->synchronous, "full") == 0) {
-        return CONSISTENT;
-    }
-    return DURABLE;
+    bool deletes = strcmp(mode->journal, "delete") == 0 && strcmp(mode->synchronous, "full") == 0;
+    return deletes && !mode->disk.keeps_names ? CONSISTENT : DURABLE;
 }

@@ -3,8 +3,7 @@
 #define CRASH_MODE_H
 
 #include "blobcrash_vfs.h"
-
-#include <stddef.h>
+#include "words.h"
 
 /* What SQLite promises after a crash. */
 enum promise {
@@ -15,23 +14,21 @@ enum promise {
 
 struct mode {
     char name[96];
-    const char *journal, *synchronous, *tear;
-    bool has_savepoints;     /* Some transactions roll back to a savepoint. */
-    bool has_two_files;      /* Each transaction changes two attached files. */
-    bool has_faults;         /* Calls fail. */
-    bool has_partial_resize; /* And a resize that fails may be done in part. */
-    bool has_resizes;        /* An unsynced resize may survive. */
-    int characteristics;     /* Of the device, as it reports them to SQLite; 0 for the default. */
-    struct blobcrash_vfs_disk disk;
+    const char *journal, *synchronous;
+    struct words disk;
+    bool has_savepoints;      /* Some transactions roll back to a savepoint. */
+    bool has_two_files;       /* Each transaction changes two attached files. */
+    bool has_two_connections; /* Two connections write in turn. */
+    bool is_exclusive;        /* locking_mode=EXCLUSIVE. */
+    bool has_faults;          /* Calls fail. */
+    bool has_partial_resize;  /* And a truncation that fails may be done in part. */
+    bool has_resizes;         /* An unsynced truncation may survive. */
+    int characteristics;      /* Of the device, as it reports them to SQLite; 0 for the default. */
 };
 
 /*
  * Reads a name: a journal mode (delete, truncate, persist, memory, wal), a value of synchronous (off, normal, full,
- * extra), and then any of
- *
- * - what a crash keeps of a write: none, all, whole (each write or nothing of it), prefix, sectors512, sectors4096,
- *   bytes (each byte or not); mix, which is the default, takes one of these but bytes for each seed;
- * - savepoints, attach, faults, partial, resizes, directory, lying, sequential.
+ * extra), and then any of the words of words.h and of savepoints, attach, two, exclusive, faults, partial, resizes, sequential.
  *
  * Returns false if it is no name.
  */

@@ -59,6 +59,13 @@ static int change_rows(struct database *database, struct rows *rows, uint64_t *d
     return code;
 }
 
+int work_commit(struct database *database, struct history *history, bool *in_commit) {
+    int code = database_run(database, "COMMIT");
+    *in_commit = code != SQLITE_OK;
+    if (!code) history_acknowledge(history);
+    return code;
+}
+
 int work_transact(struct database *database, struct history *history, uint64_t *draws, bool *in_commit) {
     struct rows rows = *history->attempts[history->current].rows;
     *in_commit = false;
@@ -68,10 +75,7 @@ int work_transact(struct database *database, struct history *history, uint64_t *
     history_record(history, &rows, !code && !rolls_back);
     if (code) return code;
     if (rolls_back) return database_run(database, "ROLLBACK");
-    code = database_run(database, "COMMIT");
-    *in_commit = code != SQLITE_OK;
-    if (!code) history_acknowledge(history);
-    return code;
+    return work_commit(database, history, in_commit);
 }
 
 int work_maintain(struct database *database, uint64_t *draws) {

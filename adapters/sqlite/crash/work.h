@@ -11,6 +11,9 @@
  */
 int work_transact(struct database *database, struct history *history, uint64_t *draws, bool *in_commit);
 
+/* Commits the transaction that was recorded last, again if a reader was in its way. `*in_commit` is set if that failed. */
+int work_commit(struct database *database, struct history *history, bool *in_commit);
+
 /* Does what isn't a transaction: VACUUM, REINDEX or a checkpoint. */
 int work_maintain(struct database *database, uint64_t *draws);
 

@@ -69,6 +69,7 @@ from .power import PowerLoss
 from .seeding import Seeded, SeededFiles, SeededStore, seeds
 from .shrinking import shrink
 from .spread import LostWork
+from .states import CrashState, CrashStates
 from .store import Store
 
 __version__ = "0.3.0"
@@ -84,6 +85,8 @@ __all__ = [
     "BlobMissing",
     "BlobVersionMismatch",
     "Closed",
+    "CrashState",
+    "CrashStates",
     "EmptyRange",
     "Explored",
     "ExploredFiles",

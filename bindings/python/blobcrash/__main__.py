@@ -1,7 +1,7 @@
 """Runs a script, from a file or from standard input: `python -m blobcrash [FILE]`. Replies and exit status are the program's.
 
 `python -m blobcrash check [FILE]` says which lines aren't calls, and why; `judge [FILE]` whether acknowledged content is lost;
-`shrink SCRIPT [COMMAND ..]` makes a failing script short.
+`shrink SCRIPT [COMMAND ..]` makes a failing script short; `states [options] SCRIPT -- CHECK ..` checks each state that a crash may leave.
 """
 
 import sys
@@ -9,9 +9,12 @@ import sys
 from .commands import OutputFailed, check_command, judge_command, read, shrink_command, write
 from .errors import BadLine
 from .layers import run
+from .states_command import states_command
 
-_COMMANDS = {"check": check_command, "judge": judge_command, "shrink": shrink_command}
-USAGE = "usage: python -m blobcrash [check|judge] [FILE], or shrink SCRIPT [COMMAND ..]"
+_COMMANDS = {"check": check_command, "judge": judge_command, "shrink": shrink_command, "states": states_command}
+# Those that have a usage of their own.
+_OWN = (shrink_command, states_command)
+USAGE = "usage: python -m blobcrash [check|judge] [FILE], or shrink SCRIPT [COMMAND ..], or states [options] SCRIPT -- CHECK .."
 HELP = f"""{USAGE}
 
 Runs a script, from a file or from standard input, and prints its replies.
@@ -19,6 +22,7 @@ Runs a script, from a file or from standard input, and prints its replies.
   check   prints which lines aren't calls, and why
   judge   prints what acknowledged content the script loses
   shrink  prints a short script that still fails: COMMAND ends with a status other than 0, or `judge` finds a loss
+  states  runs CHECK on each state in which a crash could have left the run; `states --help` has the options
 
 docs/GUIDE.md has more, docs/FORMATS.md the lines and the replies.
 """
@@ -26,8 +30,8 @@ docs/GUIDE.md has more, docs/FORMATS.md the lines and the replies.
 
 def main(arguments: list) -> int:
     command = _COMMANDS.get(arguments[0]) if arguments else None
-    is_help = arguments[0 if command is None else 1 :] == ["--help"]
-    if command is not shrink_command and len(arguments) > (1 if command is None else 2):
+    is_help = command is not states_command and arguments[0 if command is None else 1 :] == ["--help"]
+    if command not in _OWN and len(arguments) > (1 if command is None else 2):
         print(USAGE, file=sys.stderr)
         return 2
     try:

@@ -21,13 +21,14 @@ class RunEnded(BaseException):
 
 
 class Bounds:
-    """The bounds of one run. Once one is reached, each further call ends the run. `is_long` and `is_late` say which one it was."""
+    """The bounds of one run. Once one is reached, each further call ends the run. `is_long` and `is_late` say which one it was, and
+    `is_met` that the run was ended at a restart."""
 
     def __init__(self, most: float = _NEVER, until: float = _NEVER) -> None:
         self.most = most
         self.until = _NEVER if until == _NEVER else until
         self.calls = 0
-        self.is_long = self.is_late = False
+        self.is_long = self.is_late = self.is_met = False
 
     def count(self) -> None:
         """Counts a call, before it is made."""
@@ -35,8 +36,15 @@ class Bounds:
         if calls > self.most or self.until is not _NEVER:
             self.check(calls)
 
+    def end_met(self) -> None:
+        """Ends the run at a restart, since another run had the same state."""
+        self.is_met, self.most = True, -1
+        raise RunEnded
+
     def check(self, count: int) -> None:
         """Ends the run if it has more than `most` of something, or if its time is over."""
+        if self.is_met:
+            raise RunEnded
         if count > self.most:
             self.is_long = True
         elif monotonic() >= self.until:

@@ -31,6 +31,7 @@ from .file_settings import file_setting_tokens, files_of, refuse_of_stores
 from .follow import ExploredStore, MoreWords, NotDeterministic, Run, refuse_sizes
 from .grammar import MAX, image_line, number, setting_tokens
 from .layers import Library, line_of
+from .met import Met
 from .paths import Choice, next_path, path_of, rest_from, text_of
 from .power import PowerLoss
 
@@ -46,12 +47,14 @@ class Explored(NamedTuple):
     """What an exploration visited.
 
     `runs` is how many runs there were. `outcomes` has each value that the body returned, except `None`, and how many runs returned it.
-    `rest` are the subtrees that a limit left; `explore(body, under=rest)` goes on with them.
+    `rest` are the subtrees that a limit left; `explore(body, under=rest)` goes on with them. `met` is how many more runs were ended at a
+    `restart(expecting=..)`, since another had come to the same state.
     """
 
     runs: int
     outcomes: Dict[Any, int]
     rest: Tuple[str, ...]
+    met: int = 0
 
     @property
     def complete(self) -> bool:
@@ -60,6 +63,8 @@ class Explored(NamedTuple):
 
     def __str__(self) -> str:
         runs = f"{self.runs} run{'' if self.runs == 1 else 's'}"
+        if self.met:
+            runs += f", and {self.met} up to a restart in a state met before"
         return f"{runs}, all of them" if self.complete else f"{runs}, not all of them: a limit was reached"
 
 
@@ -98,6 +103,7 @@ class Part(NamedTuple):
     runs: int
     outcomes: Dict[Any, int]
     rest: List[str]
+    met: int
 
 
 def explore(
@@ -170,7 +176,7 @@ def explore(
     except Failed as failed:
         show(failed)
         raise
-    return Explored(part.runs, part.outcomes, tuple(part.rest))
+    return Explored(part.runs, part.outcomes, tuple(part.rest), part.met)
 
 
 def seconds_of(seconds: Optional[float]) -> float:
@@ -190,8 +196,8 @@ def visit(tree: Tree, subtrees: List[str], most: int, times: Times) -> Part:
     for at, subtree in enumerate(subtrees):
         rest = visitor.visit(path_of(subtree), most)
         if rest:
-            return Part(visitor.runs, visitor.outcomes, rest + subtrees[at + 1 :])
-    return Part(visitor.runs, visitor.outcomes, [])
+            return Part(visitor.runs, visitor.outcomes, rest + subtrees[at + 1 :], visitor.met)
+    return Part(visitor.runs, visitor.outcomes, [], visitor.met)
 
 
 class _Late(Exception):
@@ -205,7 +211,9 @@ class _Visitor:
         self._tree = tree
         self._times = times
         self._room = _ROOM
+        self._states: Met = {}
         self.runs = 0
+        self.met = 0
         self.outcomes: Dict[Any, int] = {}
 
     def visit(self, path: List[Choice], most: int) -> List[str]:
@@ -234,6 +242,9 @@ class _Visitor:
     def _made(self, path: List[Choice]) -> Run:
         """Makes one run, with as many words as it takes."""
         run, store, outcome, error = self._attempt(path, self._times.end if self.runs else self._times.first_end)
+        if run.bounds.is_met:
+            self.met += 1
+            return run
         self.runs += 1
         if len(run.taken) < len(path):
             raise NotDeterministic.by(f"it made {len(run.taken)} choices where it had made {len(path)}") from error
@@ -249,7 +260,7 @@ class _Visitor:
         tree = self._tree
         while True:
             bounds = Bounds(tree.calls_per_run, until)
-            run = Run(path, self._room, tree.power_losses, tree.seed, bounds)
+            run = Run(path, self._room, tree.power_losses, tree.seed, bounds, self._states)
             store = tree.store(run)
             outcome: Any = None
             error: Optional[BaseException] = None
@@ -270,7 +281,7 @@ class _Visitor:
             if bounds.is_late:
                 raise _Late
             if not run.is_short:
-                if error is None:
+                if error is None and not bounds.is_met:
                     check_result(outcome)
                 return run, store, outcome, error
             self._room *= 2

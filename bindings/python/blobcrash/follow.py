@@ -7,6 +7,7 @@ from typing import Any, Iterable, List, Optional, Tuple
 from .bounds import BoundedStore, Bounds
 from .grammar import MAX, number_of_branches, setting_tokens
 from .layers import Library
+from .met import Met, State, blobs_of, durable_blobs, frozen, place, settings_of
 from .paths import CHOICE, DRAW, POWER, TRUE, WORDS, Choice
 from .power import Supply
 
@@ -44,12 +45,21 @@ class Run:
     """The choices of one run. It follows a path, and then takes the first branch of each choice.
 
     `taken` are all of them, and `made` says of each how many calls there were, with the one that drew it. With a seed the draws are the
-    seed's, and aren't choices. `bounds` end the run.
+    seed's, and aren't choices. `bounds` end the run, and so does a state after a restart that is in `met`.
     """
 
-    def __init__(self, path: List[Choice], room: int, losses: int, seed: Optional[int] = None, bounds: Optional[Bounds] = None) -> None:
+    def __init__(
+        self,
+        path: List[Choice],
+        room: int,
+        losses: int,
+        seed: Optional[int] = None,
+        bounds: Optional[Bounds] = None,
+        met: Optional[Met] = None,
+    ) -> None:
         self.path = path
         self.bounds = bounds or Bounds()
+        self.met = {} if met is None else met
         self.words = [WORDS[branch] for kind, branch, _ in path if kind == DRAW] + [0] * room + [MAX]
         self.taken: List[Choice] = []
         self.made: List[int] = []
@@ -80,6 +90,14 @@ class Run:
             return False
         self.losses -= 1
         return True
+
+    def arrive(self, state: State) -> None:
+        """Ends the run if an earlier one came to this state by other choices.
+
+        Within the path the run is one of those that go on from here. All of them are made, in this search or in others.
+        """
+        if len(self.taken) >= len(self.path) and self.met.setdefault(state, tuple(self.taken)) != tuple(self.taken):
+            self.bounds.end_met()
 
     def count(self, left: int) -> None:
         """Counts the draws of a call, after which `left` words are left."""
@@ -140,6 +158,11 @@ class _Followed:
     def close(self) -> int:
         return self._layer.close()
 
+    def state(self, images: Iterable[Tuple[str, bytes, bytes]]) -> State:
+        """The durable bytes of all blobs, and the settings."""
+        calls = self._run.calls
+        return durable_blobs(self._layer, blobs_of(calls, images)), settings_of(calls), calls.count(b"crash"), self._run.losses
+
     def _count(self) -> None:
         if self._left is not None:
             self._run.count(self._left())
@@ -181,6 +204,7 @@ class ExploredStore(OnPath, BoundedStore):
     ) -> None:
         self._run = run
         self._bounds = run.bounds
+        self._images = images
 
         def way(preamble: bytes) -> Supply:
             return Supply(_Followed((by or Library)(preamble), run), run.fails if run.losses else None)
@@ -189,6 +213,11 @@ class ExploredStore(OnPath, BoundedStore):
             super().__init__(words=run.words, settings=settings, images=images, by=way, allow_stale=allow_stale)
         else:
             super().__init__(run.seed, settings=settings, images=images, by=way, allow_stale=allow_stale)
+
+    def _expect(self, value: Any) -> None:
+        # With a seed what follows depends on how many words were drawn.
+        if self._run.seed is None:
+            self._run.arrive((place(), frozen(value), self._layer.state(self._images)))
 
     def push_words(self, words: Iterable[int]) -> None:
         """Raises `ValueError`: the words of a run are those of its path."""

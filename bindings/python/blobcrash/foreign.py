@@ -16,6 +16,7 @@ INSIDE = os.path.join(_HERE, "libblobcrash.so")
 
 # How a call ended. tests/c_numbers.py compares each of these numbers with the C header.
 DONE, ENDLESS, BAD_LINE, NO_MEMORY, NO_ROOM, CLOSED, OTHER_REPLY, UNPRINTED = range(8)
+E_BLOB_MISSING = 20
 
 
 class Session(ctypes.Structure):

@@ -5,7 +5,7 @@ from __future__ import annotations
 from typing import Any, Callable, Optional
 
 # The calls that may change what a crash leaves, by their first words.
-_CHANGES = frozenset((b"open", b"loose", b"admit", b"write", b"writes", b"resize", b"sync", b"startsync", b"finish", b"remove"))
+CHANGES = frozenset((b"open", b"loose", b"admit", b"write", b"writes", b"resize", b"sync", b"startsync", b"finish", b"remove"))
 _OFF = "the power is off: catch `PowerLoss`, and let the store crash and reopen, by `restart` or `recover`"
 
 
@@ -58,7 +58,7 @@ class Supply:
                 self._is_off = self._has_crashed = False
             return reply
         if word != b"config" and not (word == b"close" and self._has_crashed):
-            self._spend(word in _CHANGES)
+            self._spend(word in CHANGES)
         return self._layer.call(line)
 
     def read(self, handle: int, offset: int, length: int) -> Any:
@@ -68,6 +68,10 @@ class Supply:
     def write(self, handle: int, offset: int, data: bytes, sync: bool = False) -> Any:
         self._spend(True)
         return self._layer.write(handle, offset, data, sync)
+
+    def state(self, images: Any) -> Any:
+        """What follows depends on, right after a restart."""
+        return self._left, self._layer.state(images)
 
     def __getattr__(self, name: str) -> Any:
         return getattr(self._layer, name)

@@ -82,7 +82,7 @@ def record(script: str) -> Lines:
 
     Raises `BadLine` if a line isn't a call, and `LibraryMissing` if the library isn't built.
     """
-    parts = _split(script)
+    parts = split_script(script)
     room = 256
     while True:
         lines = _recorded(parts, room)
@@ -91,7 +91,7 @@ def record(script: str) -> Lines:
         room *= 4
 
 
-def _split(script: str) -> _Parts:
+def split_script(script: str) -> _Parts:
     parts = _Parts([], [], None, [])
     for number, line in enumerate(script.split("\n"), 1):
         tokens = line.split(" ")

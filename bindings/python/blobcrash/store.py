@@ -215,13 +215,23 @@ class Store:
         self._ask("reopen")
         self._end_handles("the store was reopened since")
 
-    def restart(self) -> Rows:
-        """Crashes and reopens the store, and closes every handle, as the end of a process does. Returns the draws of the crash."""
+    def restart(self, *, expecting: Any = None) -> Rows:
+        """Crashes and reopens the store, and closes every handle, as the end of a process does. Returns the draws of the crash.
+
+        `expecting` is for `explore`: what the body still expects of the store. A run ends here if an earlier one was at this place with
+        the same durable bytes and an equal value, since all that follows was tried. Then no draws are returned.
+        """
         rows = self.crash()
         for blob in list(self._opened.values()):
             blob.close()
         self.reopen()
-        return rows
+        if expecting is None:
+            return rows
+        self._expect(expecting)
+        return []
+
+    def _expect(self, value: Any) -> None:
+        """Takes what a body expects after a restart. Here it does nothing."""
 
     def crash_after(self, calls: int) -> None:
         """Turns the power off after `calls` more calls that may change what a crash leaves.
@@ -235,10 +245,11 @@ class Store:
             self._layer = Supply(self._layer)
         self._layer.cut_after(calls)
 
-    def recover(self, step: Callable[..., Any], *arguments: Any) -> Any:
-        """Restarts the store, calls `step` and returns what that returns. Does both again if the power fails meanwhile."""
+    def recover(self, step: Callable[..., Any], *arguments: Any, expecting: Any = None) -> Any:
+        """Restarts the store, calls `step` and returns what that returns. Does both again if the power fails meanwhile. `expecting` is
+        that of `restart`."""
         while True:
-            self.restart()
+            self.restart(expecting=expecting)
             try:
                 return step(*arguments)
             except PowerLoss:

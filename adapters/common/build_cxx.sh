@@ -1,0 +1,40 @@
+#!/bin/sh
+# build_cxx.sh NAME HEADER PACKAGE LIBRARY: builds out/NAME/crash of adapters/NAME/*.cc and of this folder, if it is older than a source. It
+# needs compilers for C and C++ with HEADER (Debian: g++, gcc and PACKAGE), and links LIBRARY. BLOBCRASH_ARCHIVE names the library for C;
+# without it bindings/build.sh builds it first. OUT is another folder than out/NAME, CFLAGS and CXXFLAGS are further flags.
+set -eu
+
+name=$1
+library=$4
+common=$(CDPATH='' cd -- "$(dirname -- "$0")" && pwd -P)
+top=$(CDPATH='' cd -- "$common/../.." && pwd -P)
+here=$top/adapters/$name
+out=${OUT:-$top/out/$name}
+archive=${BLOBCRASH_ARCHIVE:-}
+
+if ! echo "#include <$2>" | "${CXX:-c++}" -x c++ -E - >/dev/null 2>&1; then
+    echo "build_cxx.sh: there is no ${CXX:-c++} with $2 (Debian: g++, $3)" >&2
+    exit 127
+fi
+if [ -z "$archive" ]; then
+    sh "$top/bindings/build.sh"
+    archive=$top/out/libblobcrash.a
+fi
+
+# shellcheck source=tools/building.sh
+. "$top/tools/building.sh"
+mkdir -p "$out" "$top/out"
+lock "$name"
+program=$out/crash
+if [ -f "$program" ] && [ -z "$(find "$archive" "$here" "$common" "$top"/bindings/c/blobcrash*.h -type f -newer "$program" | head -n 1)" ]; then
+    exit 0
+fi
+work=$(mktemp -d)
+for source in "$common"/*.c; do
+    # shellcheck disable=SC2086
+    "${CC:-cc}" -std=c11 -D_XOPEN_SOURCE=700 -O2 -g -Wall -Wextra -Werror "-I$top/bindings/c" ${CFLAGS:-} -c -o "$work/$(basename "$source").o" "$source"
+done
+# shellcheck disable=SC2086
+"${CXX:-c++}" -std=c++17 -O2 -g -Wall -Wextra -Werror "-I$top/bindings/c" "-I$common" ${CXXFLAGS:-} -o "$work/crash" "$here"/*.cc \
+    "$common"/*.cc "$work"/*.o "$archive" "$library" -pthread
+mv -f "$work/crash" "$program"

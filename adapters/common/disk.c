@@ -1,0 +1,141 @@
+#include "disk.h"
+
+#include <stdarg.h>
+#include <stdio.h>
+#include <stdlib.h>
+#include <string.h>
+
+/* Bytes that no call uses. */
+static const uint8_t nothing[1];
+
+static const uint8_t *bytes_of(const char *text) { return text ? (const uint8_t *)text : nothing; }
+static size_t length_of(const char *text) { return text ? strlen(text) : 0; }
+
+void disk_trace(const char *format, ...) {
+    static int is_traced = -1;
+    if (is_traced < 0) is_traced = getenv("BLOBCRASH_TRACE") != NULL;
+    if (!is_traced) return;
+    va_list words;
+    va_start(words, format);
+    vfprintf(stderr, format, words);
+    va_end(words);
+    fputc('\n', stderr);
+}
+
+uint32_t disk_start(struct disk *disk, const char *preamble) {
+    struct blobcrash_script_ran ran = blobcrash_files_open(&disk->files, bytes_of(preamble), length_of(preamble));
+    if (ran.status != BLOBCRASH_DONE) return ran.status;
+    disk->calls_left = -1;
+    disk->is_on = true;
+    disk->changes = disk->faults = 0;
+    return BLOBCRASH_DONE;
+}
+
+void disk_end(struct disk *disk) {
+    blobcrash_files_close(&disk->files);
+    disk->is_on = false;
+}
+
+uint32_t disk_set(struct disk *disk, const char *setting) {
+    return blobcrash_files_configure(&disk->files, bytes_of(setting), length_of(setting));
+}
+
+void disk_power_off_after(struct disk *disk, int64_t calls) { disk->calls_left = calls < 0 ? -1 : calls; }
+
+/* Whether the power is on for a call that changes something, which is counted. */
+static bool may_change(struct disk *disk) {
+    if (disk->calls_left == 0) disk->is_on = false;
+    if (!disk->is_on) return false;
+    if (disk->calls_left > 0) disk->calls_left--;
+    disk->changes++;
+    return true;
+}
+
+/* Counts a fault, and returns the status. */
+static uint32_t noted(struct disk *disk, uint32_t status) {
+    if (status == BLOBCRASH_E_INJECTED) {
+        disk->faults++;
+        disk_trace("  injected");
+    }
+    return status;
+}
+
+/* Whether a call changes something that a crash may lose, or makes it durable. */
+static bool changes(uint32_t kind) {
+    switch (kind) {
+    case BLOBCRASH_F_OPEN:
+    case BLOBCRASH_F_OPEN_INODE:
+    case BLOBCRASH_F_LIST:
+    case BLOBCRASH_F_LIST_AT:
+    case BLOBCRASH_F_FIND:
+    case BLOBCRASH_F_FIND_AT:
+    case BLOBCRASH_F_CLOSE:
+    case BLOBCRASH_F_SIZE:
+    case BLOBCRASH_F_INODE_OF:
+    case BLOBCRASH_F_SETTLE: return false;
+    default: return true;
+    }
+}
+
+struct blobcrash_file_reply disk_apply(struct disk *disk, const struct blobcrash_file_call *call, const char *path, const char *to) {
+    struct blobcrash_file_reply reply = {.status = DISK_OFF};
+    bool is_made = changes(call->kind) ? may_change(disk) : disk->is_on || call->kind == BLOBCRASH_F_CLOSE;
+    if (!is_made) return reply;
+    reply = blobcrash_files_apply(&disk->files, call, bytes_of(path), length_of(path), bytes_of(to), length_of(to));
+    noted(disk, reply.status);
+    return reply;
+}
+
+struct blobcrash_file_reply disk_call(struct disk *disk, uint32_t kind, uint64_t number, uint64_t first, const char *path) {
+    struct blobcrash_file_call call = {.kind = kind, .number = number, .first = first};
+    return disk_apply(disk, &call, path, NULL);
+}
+
+uint32_t disk_write(struct disk *disk, uint64_t descriptor, uint64_t offset, const void *bytes, size_t len) {
+    if (!may_change(disk)) return DISK_OFF;
+    return noted(disk, blobcrash_files_write(&disk->files, descriptor, offset, (const uint8_t *)bytes, len));
+}
+
+struct blobcrash_ran disk_read(struct disk *disk, uint64_t descriptor, uint64_t offset, void *into, size_t capacity) {
+    struct blobcrash_ran ran = {.status = DISK_OFF};
+    if (!disk->is_on) return ran;
+    ran = blobcrash_files_read(&disk->files, descriptor, offset, (uint8_t *)into, capacity);
+    noted(disk, ran.status);
+    return ran;
+}
+
+/* Adds what a crash kept of one write. The sector of a change of names is a write too, to no file. */
+static void count_row(struct disk *disk, struct disk_crash *crash, size_t row) {
+    struct blobcrash_kept_run kept = blobcrash_files_kept_run(&disk->files, row, 0);
+    size_t bytes = kept.bytes, count = 0;
+    crash->kept_draws += kept.len > 0;
+    if (blobcrash_files_kept_place(&disk->files, row).number == 0) return;
+    while (kept.len > 0) {
+        count += kept.len;
+        kept = blobcrash_files_kept_run(&disk->files, row, kept.start + kept.len);
+    }
+    crash->writes++;
+    crash->kept_bytes += count;
+    crash->lost_bytes += bytes - count;
+}
+
+/* Counts what the crash kept that was the last call. */
+static void count_crash(struct disk *disk, const struct blobcrash_file_reply *reply, struct disk_crash *crash) {
+    *crash = (struct disk_crash){.edits = reply->number};
+    for (size_t row = 0; row < reply->size; row++) count_row(disk, crash, row);
+    for (size_t edit = 0; edit < reply->number; edit++) {
+        crash->kept_edits += blobcrash_files_kept_edit(&disk->files, edit).len == 1;
+    }
+}
+
+uint32_t disk_crash(struct disk *disk, struct disk_crash *crash) {
+    struct blobcrash_file_call call = {.kind = BLOBCRASH_F_CRASH};
+    disk_trace("crash");
+    disk->is_on = false;
+    struct blobcrash_file_reply reply = blobcrash_files_apply(&disk->files, &call, nothing, 0, nothing, 0);
+    if (reply.status != BLOBCRASH_DONE) return reply.status;
+    if (crash) count_crash(disk, &reply, crash);
+    disk->calls_left = -1;
+    disk->is_on = true;
+    return BLOBCRASH_DONE;
+}

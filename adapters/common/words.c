@@ -1,0 +1,58 @@
+#include "words.h"
+
+#include "random.h"
+
+#include <inttypes.h>
+#include <stdio.h>
+#include <string.h>
+
+static const char *const profiles[] = {"ext4", "xfs", "btrfs", "posix", NULL};
+/* The first of these are those of `mix`. */
+static const char *const tears[] = {"none", "all", "whole", "prefix", "sectors512", "sectors4096", "bytes", "mix", NULL};
+enum { MIX_LEN = 6 };
+
+const struct words words_default = {.profile = "ext4", .tear = "mix"};
+
+static const char *find(const char *const *words, const char *word) {
+    while (*words && strcmp(*words, word) != 0) words++;
+    return *words;
+}
+
+bool words_read(struct words *words, const char *word) {
+    const char *profile = find(profiles, word), *tear = find(tears, word);
+    if (profile) words->profile = profile;
+    else if (tear) words->tear = tear;
+    else if (strcmp(word, "lie") == 0) words->lies = true;
+    else if (strcmp(word, "drops") == 0) words->drops = true;
+    else if (strcmp(word, "names") == 0) words->keeps_names = true;
+    else return false;
+    return true;
+}
+
+void words_preamble(const struct words *words, uint64_t seed, char preamble[WORDS_PREAMBLE]) {
+    snprintf(preamble, WORDS_PREAMBLE, "seed %" PRIu64 "\nprofile %s\nkeep %s\nfailed_sync %s\n", seed, words->profile,
+             words->keeps_names ? "1 1" : "1 2", words->drops ? "drops" : "keeps");
+}
+
+const char *words_tear(const struct words *words, uint64_t *draws) {
+    return strcmp(words->tear, "mix") == 0 ? tears[random_below(draws, MIX_LEN)] : words->tear;
+}
+
+void words_write_setting(const char *tear, const char *fails, uint64_t *draws, char line[WORDS_LINE]) {
+    static const char *const rates[] = {"1 2", "1 8", "7 8"}, *const prefixes[] = {"1 2", "99 100", "1999 2000"};
+    static const struct {
+        const char *tear, *rate, *mode;
+    } settings[] = {
+        {"none", "0 1", "prefix"},           {"all", "1 1", "prefix"},
+        {"whole", NULL, "sectors 9223372036854775807"}, {"prefix", NULL, "prefix"},
+        {"sectors512", NULL, "sectors 512"}, {"sectors4096", NULL, "sectors 4096"},
+        {"bytes", NULL, "subset"},
+    };
+    const char *rate = rates[random_below(draws, 3)], *prefix = prefixes[random_below(draws, 3)];
+    for (size_t i = 0; i < sizeof settings / sizeof *settings; i++) {
+        if (strcmp(settings[i].tear, tear) != 0) continue;
+        if (strcmp(tear, "prefix") == 0) rate = prefix;
+        if (settings[i].rate) rate = settings[i].rate;
+        snprintf(line, WORDS_LINE, "config write %s %s %s", fails, rate, settings[i].mode);
+    }
+}

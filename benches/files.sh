@@ -1,0 +1,48 @@
+#!/bin/sh
+# Counts the instructions of calls on files from C, by `valgrind --tool=callgrind`: those of a call on a file and of the same call on a blob,
+# with their ratio; and those of calls on names in trees of a hundredth of FILES, a tenth and FILES (100000 if it isn't set; at least 1000),
+# with the ratio of the last to the first. Then the memory of a small file. Prints to standard error. A test runs it, and compares no count.
+set -eu
+
+top=$(CDPATH='' cd -- "$(dirname -- "$0")/.." && pwd -P)
+work=$(mktemp -d)
+trap 'rm -rf "$work"' EXIT
+most=${FILES:-100000}
+calls=1000
+
+if ! echo '#include <valgrind/callgrind.h>' | "${CC:-cc}" -E - >/dev/null 2>&1 || ! command -v valgrind >/dev/null; then
+    echo 'files.sh: without a C compiler and valgrind nothing is counted' >&2
+    exit 0
+fi
+sh "$top/bindings/build.sh"
+"${CC:-cc}" -std=c11 -O2 -I"$top/bindings/c" -o "$work/files" "$top/benches/files.c" "$top/out/libblobcrash.a"
+
+# count WHAT FILES: the instructions of one call.
+count() {
+    valgrind --tool=callgrind --instr-atstart=no --callgrind-out-file=/dev/null "$work/files" "$1" "$2" "$calls" 2>"$work/log" >/dev/null
+    sed -n 's/^.*Collected : \([0-9]*\).*$/\1/p' "$work/log" | awk -v calls="$calls" '{ printf "%d", $1 / calls }'
+}
+
+# ratio A B
+ratio() {
+    awk -v first="$1" -v last="$2" 'BEGIN { printf "%.2f", last / first }'
+}
+
+for what in size read8 write8 write4096 writesync; do
+    below=$(count "below-$what" 1)
+    file=$(count "$what" 10)
+    echo "$what: $file, of a blob $below, ratio $(ratio "$below" "$file")" >&2
+done
+for what in open rename unlink fsync fsyncdir; do
+    counts=
+    first=
+    for files in $((most / 100)) $((most / 10)) "$most"; do
+        each=$(count "$what" "$files")
+        first=${first:-$each}
+        counts="$counts $each"
+    done
+    echo "$what:$counts, ratio $(ratio "$first" "$each")" >&2
+done
+few=$("$work/files" memory $((most / 100)) 0)
+many=$("$work/files" memory "$most" 0)
+echo "memory of a file of 100 bytes: $(((many - few) * 1024 / (most - most / 100))) bytes" >&2

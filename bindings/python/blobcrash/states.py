@@ -1,0 +1,235 @@
+"""Every state in which a crash could have left a run that was recorded: docs/GUIDE.md.
+
+    from blobcrash import CrashStates
+
+    for state in CrashStates(script):              # the script of a run, `store.script` for example
+        log = Log(state.store())                   # recover from what the crash left
+        assert log.records[: len(state.acknowledged)] == state.acknowledged
+
+A crash is put after each call that may change what it leaves. The calls before it are made as they were recorded, with their draws. Of the
+crash all draws are tried.
+"""
+
+from __future__ import annotations
+
+import os
+from itertools import chain, islice
+from typing import Any, Dict, Iterator, List, NamedTuple, Optional, Set, Tuple
+
+from .file_system import Files
+from .generator import words_of
+from .grammar import MAX, hex_of
+from .layers import Library
+from .recorded import split_script
+from .replayed import Content, ReplayedFiles, ReplayedStore
+from .store import Store
+
+# How many words a script and a crash are given at first.
+_ROOM = 256
+_ACKNOWLEDGED = "# acknowledged "
+Words = Tuple[int, ...]
+
+
+class CrashState(NamedTuple):
+    """What a crash left.
+
+    `line` is the number of the line after which it is, of the lines of `script` that aren't empty, `words` or `seed`. `script` are the
+    lines up to the crash, with words by which they are made again. `acknowledged` are the texts of the comments `# acknowledged ..` before
+    it. `content` has the blobs of a store, or the paths of files.
+    """
+
+    line: int
+    script: str
+    acknowledged: Tuple[str, ...]
+    content: Content
+    is_files: bool
+
+    def store(self, **named: Any) -> Store:
+        """Returns a store with these blobs, reached by the library. Its further arguments are those of `Store`."""
+        if self.is_files:
+            raise ValueError("the state is one of files")
+        images = [(partition.decode(), name, data) for partition, name, data in self.content]
+        return Store(images=images, by=named.pop("by", Library), **named)
+
+    def files(self, **named: Any) -> Files:
+        """Returns files with these names and bytes, all of them durable. Its arguments are those of `Files`."""
+        if not self.is_files:
+            raise ValueError("the state is one of a store")
+        files = Files(**named)
+        for path, data in self.content:
+            if data is None:
+                files.mkdir(path)
+            else:
+                with files.open(path, "wb") as file:
+                    file.write(data)
+        files.settle()
+        return files
+
+    def write_to(self, folder: str) -> None:
+        """Writes it as plain files below a folder: the paths of files, or for each blob PARTITION/NAME, the name in hex, with its header."""
+        for entry in self.content:
+            path = entry[0] if self.is_files else b"/" + entry[0] + b"/" + hex_of(entry[1]).encode()
+            place = os.fsencode(folder) + path
+            os.makedirs(place if entry[-1] is None else os.path.dirname(place), exist_ok=True)
+            if entry[-1] is not None:
+                with open(place, "wb") as file:
+                    file.write(entry[-1])
+
+
+class CrashStates:
+    """The states that crashes leave, each once: two of one content and one list of acknowledgements are the same.
+
+    `script` is one of a store, or with `files` one of files. `at` is the only line after which there is a crash. `limit` is how many outcomes
+    are tried of each crash: first all kept, then each single loss, all lost, each single draw kept, then the others. With `whole` each
+    write is kept or lost as a whole.
+
+    Iterating yields each `CrashState`. Meanwhile `crashes` counts the places of a crash, `outcomes` the crashes that were made, `states` the
+    states, and `complete` is whether no limit was reached. Raises `BadLine` for a line that is no call.
+    """
+
+    def __init__(self, script: str, *, files: bool = False, at: Optional[int] = None, limit: Optional[int] = None, whole: bool = False) -> None:
+        self._parts = split_script(script)
+        self._way: Any = ReplayedFiles if files else ReplayedStore
+        self._is_files = bool(files)
+        self._lines = [_whole(line) for line in self._parts.rest] if whole else self._parts.rest
+        self._at, self._limit = at, limit
+        self.crashes = self.outcomes = self.states = 0
+        self.complete = True
+
+    def __str__(self) -> str:
+        counts = f"{self.crashes} crashes, {self.outcomes} outcomes, {self.states} states"
+        return f"{counts}, all of them" if self.complete else f"{counts}, not all of them: a limit was reached"
+
+    def __iter__(self) -> Iterator[CrashState]:
+        self.crashes = self.outcomes = self.states = 0
+        self.complete = True
+        words = self._recorded_words()
+        seen: Set[Any] = set()
+        for line in self._places():
+            self.crashes += 1
+            acknowledged = tuple(text[len(_ACKNOWLEDGED) :] for text in self._lines[:line] if text.startswith(_ACKNOWLEDGED))
+            for script, content in _Crash(self, words, line).outcomes():
+                self.outcomes += 1
+                if (content, acknowledged) not in seen:
+                    seen.add((content, acknowledged))
+                    self.states += 1
+                    yield CrashState(line, script, acknowledged, content, self._is_files)
+
+    def _places(self) -> List[int]:
+        """After how many lines there is a crash: at the start, and after each call that changes something, with its acknowledgement."""
+        places = [0]
+        for number, line in enumerate(self._lines, 1):
+            if line.startswith(_ACKNOWLEDGED) or (not line.startswith("#") and self._way.changes(line)):
+                places.append(number)
+        return places if self._at is None else [place for place in places if place == self._at]
+
+    def _recorded_words(self) -> List[int]:
+        """The words of the whole script, with zeros after them that no call takes, and a last one."""
+        room = _ROOM
+        while True:
+            stream = chain(self._parts.words, iter([0] * room) if self._parts.seed is None else words_of(self._parts.seed))
+            words = [*islice(stream, len(self._parts.words) + room), MAX]
+            if self._replayed(words, len(self._lines))[1] is not None:
+                return words
+            room *= 4
+
+    def _replayed(self, words: List[int], count: int) -> Tuple[Any, Optional[int]]:
+        """Makes the first calls. Returns their session, and how many words they took; `None` if there were too few."""
+        session = self._way(self._parts.images, words)
+        for line in self._lines[:count]:
+            if not line.startswith("#"):
+                session.call(line)
+        left = session.words_left()
+        if left == 0:
+            session.close()
+        return session, len(words) - left if left else None
+
+
+class _Crash:
+    """A crash after some lines."""
+
+    def __init__(self, of: CrashStates, words: List[int], line: int) -> None:
+        self._of = of
+        self._words = words
+        self._line = line
+        self._room = _ROOM
+        # The draws of each outcome that was made, by those up to the last one that lost.
+        self._known: Dict[Words, Words] = {}
+
+    def outcomes(self) -> Iterator[Tuple[str, Content]]:
+        """The script and the content of each outcome: first those that lose least and most, then depth first."""
+        made = 0
+        limit = self._of._limit
+        kept = yield from self._new((), 0)
+        made += 1
+        for path, rest in self._extremes(kept):
+            if limit is not None and made >= limit:
+                break
+            before = len(self._known)
+            yield from self._new(path, rest)
+            made += len(self._known) - before
+        path: Optional[Words] = _next(self._known[()])
+        while path is not None:
+            taken = self._known.get(path)
+            if taken is None:
+                if limit is not None and made >= limit:
+                    self._of.complete = False
+                    return
+                taken = yield from self._new(path, 0)
+                made += 1
+            path = _next(taken)
+
+    def _extremes(self, kept: Words) -> Iterator[Tuple[Words, int]]:
+        for at in range(len(kept)):
+            yield (0,) * at + (MAX,), 0
+        yield (), MAX
+        for at in range(len(kept)):
+            yield (MAX,) * at + (0,), MAX
+
+    def _new(self, path: Words, rest: int) -> Any:
+        """Makes the crash whose first draws are a path, and then all kept or all lost. Yields it unless it was made before. Returns its
+        draws."""
+        while True:
+            session, used = self._of._replayed(self._words, self._line)
+            try:
+                given = [*path, *[rest] * self._room]
+                before = session.words_left() + len(given)
+                session.crash(given)
+                taken = tuple(given[: before - session.words_left()])
+                content = session.content()
+            finally:
+                session.close()
+            if len(taken) < len(given):
+                break
+            self._room *= 4
+        if _stem(taken) not in self._known:
+            self._known[_stem(taken)] = taken
+            yield self._script([*self._words[: used or 0], *taken]), content
+        return taken
+
+    def _script(self, words: List[int]) -> str:
+        shown = " ".join("max" if word == MAX else str(word) for word in words)
+        lines = [*self._of._parts.images, *([f"words {shown}"] if words else []), *self._of._lines[: self._line], "crash"]
+        return "".join(f"{line}\n" for line in lines)
+
+
+def _stem(taken: Words) -> Words:
+    """The draws up to the last one that lost."""
+    end = len(taken)
+    while end and not taken[end - 1]:
+        end -= 1
+    return taken[:end]
+
+
+def _next(taken: Words) -> Optional[Words]:
+    """The path of the next outcome, depth first."""
+    end = len(taken)
+    while end and taken[end - 1]:
+        end -= 1
+    return (*taken[: end - 1], MAX) if end else None
+
+
+def _whole(line: str) -> str:
+    """A line; if it sets the mode of writes, with one by which each is kept or lost as a whole."""
+    tokens = line.split()
+    return " ".join([*tokens[:6], "sectors", str(MAX)]) if tokens[:2] == ["config", "write"] else line

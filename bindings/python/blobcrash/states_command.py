@@ -1,0 +1,135 @@
+"""tools/states [options] SCRIPT -- CHECK [ARGUMENT ..]: checks every state in which a crash could have left a recorded run.
+
+SCRIPT is the script of a run: what `store.script` has, a record of the mount or of `Files`, or one by hand. A crash is put after each call that
+may change what it leaves; the calls before it are made as they were recorded, and of the crash all draws are tried. For each state, each
+once, CHECK is run: it exits with 0 if all is well. `docs/GUIDE.md` has an example.
+
+  --files        SCRIPT is a script of files
+  --at LINE      only a crash after this line, of those that aren't empty, `words` or `seed`
+  --limit N      at most N outcomes of each crash: first none lost, each single loss, all lost, each single draw kept
+  --whole        each write is kept or lost as a whole
+  --jobs N       how many checks run at once (1)
+  --out FOLDER   where failures are kept (out/states): the script, which ends with the crash, and the state
+
+CHECK finds in its environment: STATE, a folder with the state as plain files (of a store PARTITION/NAME, the name in hex, each with its
+header), which it may change; SCRIPT, the script up to the crash; ACKNOWLEDGED, a file with the texts of the comments `# acknowledged ..`
+before it, a line each.
+
+Exit statuses: 0 if every check does; 1 if one fails; 2 if the script or the command line is bad; 3 without memory.
+"""
+
+from __future__ import annotations
+
+import argparse
+import os
+import shutil
+import subprocess
+import sys
+import tempfile
+from concurrent.futures import FIRST_COMPLETED, Future, ThreadPoolExecutor, wait
+from typing import Dict, List, Set
+
+from .errors import BadLine, LibraryMissing
+from .states import CrashState, CrashStates
+
+# A folder in memory, if there is one.
+_IN_MEMORY = "/dev/shm"
+
+
+def check_state(state: CrashState, command: List[str], folder: str) -> int:
+    """Writes a state below a folder and runs the command. Returns its status."""
+    places = {name: os.path.join(folder, name.lower()) for name in ("STATE", "SCRIPT", "ACKNOWLEDGED")}
+    os.makedirs(places["STATE"])
+    state.write_to(places["STATE"])
+    with open(places["SCRIPT"], "w", encoding="utf-8") as file:
+        file.write(state.script)
+    with open(places["ACKNOWLEDGED"], "w", encoding="utf-8") as file:
+        file.write("".join(f"{text}\n" for text in state.acknowledged))
+    return subprocess.run(command, env={**os.environ, **places}, stdin=subprocess.DEVNULL, check=False).returncode
+
+
+class _Checks:
+    """The checks that are under way, and the failures."""
+
+    def __init__(self, command: List[str], out: str, jobs: int, work: str) -> None:
+        self._command, self._out, self._jobs, self._work = command, out, jobs, work
+        self._executor = ThreadPoolExecutor(jobs)
+        self._under_way: Dict[Future, CrashState] = {}
+        self._count = 0
+        self.failures = 0
+
+    def add(self, state: CrashState) -> None:
+        """Begins a check, once fewer than the jobs are under way."""
+        while len(self._under_way) >= self._jobs:
+            self._take(wait(self._under_way, return_when=FIRST_COMPLETED).done)
+        self._count += 1
+        folder = os.path.join(self._work, str(self._count))
+        self._under_way[self._executor.submit(self._checked, state, folder)] = state
+
+    def end(self) -> None:
+        """Waits for all checks."""
+        self._take(wait(self._under_way).done)
+        self._executor.shutdown()
+
+    def _checked(self, state: CrashState, folder: str) -> int:
+        try:
+            return check_state(state, self._command, folder)
+        finally:
+            shutil.rmtree(folder, ignore_errors=True)
+
+    def _take(self, done: Set[Future]) -> None:
+        for future in done:
+            state = self._under_way.pop(future)
+            status = future.result()
+            if status:
+                self._keep(state, status)
+
+    def _keep(self, state: CrashState, status: int) -> None:
+        self.failures += 1
+        kept = os.path.join(self._out, str(self.failures))
+        shutil.rmtree(kept, ignore_errors=True)
+        os.makedirs(os.path.join(kept, "state"))
+        state.write_to(os.path.join(kept, "state"))
+        with open(os.path.join(kept, "script"), "w", encoding="utf-8") as file:
+            file.write(state.script)
+        print(f"crash after line {state.line}: the check exits with {status}: {kept}", flush=True)
+
+
+def states_command(arguments: List[str]) -> int:
+    """Does what the text at the top of this file says. Returns the status."""
+    parser = argparse.ArgumentParser(prog="states", usage=(__doc__ or "").split(": ", 1)[0], description=(__doc__ or "").split("\n", 2)[2])
+    parser.formatter_class = argparse.RawDescriptionHelpFormatter
+    if "--" not in arguments:
+        arguments = [*arguments, "--"]
+    at = arguments.index("--")
+    own, command = arguments[:at], arguments[at + 1 :]
+    for name in ("--files", "--whole"):
+        parser.add_argument(name, action="store_true", help=argparse.SUPPRESS)
+    for name, default in (("--at", None), ("--limit", None), ("--jobs", 1)):
+        parser.add_argument(name, type=int, default=default, help=argparse.SUPPRESS)
+    parser.add_argument("--out", default=os.path.join("out", "states"), help=argparse.SUPPRESS)
+    parser.add_argument("script", help=argparse.SUPPRESS)
+    options = parser.parse_args(own)
+    if not command or options.jobs < 1 or (options.limit is not None and options.limit < 1):
+        parser.error("wants a CHECK after --, and numbers from 1 on")
+    try:
+        with open(options.script, encoding="utf-8") as file:
+            script = file.read()
+        return _run(script, options, command)
+    except (BadLine, LibraryMissing, OSError, UnicodeDecodeError) as error:
+        print(f"states: {error}", file=sys.stderr)
+        return 2
+    except MemoryError:
+        print("states: no memory", file=sys.stderr)
+        return 3
+
+
+def _run(script: str, options: argparse.Namespace, command: List[str]) -> int:
+    states = CrashStates(script, files=options.files, at=options.at, limit=options.limit, whole=options.whole)
+    with tempfile.TemporaryDirectory(dir=_IN_MEMORY if os.path.isdir(_IN_MEMORY) else None) as work:
+        checks = _Checks(command, options.out, options.jobs, work)
+        for state in states:
+            checks.add(state)
+        checks.end()
+    print(f"{states}; {checks.failures} fail")
+    return int(checks.failures > 0)

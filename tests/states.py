@@ -1,0 +1,325 @@
+"""Every crash of a recorded run: the states are those of brute force over words, planted bugs are found, and the command does what it says.
+states.sh runs it. The last line is `N passed, M failed`. With the name of a test only that one is run."""
+
+import itertools
+import os
+import random
+import subprocess
+import sys
+import tempfile
+
+from explore_log import RECORDS, AcknowledgesFirst, Checked, ForgetsSync, TakesZeros
+from passing import raises, run_tests
+
+TOP = os.path.dirname(os.path.dirname(os.path.abspath(__file__)))
+from blobcrash import BadLine, CrashStates, Files, Library, StorageError, Store
+
+PREFIX = "write 0 1 1 2 prefix"
+MAX = 2**64 - 1
+NAMES = (b"a", b"b")
+
+
+def random_script(chance):
+    """A run with faults, of which some fail, with syncs that are started, removals and a crash."""
+    mode = chance.choice(["prefix", "subset", "sectors 2"])
+    settings = [f"write {chance.randrange(2)} 3 1 2 {mode}", f"sync {chance.randrange(2)} 3", "resize 1 3 1 2"]
+    with Store(chance.randrange(2**64), settings=settings, by=Library) as store:
+        open_blobs = {}
+        for _ in range(chance.randrange(3, 9)):
+            name = chance.choice(NAMES)
+            try:
+                if name not in open_blobs:
+                    open_blobs[name] = store.open("p", name)[0]
+                blob = open_blobs[name]
+                step = chance.randrange(9)
+                data = bytes(chance.choice(b"xyz") for _ in range(chance.randrange(1, 3)))
+                if step < 4:
+                    blob.write(chance.randrange(3), data, sync=step == 0)
+                elif step < 6:
+                    blob.resize(chance.randrange(4))
+                elif step == 6:
+                    blob.sync()
+                elif step == 7:
+                    store.remove("p", name)
+                    open_blobs.pop(name).close()
+                elif chance.randrange(2):
+                    store.restart()
+                    open_blobs.clear()
+            except StorageError:
+                pass
+        return "\n".join(store.script)
+
+
+def logical(store):
+    """The names and the bytes of the blobs, as opens find them."""
+    found = []
+    for name in NAMES:
+        try:
+            is_there = name in store.scan("p")
+        except StorageError:
+            is_there = False
+        if is_there:
+            blob, size = store.open_loose("p", name)
+            found.append((name, blob.read(0, size)))
+    return tuple(found)
+
+
+def replies(store, lines):
+    for line in lines:
+        if line.startswith("#"):
+            continue
+        try:
+            store.call(line)
+        except StorageError:
+            pass
+
+
+def words_used(script, count):
+    """The words that the first lines of a script take, by a store with a recording of its own: those of its seed."""
+    from blobcrash.generator import words_of
+
+    lines = script.split("\n")
+    seed = int(lines[0].split()[1])
+    words = list(itertools.islice(words_of(seed), 200))
+    with Store(words=[*words, MAX], by=Library, allow_stale=True) as store:
+        replies(store, lines[1 : 1 + count])
+        return words[: 201 - store._layer.words_left()]
+
+
+def brute(script, count):
+    """What a crash after these lines leaves, for all outcomes of its draws. It makes most of them if it keeps all. `None` if these are many."""
+    used = words_used(script, count)
+    lines = script.split("\n")[1 : 1 + count]
+    with Store(words=[*used, *[0] * 40, MAX], by=Library, allow_stale=True) as store:
+        replies(store, lines)
+        before = store._layer.words_left()
+        store.crash()
+        draws = before - store._layer.words_left()
+    if draws > 6:
+        return None
+    found = set()
+    for words in itertools.product((0, MAX), repeat=draws):
+        with Store(words=[*used, *words, MAX], by=Library, allow_stale=True) as store:
+            replies(store, [*lines, "crash", "reopen", "config clear"])
+            found.add(logical(store))
+    return found
+
+
+def test_random_scripts_against_brute_force():
+    chance = random.Random(57)
+    compared = 0
+    for _ in range(200):
+        script = random_script(chance)
+        by_line = {}
+        for state in CrashStates(script):
+            with state.store() as store:
+                by_line.setdefault(state.line, set()).add(logical(store))
+        seen = set()
+        for line in [0, *range(1, script.count("\n") + 1)]:
+            seen |= by_line.get(line, set())
+            expected = brute(script, line)
+            if expected is not None:
+                # A state that an earlier crash left isn't repeated.
+                assert by_line.get(line, set()) <= expected <= seen, (script, line)
+                compared += 1
+    assert compared > 500, compared
+
+
+def recorded(kind, records, settings):
+    """The script of a log that appends records."""
+    with Store(7, settings=settings, by=Library) as store:
+        log = kind(store)
+        for record in records:
+            log.append(record)
+        return "\n".join(store.script)
+
+
+def lost(kind, records, settings, recovers=Checked):
+    """The first state in which a log of this kind lacks an acknowledged record, or has another one."""
+    states = CrashStates(recorded(kind, records, settings))
+    for state in states:
+        with state.store() as store:
+            found = recovers(store).records
+        count = len(state.acknowledged)
+        if found not in (records[:count], records[: count + 1]):
+            return state
+    assert states.complete
+    return None
+
+
+def test_the_bugs_of_the_log_are_found_from_one_run():
+    assert lost(Checked, RECORDS, [PREFIX]) is None
+    assert lost(Checked, RECORDS, ["write 0 1 1 2 sectors 8"]) is None
+    assert lost(ForgetsSync, RECORDS, [PREFIX]) is not None
+    early = lost(NotesFirst, RECORDS, [PREFIX])
+    assert early is not None and early.script.count("sync") == 0, early
+    assert lost(Checked, RECORDS, ["write 0 1 1 2 sectors 8"], TakesZeros) is not None
+
+
+class NotesFirst(AcknowledgesFirst):
+    """Its script has the acknowledgement before the sync."""
+
+    def acknowledge(self, record):
+        super().acknowledge(record)
+        if self.records is not None:
+            self._store.note(f"acknowledged {len(self.acknowledged)}")
+
+
+def slots(store, bug=None):
+    """A value in two slots of one byte of version and four of value, written in turn."""
+    blob, _ = store.open("meta", b"m")
+    blob.write(0, b"\0" * 10, sync=True)
+    for number in range(1, 5):
+        at = 5 * (number % 2) if bug != "one slot" else 0
+        value = bytes([96 + number]) * 4
+        if bug == "version first":
+            blob.write(at, bytes([number]), sync=True)
+            blob.write(at + 1, value, sync=True)
+        else:
+            blob.write(at + 1, value)
+            if bug != "forgets":
+                blob.sync()
+            blob.write(at, bytes([number]))
+            blob.sync()
+        store.note(f"acknowledged {number}")
+
+
+def newest(store):
+    """The version and the value of the newest slot."""
+    blob, size = store.open("meta", b"m")
+    data = blob.read(0, size).ljust(10, b"\0")
+    at = max((0, 5), key=lambda at: data[at])
+    return data[at], data[at + 1 : at + 5]
+
+
+def test_a_store_of_two_slots():
+    for bug in (None, "version first", "one slot", "forgets"):
+        with Store(7, settings=["write 0 1 1 2 subset"], by=Library) as store:
+            slots(store, bug)
+            script = "\n".join(store.script)
+        bad = []
+        for state in CrashStates(script):
+            with state.store() as store:
+                version, value = newest(store)
+            count = len(state.acknowledged)
+            if version not in (count, count + 1) or value != (bytes([96 + version]) * 4 if version else bytes(4)):
+                bad.append(state)
+        assert bool(bad) == (bug is not None), (bug, [state.script for state in bad[:1]])
+
+
+def replaced(files, syncs):
+    """Replaces a file by a rename."""
+    with files.open("/f", "wb") as file:
+        file.write(b"old" * 300)
+        files.fsync(file)
+    files.fsync_directory("/")
+    files.note("acknowledged old")
+    with files.open("/t", "wb") as file:
+        file.write(b"new" * 300)
+        if syncs:
+            files.fsync(file)
+    files.rename("/t", "/f")
+    files.fsync_directory("/")
+    files.note("acknowledged new")
+
+
+def test_a_file_that_is_replaced():
+    for profile in ("ext4", "xfs", "btrfs", "posix"):
+        for syncs in (True, False):
+            with Files(3, profile=profile, settings=["write 0 1 1 2 sectors 512"]) as files:
+                replaced(files, syncs)
+                script = "\n".join(files.script)
+            states, bad = CrashStates(script, files=True), 0
+            for state in states:
+                paths = dict(state.content)
+                allowed = {0: (None, b"old" * 300), 1: (b"old" * 300, b"new" * 300), 2: (b"new" * 300,)}[len(state.acknowledged)]
+                if state.acknowledged and paths.get(b"/f") not in allowed:
+                    bad += 1
+            assert states.complete and bool(bad) == (not syncs and profile != "ext4"), (profile, syncs, bad, str(states))
+
+
+def test_files_of_a_state_and_its_folder():
+    with Files(3) as files:
+        files.mkdir("/d")
+        with files.open("/d/a b", "wb") as file:
+            file.write(b"x")
+            files.fsync(file)
+        script = "\n".join(files.script)
+    state = list(CrashStates(script, files=True))[-1]
+    assert dict(state.content) == {b"/d": None, b"/d/a b": b"x"}, state.content
+    with state.files() as again, again.open("/d/a b") as file:
+        assert file.read() == b"x"
+    with tempfile.TemporaryDirectory() as folder:
+        state.write_to(folder)
+        with open(os.path.join(folder, "d", "a b"), "rb") as file:
+            assert file.read() == b"x"
+    raises(ValueError, state.store)
+
+
+def test_every_line_of_a_script_of_files():
+    lines = ["profile posix", "config write 0 1 1 2 sectors 512", "keep 1 2", "mkdir /d", "create_at 1 g", "write 0 0 6161", "link_at 3 2 h"]
+    lines += ["open /g # is 1", "write /g 1 62", "truncate 1 1", "fdatasync /g", "rename_at 1 g 2 k noreplace", "rename /d/k /d/h exchange"]
+    lines += ["fsyncdir_at 1", "fsyncdir /d", "read 1 0 9", "size /d/h", "find /d", "find_at 2 h", "inode_of 1", "open_inode 3", "listdir /"]
+    lines += ["unlink_at 2 h", "rmdir /d", "mkdir_at 1 x\\x20y", "rmdir_at 1 x\\x20y"]
+    lines += ["settle", "sync", "crash", "listdir_at 1", "open_truncated /d/k"]
+    states = list(CrashStates("\n".join(lines), files=True, at=len(lines)))
+    # The truncation of the last line is lost.
+    assert [dict(state.content) for state in states] == [{b"/d": None, b"/d/k": b"a"}], [state.content for state in states]
+    for bad in ("frobnicate /a", "create", "write 0 x 61", "rename /a /b sideways", "close 18446744073709551616", "write 0 0 6"):
+        raises(BadLine, list, CrashStates(bad, files=True))
+    raises(BadLine, list, CrashStates("open p"))
+
+
+def test_a_limit_takes_the_least_and_the_greatest_losses_first():
+    script = f"config {PREFIX.replace('prefix', 'subset')}\nopen p 61\nwrite 0 0 616263646566\n"
+    states = CrashStates(script, at=3, limit=8)
+    found = [state.content[0][2][8:] if state.content else None for state in states]
+    # All kept, each byte lost alone, all lost: the blob then ends before its first byte.
+    assert found[0][-6:] == b"abcdef" and len(found) == 8 and not states.complete, found
+    assert str(states).endswith("not all of them: a limit was reached"), str(states)
+    assert [each[-6:] for each in found[1:6]] == [b"\0bcdef", b"a\0cdef", b"ab\0def", b"abc\0ef", b"abcd\0f"], found
+    whole = CrashStates(script, at=3, whole=True)
+    assert len(list(whole)) == 2 and whole.outcomes == 2 and whole.complete
+
+
+def test_a_crash_in_the_record_keeps_what_it_kept():
+    script = "words max 0 0 0\nconfig write 0 1 1 2 subset\nopen p 61\nwrite 0 0 6162\ncrash\nreopen\nopen p 61\nsync 1\n"
+    states = list(CrashStates(script))
+    # After the crash of the record no state has its first byte.
+    later = [state for state in states if state.line > 4]
+    assert later == [] or all(b"a" not in state.content[0][2][8:] for state in later), later
+
+
+def command(*words):
+    words = [sys.executable, f"{TOP}/tools/states", *words]
+    return subprocess.run(words, stdout=subprocess.PIPE, stderr=subprocess.PIPE, text=True, check=False)
+
+
+def test_the_command():
+    with tempfile.TemporaryDirectory() as work:
+        script = os.path.join(work, "run.script")
+        with open(script, "w", encoding="utf-8") as file:
+            file.write(recorded(ForgetsSync, RECORDS[:1], ["write 0 1 1 2 sectors 8"]))
+        out = os.path.join(work, "out")
+        check = ["sh", "-c", 'test ! -s "$ACKNOWLEDGED" || (test -s "$STATE/wal/30" && grep -q crash "$SCRIPT")']
+        for jobs in ("1", "3"):
+            ran = command("--out", out, "--jobs", jobs, script, "--", *check)
+            assert ran.returncode == 0 and ran.stdout.endswith(", all of them; 0 fail\n"), ran
+        ran = command("--out", out, script, "--", "sh", "-c", 'test ! -s "$ACKNOWLEDGED"')
+        assert ran.returncode == 1 and "the check exits with 1" in ran.stdout, ran
+        with open(os.path.join(out, "1", "script"), encoding="utf-8") as file:
+            assert file.read().endswith("\ncrash\n")
+        assert os.path.isdir(os.path.join(out, "1", "state"))
+        assert command(script).returncode == 2 and command("--limit", "0", script, "--", "true").returncode == 2
+        assert command(os.path.join(work, "none"), "--", "true").returncode == 2
+        assert command(script, "--", "/none/none").returncode == 2
+        with open(script, "w", encoding="utf-8") as file:
+            file.write("open p\n")
+        ran = command(script, "--", "true")
+        assert ran.returncode == 2 and "bad call" in ran.stderr and "Traceback" not in ran.stderr, ran
+        ran = command("--help")
+        assert ran.returncode == 0 and "STATE" in ran.stdout, ran
+
+
+if __name__ == "__main__":
+    sys.exit(run_tests(globals(), sys.argv[1:]))

@@ -1,0 +1,39 @@
+#!/bin/sh
+# Tests of tools/states and CrashStates (tests/states.py), and of one commit of SQLite on the mount, from whose record the loss that SQLite
+# documents is found, and no other. The last line is `N passed, M failed`.
+top=$(CDPATH='' cd -- "$(dirname -- "$0")/.." && pwd -P)
+# shellcheck source=tests/counting.sh
+. "$top/tests/counting.sh"
+if ! has_python; then
+    skip 'all of it: there is no Python 3.8 or later'
+    finish
+fi
+sh "$top/bindings/build.sh" || give_up "the library can't be built"
+export PYTHONDONTWRITEBYTECODE=1
+add python3 "$top/tests/states.py"
+for sync in '' --forget-sync; do
+    python3 "$top/examples/log_states.py" $sync >"$work/out" 2>&1
+    status=$?
+    if [ -z "$sync" ]; then
+        [ "$status" -eq 0 ] && [ "$(cat "$work/out")" = '11 crashes, 53 outcomes, 47 states, all of them' ]
+    else
+        [ "$status" -eq 1 ] && grep -q '^acknowledged 1, found 0:$' "$work/out" && [ "$(tail -n 1 "$work/out")" = crash ]
+    fi
+    tell $? "examples/log_states.py $sync"
+done
+
+if ! has sqlite3 fusermount3 || [ ! -w /dev/fuse ] || ! sh "$top/adapters/mount/build.sh" >/dev/null 2>&1; then
+    # A kernel can't be installed.
+    leave_out 'SQLite on the mount: sqlite3, a C compiler, libfuse 3 or FUSE is missing'
+    finish
+fi
+# committed LEVEL PROFILE STATUS FAILURES: what tools/states prints of a commit.
+committed() {
+    sh "$top/examples/mount_states.sh" "$1" "$2" >"$work/out" 2>&1
+    [ $? -eq "$3" ] && grep -Eq "^[0-9]+ crashes, [0-9]+ outcomes, [0-9]+ states, all of them; $4 fail\$" "$work/out"
+    tell $? "SQLite at $1 on $2: $(tail -n 1 "$work/out")"
+}
+committed extra posix 0 0
+committed full posix 1 1
+committed extra ext4 0 0
+finish
