@@ -177,7 +177,7 @@ from_bytes edit settled h bytes e has told =
     ∙ ap (λ t. Some (t, nat_eq (if settled then 2 else 1) 2)) told
     ∙ ap (λ b. Some (edit, b)) (settled_told settled)
 
-one_bytes : (c : Change) → edit_bytes (c ∷ []) ≡ change_bytes c
+pub one_bytes : (c : Change) → edit_bytes (c ∷ []) ≡ change_bytes c
 unfolding edit_bytes
 one_bytes c = append-nil (change_bytes c)
 

@@ -1,15 +1,12 @@
 -- Names of which each binding is one of some other names.
-use Rattle.std.proofs.Common.{◌≡◌, ℕ, None, [], List, ◌∷◌, ◌++◌, true, Some, sym, ap, ◌∙◌, ⊎_elim, arith, length, subst, drop, take, nat_eq}
+use Rattle.std.proofs.Common.{◌≡◌, ℕ, None, List, ◌++◌, true, Some, sym, ap, ◌∙◌, ⊎_elim, length, drop, take, nat_eq}
 use Rattle.std.specs.Cmp.Lexicographic.{pointwise}
-use Rattle.std.specs.List.{All}
-use Rattle.std.proofs.lemmas.List.Elements.{All-push}
 use Rattle.std.proofs.lemmas.Bool.{cases_Bool, cond-true, cond-false}
 use Rattle.std.proofs.lemmas.List.{take-append-drop}
 use Rattle.std.specs.Cmp.Lexicographic.{bytes_decides, same_text}
 use Rattle.std.specs.Str.{bytes_eq}
 use Rattle.blob_directory.specs.declared.edit.Binding.{Binding}
-use Rattle.blob_directory.specs.declared.edit.Kind.TheVariants.{Directory}
-use Rattle.blob_directory.specs.Names.{Names, Reached, Root, Below, Same, Within, changed, directory_at, entry}
+use Rattle.blob_directory.specs.Names.{Names, Reached, Root, Below, Same, Within, changed, entry}
 
 -- one more binding, which the other names have, in a directory that the root reaches
 pub within_changed : (a b names : Names) (d : ℕ) (name : List ℕ) (to : Binding)
@@ -23,14 +20,7 @@ within_changed a b names d name to same has there within =
     (λ n. within e t (sym (cond-false (bytes_eq (entry d name) e) (Some to) (a e) n) ∙ sym (same e) ∙ h))
     (cases_Bool (bytes_eq (entry d name) e))
 
-is_directory : (to : Binding) → to.kind ≡ Directory → Some to ≡ Some (directory_at to.inode)
-is_directory to e = ap (λ k. Some (record { inode = to.inode; kind = k })) e
-
--- a directory with a name in one that the root reaches
-pub reached_below : (names : Names) (d : ℕ) (name : List ℕ) (to : Binding) → Reached names d → names (entry d name) ≡ Some to → to.kind ≡ Directory → Reached names to.inode
-reached_below names d name to there has kind = Below d name to.inode there (has ∙ is_directory to kind)
-
-reached_same : (a b : Names) (d : ℕ) → Same a b → Reached a d → Reached b d
+pub reached_same : (a b : Names) (d : ℕ) → Same a b → Reached a d → Reached b d
 reached_same a b _ same Root = Root
 reached_same a b _ same (Below d name i there has) = Below d name i (reached_same a b d same there) (sym (same (entry d name)) ∙ has)
 
@@ -54,9 +44,3 @@ clash t e = cc
 -- names that bind nothing
 pub nothing_within : (a b : Names) → Same a (λ _. None) → Within a b
 nothing_within a b none = λ e t h. absurd (clash t (sym (none e) ∙ h))
-
--- the root alone
-pub root_reached : (names : Names) (xs ys : List ℕ) → xs ≡ [] → ys ≡ xs ++ 1 ∷ [] → All (Reached names) ys
-root_reached names xs ys empty pushed =
-    let none : All (Reached names) xs = subst (All (Reached names)) (sym empty) (λ k d h. absurd (omega arith)) in
-    subst (All (Reached names)) (sym pushed) (All-push (Reached names) xs 1 none Root)

@@ -1,4 +1,6 @@
 pub mod Names
 pub mod Tables
+pub mod Trees
+pub mod Checkpoints
 pub mod Sectors
 pub mod Profiles

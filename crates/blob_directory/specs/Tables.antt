@@ -2,10 +2,13 @@
 use Rattle.std.specs.Prelude.{◌≡◌, ℕ, true, List, [], ◌∷◌, Option, Some, None, is_some}
 use Rattle.std.specs.BTreeMap.{get_by}
 use Rattle.std.specs.Cmp.Lexicographic.{slice_cmp}
+use Rattle.std.specs.Global.{Global}
+use Rattle.std.specs.List.{All, Contains}
 use Rattle.std.specs.Ordering.{nat_cmp}
+use Rattle.std.specs.Prelude.{Vec}
 use Rattle.blob_directory.specs.declared.edit.Binding.{Binding}
 use Rattle.blob_directory.specs.declared.table.Table.{Table}
-use Rattle.blob_directory.specs.Names.{Edit, Names}
+use Rattle.blob_directory.specs.Names.{Edit, Names, entry}
 
 abbrev pub flat : {T : Type 0} → Option (Option T) → Option T
 flat None = None
@@ -31,3 +34,15 @@ HasRoomFor table (c ∷ edit) = HasRoom table c.0 × HasRoomFor table edit
 -- room isn't lost
 abbrev pub KeepsRoom : Table → Table → Type 0
 KeepsRoom table table' = (e : List ℕ) → HasRoom table e → HasRoom table' e
+
+-- a list of names has this one, with this binding
+abbrev pub HasName : List (Vec ℕ Global × Binding) → List ℕ → Binding → Type 0
+HasName list name to = (n : Vec ℕ Global × Binding) × Contains list n × (n.0.items ≡ name) × (n.1 ≡ to)
+
+-- the list has all names of a directory, with their bindings
+abbrev pub HasAll : Names → ℕ → List (Vec ℕ Global × Binding) → Type 0
+HasAll names directory list = (name : List ℕ) (to : Binding) → names (entry directory name) ≡ Some to → HasName list name to
+
+-- and no other
+abbrev pub HasOnly : Names → ℕ → List (Vec ℕ Global × Binding) → Type 0
+HasOnly names directory list = All (λ n. names (entry directory n.0.items) ≡ Some n.1) list

@@ -1,6 +1,7 @@
 //! Names, edits of names, and their journal's sectors: what a file system decides without a store.
 #![tactic(auto)]
 
+pub mod checkpoint;
 pub mod edit;
 pub mod laws;
 pub mod path;

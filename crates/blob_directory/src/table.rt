@@ -1,7 +1,7 @@
 //! The names of all directories, as a table of entries.
-ghost use Rattle.std.specs.Prelude.{◌≡◌, None, Some, All, IfOk, OnOk, OnErr};
+ghost use Rattle.std.specs.Prelude.{◌≡◌, None, Some, IfOk, OnOk, OnErr};
 ghost use Rattle.blob_directory.specs.Names.{Same, changed, edit_of, edited, entry};
-ghost use Rattle.blob_directory.specs.Tables.{HasRoom, HasRoomFor, KeepsRoom, bound};
+ghost use Rattle.blob_directory.specs.Tables.{HasAll, HasOnly, HasRoom, HasRoomFor, KeepsRoom, bound};
 
 use crate::edit::{Binding, Edit, entry_of};
 use std::alloc::{AllocError, Global};
@@ -114,7 +114,8 @@ impl Table {
 
     /// Returns the names in a directory with their bindings, in the order of their bytes. Fails only if memory runs out.
     pub fn names_in(&self, directory: u64) -> Result<Vec<(Vec<u8>, Binding)>, AllocError>
-        ensures { IfOk result (λ names. All (λ n. bound self.now (entry directory n.0.items) ≡ Some n.1) names.items) }
+        ensures told { IfOk result (λ names. HasOnly (bound self.now) directory names.items) }
+        ensures all { IfOk result (λ names. HasAll (bound self.now) directory names.items) }
     {
         let start = directory.to_be_bytes();
         let mut names = Vec::new(self.alloc);

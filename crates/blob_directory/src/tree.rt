@@ -1,10 +1,11 @@
 //! The names that a crash leaves, from the sectors of a journal.
-ghost use Rattle.std.specs.Prelude.{◌≡◌, ◌&&◌, ◌||◌, not, true, None, Some, IfOk, OnOk};
-ghost use Rattle.blob_directory.specs.Names.{Names, Reached, Same, Within, entry};
-ghost use Rattle.blob_directory.specs.declared.edit.Kind.TheVariants.{Directory};
+ghost use Rattle.std.specs.Prelude.{◌≡◌, ◌&&◌, ◌||◌, ℕ, nat_eq, not, None, IfOk, OnOk};
+ghost use Rattle.blob_directory.specs.Checkpoints.{FitSectors};
+ghost use Rattle.blob_directory.specs.Names.{Names, Same, entry};
 ghost use Rattle.blob_directory.specs.Profiles.{counts, is_prefix, names_told, with_found};
 ghost use Rattle.blob_directory.specs.Sectors.{found_in};
 ghost use Rattle.blob_directory.specs.Tables.{bound};
+ghost use Rattle.blob_directory.specs.Trees.{Finds, HasPlaces, added, has_directory, has_then, is_directory};
 
 use crate::edit::{Binding, Kind};
 use crate::profile::Keeps;
@@ -29,7 +30,8 @@ pub struct Tree {
 impl Tree {
     /// Returns the tree of a root without names. Fails only if memory runs out.
     pub fn new(alloc: Global) -> Result<Tree, AllocError>
-        ensures { IfOk result (λ tree. Same (bound tree.names) (λ _. None)) }
+        ensures names { IfOk result (λ tree. Same (bound tree.names) (λ _. None)) }
+        ensures directories { IfOk result (λ tree. (d : ℕ) → has_directory tree d ≡ nat_eq 1 d) }
     {
         let mut directories = BTreeMap::new(alloc);
         directories.insert(ROOT, ROOT)?;
@@ -42,8 +44,9 @@ impl Tree {
 
     /// Adds a name. A directory that has a name already gets no other.
     fn add(&mut self, directory: u64, name: &[u8], to: Binding) -> Result<bool, AllocError>
-        ensures within { OnOk result ((names : Names) → Reached names directory → names (entry directory name.now) ≡ Some to → Within (bound self.old.names) names → Within (bound self.new.names) names) }
-        ensures directory { IfOk result (λ is_new. is_new ≡ true → to.kind ≡ Directory) }
+        ensures names { OnOk result (Same (bound self.new.names) (added self.old (entry directory name.now) to)) }
+        ensures directories { OnOk result ((d : ℕ) → has_directory self.new d ≡ has_then self.old to d) }
+        ensures new { IfOk result (λ is_new. is_new ≡ (is_directory to.kind && not (has_directory self.old to.inode))) }
     {
         match to.kind {
             Kind::File => {
@@ -96,7 +99,8 @@ pub fn kept_names(
     bytes: &[u8],
     keeps: Keeps,
 ) -> Result<(Table, Vec<bool>), AllocError>
-    ensures { IfOk result (λ r. Same (bound r.0) (names_told keeps bytes.now)) }
+    ensures names { IfOk result (λ r. Same (bound r.0) (names_told keeps bytes.now)) }
+    ensures sectors { IfOk result (λ r. FitSectors (bound r.0)) }
 {
     let mut names = Table::new(alloc);
     let mut kept = Vec::new(alloc);
@@ -113,15 +117,17 @@ pub fn kept_names(
 }
 
 /// Returns the part of the names that the root reaches. Fails only if memory runs out.
-pub fn reached(alloc: Global, names: &Table, most: u64) -> Result<Tree, AllocError>
-    ensures { IfOk result (λ tree. (told : Names) → Same (bound names.now) told → Within (bound tree.names) told) }
+pub fn reached(alloc: Global, names: &Table) -> Result<Tree, AllocError>
+    ensures finds { IfOk result (λ tree. (told : Names) → Same (bound names.now) told → Finds (bound tree.names) told) }
+    ensures places { IfOk result HasPlaces }
 {
     let mut tree = Tree::new(alloc)?;
     let mut next = Vec::new(alloc);
     next.push(ROOT)?;
-    for _ in 0..most {
+    // each turn takes another directory, so memory has run out before the last one
+    for _ in 0..u64::MAX {
         let Some(directory) = next.pop() else {
-            break;
+            return Ok(tree);
         };
         for (name, to) in &names.names_in(directory)? {
             if tree.add(directory, name, *to)? {
@@ -129,5 +135,5 @@ pub fn reached(alloc: Global, names: &Table, most: u64) -> Result<Tree, AllocErr
             }
         }
     }
-    Ok(tree)
+    Err(AllocError)
 }

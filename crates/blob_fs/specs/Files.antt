@@ -8,7 +8,7 @@ use Rattle.blob_directory.specs.declared.table.Table.{Table}
 use Rattle.blob_directory.specs.Names.{Edit, Names, Same, edited}
 use Rattle.blob_directory.specs.Tables.{bound}
 use Rattle.blob_journal.specs.declared.journaled.Journaled.{Journaled}
-use Rattle.blob_journal.specs.Journals.{FindsKept as finds_kept, FindsNames as finds_names}
+use Rattle.blob_journal.specs.Journals.{FindsKept as finds_kept, FindsNames as finds_names, GivesNames as gives_names}
 use Rattle.blob_journal.specs.Keeping.{generator_in, table_in, with_generator as with_generator_in}
 
 -- the names, their journal and the store
@@ -60,3 +60,7 @@ FindsNames fs fs' = finds_names (journaled_of fs) (keeps_of fs) (names_of fs')
 -- The same after a crash: the journal has those of its pending sectors that the crash kept.
 abbrev pub FindsKept : {R : Type 0} → FileSystem R → Selections → FileSystem R → Type 0
 FindsKept fs kept fs' = finds_kept (journaled_of fs) kept (keeps_of fs) (names_of fs')
+
+-- by every profile the journal gives the names that calls see
+abbrev pub GivesNames : {R : Type 0} → FileSystem R → Type 0
+GivesNames fs = gives_names (journaled_of fs)

@@ -1,6 +1,6 @@
 //! The crash, and the recovery after it.
-ghost use Rattle.std.specs.Prelude.{IfOk, OnErr};
-ghost use Rattle.blob_fs.specs.Files.{FindsKept, KeepsNames};
+ghost use Rattle.std.specs.Prelude.{IfOk, OnErr, OnOk};
+ghost use Rattle.blob_fs.specs.Files.{FindsKept, GivesNames, KeepsNames};
 
 use crate::error::FsError;
 use crate::file_system::FileSystem;
@@ -38,6 +38,7 @@ impl<R: Rng + Drop> FileSystem<R> {
     /// crash returns Ok.
     pub fn crash(&mut self) -> Result<Crash, FsError>
         ensures found { IfOk result (λ crash. FindsKept self.old crash.rows self.new) }
+        ensures gives { OnOk result (GivesNames self.new) }
         ensures refused { OnErr result (KeepsNames self.old self.new) }
     {
         let pending = self.pending_places()?;

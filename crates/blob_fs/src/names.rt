@@ -2,6 +2,7 @@
 ghost use Rattle.std.specs.Prelude.{◌≡◌, ◌∷◌, [], None, Some, OnOk, OnErr, IfOk};
 ghost use Rattle.blob_fs.specs.Files.{KeepsNames, MakesEdit, SameNames, fresh_inode, names_of};
 ghost use Rattle.blob_directory.specs.Names.{binds, directory_at, entry, file, frees};
+ghost use Rattle.blob_directory.specs.Tables.{HasAll, HasOnly};
 
 use crate::error::FsError;
 use crate::file_system::{Descriptor, File, FileSystem, LINKS_MAX};
@@ -223,7 +224,10 @@ impl<R: Rng + Drop> FileSystem<R> {
     /// # Errors
     ///
     /// `NotFound`, `NotDirectory`, `Memory`.
-    pub fn list_at(&self, directory: u64) -> Result<Vec<(Vec<u8>, Binding)>, FsError> {
+    pub fn list_at(&self, directory: u64) -> Result<Vec<(Vec<u8>, Binding)>, FsError>
+        ensures only { IfOk result (λ names. HasOnly (names_of self.now) directory names.items) }
+        ensures all { IfOk result (λ names. HasAll (names_of self.now) directory names.items) }
+    {
         if self.files.contains_key(&directory) {
             return Err(FsError::NotDirectory);
         }

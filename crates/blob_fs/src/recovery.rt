@@ -1,6 +1,7 @@
 //! The recovery: the names from the journal, and the files from their blobs.
 ghost use Rattle.std.specs.Prelude.{◌≡◌, OnOk, OnErr};
-ghost use Rattle.blob_fs.specs.Files.{FindsNames, KeepsNames};
+ghost use Rattle.blob_fs.specs.Files.{FindsNames, GivesNames, KeepsNames};
+ghost use Rattle.blob_journal.specs.Journals.{GivesNames as gives_names};
 ghost use Rattle.blob_journal.specs.Keeping.{KeepsTable};
 
 use crate::error::FsError;
@@ -85,7 +86,8 @@ fn remove_unnamed<R: Rng + Drop>(
     old: &BTreeMap<u64, File>,
     files: &BTreeMap<u64, File>,
 )
-    ensures { KeepsTable store.old store.new }
+    ensures names { KeepsTable store.old store.new }
+    ensures gives { gives_names store.old → gives_names store.new }
 {
     for (inode, _) in old {
         if !files.contains_key(inode) {
@@ -98,6 +100,7 @@ impl<R: Rng + Drop> FileSystem<R> {
     /// Recovers after a crash of the layer. Returns of each unsettled edit whether it was kept.
     pub(crate) fn recover(&mut self) -> Result<Vec<bool>, FsError>
         ensures found { OnOk result (FindsNames self.old self.new) }
+        ensures gives { OnOk result (GivesNames self.new) }
         ensures refused { OnErr result (KeepsNames self.old self.new) }
     {
         let (tree, edits) = self.store.find_names(self.options.profile.keeps)?;
@@ -110,7 +113,8 @@ impl<R: Rng + Drop> FileSystem<R> {
 
     /// Takes the new directories and files. Removes the blobs of files that no name reaches.
     fn begin_life(&mut self, directories: BTreeMap<u64, u64>, files: BTreeMap<u64, File>)
-        ensures { KeepsNames self.old self.new }
+        ensures names { KeepsNames self.old self.new }
+        ensures gives { GivesNames self.old → GivesNames self.new }
     {
         remove_unnamed(&mut self.store, &self.files, &files);
         self.used = used_by(&files);

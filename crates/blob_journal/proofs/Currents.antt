@@ -93,3 +93,15 @@ that_place p n (Some (Incarnation number layout version)) k s h =
 -- a current incarnation is the one of its name
 pub current_of_name : (d : Directory) (a : Place) → is_current d a ≡ true → current d a.partition a.name ≡ Some a
 current_of_name d a h = that_place a.partition a.name (d.file a.partition a.name) a.number a.start h
+
+file_named : (p n : List ℕ) (f : Option File) (o : Place) → place_in p n f ≡ Some o → (o.partition ≡ p) × (o.name ≡ n)
+file_named p n None o e = absurd (cc)
+file_named p n (Some (Raw raw)) o e = absurd (cc)
+file_named p n (Some (Incarnation k layout version)) o e =
+    let made : Place = record { partition = p; name = n; number = k; start = data_start layout } in
+    let same : made ≡ o = cc in
+    (sym (ap (λ (x : Place). x.partition) same), sym (ap (λ (x : Place). x.name) same))
+
+-- the incarnation of a name has this name
+pub current_named : (d : Directory) (p n : List ℕ) (o : Place) → current d p n ≡ Some o → (o.partition ≡ p) × (o.name ≡ n)
+current_named d p n o h = file_named p n (d.file p n) o h

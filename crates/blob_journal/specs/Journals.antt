@@ -10,10 +10,13 @@ use Rattle.blob_draws.specs.declared.selections.Selections.{Selections}
 use Rattle.blob_memory.specs.Store.{directory, durable}
 use Rattle.blob_faulty.specs.Keeps.{OverMemory}
 use Rattle.blob_faulty.specs.Wrapper.{inner_of, pending_of}
-use Rattle.blob_directory.specs.Names.{Names, Within}
+use Rattle.blob_directory.specs.Checkpoints.{Gives}
+use Rattle.blob_directory.specs.Names.{Names}
 use Rattle.blob_directory.specs.Profiles.{names_told}
+use Rattle.blob_directory.specs.Trees.{Finds}
 use Rattle.blob_directory.specs.declared.profile.Keeps.{Keeps}
 use Rattle.blob_journal.specs.declared.journaled.Journaled.{Journaled}
+use Rattle.blob_journal.specs.Keeping.{names_in}
 
 -- the journal of a generation: the durable bytes of its blob
 pub record IsJournal {R : Type 0} (store : OverMemory R) (generation : ℕ) (bytes : List ℕ) : Type 0 where
@@ -33,10 +36,6 @@ store_of j = j.store
 abbrev pub generation_of : {R : Type 0} → Journaled R → ℕ
 generation_of j = j.journal.generation
 
--- what is found of the names that a journal gives
-pub record Finds (found told : Names) : Type 0 where
-  pub within : Within found told
-
 -- the journal has these bytes, and the names are those that a recovery finds by them
 pub record FindsNames {R : Type 0} (j : Journaled R) (keeps : Keeps) (names : Names) : Type 0 where
   pub journal : List ℕ
@@ -52,3 +51,9 @@ pub record FindsKept {R : Type 0} (j : Journaled R) (kept : Selections) (keeps :
 -- whatever names are found after a crash that kept these rows, the journal before it gives them
 abbrev pub CrashKeeps : {R : Type 0} → Journaled R → Selections → Journaled R → Type 0
 CrashKeeps j kept j' = (keeps : Keeps) (names : Names) → FindsNames j' keeps names → FindsKept j kept keeps names
+
+-- by every profile the journal gives the names that calls see
+pub record GivesNames {R : Type 0} (j : Journaled R) : Type 0 where
+  pub journal : List ℕ
+  pub is : IsJournal (store_of j) (generation_of j) journal
+  pub gives : Gives journal (names_in j)

@@ -1,10 +1,14 @@
 -- The names that calls see, and what calls leave of them.
-use Rattle.std.specs.Prelude.{◌≡◌}
+use Rattle.std.specs.Prelude.{◌≡◌, ℕ, ◌+◌, ◌*◌, List, false}
 use Rattle.blob_faulty.specs.Lends.{with_rng}
-use Rattle.blob_faulty.specs.Wrapper.{rng_of}
+use Rattle.blob_faulty.specs.Wrapper.{inside, rng_of}
+use Rattle.blob_memory.specs.Store.{live}
+use Rattle.blob_model.specs.Bytes.{write_live}
 use Rattle.blob_directory.specs.declared.table.Table.{Table}
 use Rattle.blob_directory.specs.Names.{Edit, Names, Same, edited}
+use Rattle.blob_directory.specs.Sectors.{sector_of}
 use Rattle.blob_directory.specs.Tables.{bound}
+use Rattle.blob_journal.specs.declared.journal.Journal.{Journal}
 use Rattle.blob_journal.specs.declared.journaled.Journaled.{Journaled}
 
 -- the table of the names that calls see
@@ -34,3 +38,15 @@ SameBindings j j' = Same (names_in j) (names_in j')
 -- the names are those of before with this edit
 abbrev pub Edits : {R : Type 0} → Edit → Journaled R → Journaled R → Type 0
 Edits edit j j' = Same (names_in j') (edited (names_in j) edit)
+
+-- the bytes of a journal, as calls see them
+abbrev pub bytes_in : Journal → List ℕ
+bytes_in journal = live (inside journal.blob)
+
+-- the same after one write of one more sector, which has this edit whole
+abbrev pub with_sector : Journal → Edit → List ℕ
+with_sector journal edit = write_live (bytes_in journal) (journal.sectors * 1024) (sector_of edit false)
+
+-- the journal has one more sector, of this edit
+abbrev pub AddsSector : {R : Type 0} → Edit → Journaled R → Journaled R → Type 0
+AddsSector edit j j' = (bytes_in j'.journal ≡ with_sector j.journal edit) × (j'.journal.sectors ≡ j.journal.sectors + 1)

@@ -37,7 +37,7 @@ fn settle_marked<R: Rng>(
 }
 
 impl<R: Rng + Drop> Journaled<R> {
-    ghost use Rattle.blob_journal.specs.Keeping.{Edits, KeepsTable, SameBindings, generator_in, names_in, table_in, with_generator};
+    ghost use Rattle.blob_journal.specs.Keeping.{AddsSector, Edits, KeepsTable, SameBindings, generator_in, names_in, table_in, with_generator};
 
     /// Returns no names over a new store, with faults drawn from the generator.
     ///
@@ -113,6 +113,7 @@ impl<R: Rng + Drop> Journaled<R> {
     /// `Memory`, `GenerationsExhausted`, `OffsetOverflow` if no sector is left. No name has changed.
     pub fn make(&mut self, edit: Edit, about: About, rate: Probability) -> Result<(), Error>
         ensures made { OnOk result (Edits (edit_of edit) self.old self.new) }
+        ensures sector { OnOk result (AddsSector (edit_of edit) self.old self.new) }
         ensures refused { OnErr result (SameBindings self.old self.new) }
     {
         self.names.prepare(&edit)?;

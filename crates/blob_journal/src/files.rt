@@ -17,6 +17,7 @@ impl FileBlob {
 }
 
 impl<R: Rng + Drop> Journaled<R> {
+    ghost use Rattle.blob_journal.specs.Journals.{GivesNames};
     ghost use Rattle.blob_journal.specs.Keeping.{KeepsTable};
 
     /// Opens the blob of a file's number. A missing one is created, empty.
@@ -55,7 +56,8 @@ impl<R: Rng + Drop> Journaled<R> {
     ///
     /// Those of the layer's removal. Nothing has changed.
     pub fn remove_file(&mut self, inode: u64) -> Result<(), Error>
-        ensures { KeepsTable self.old self.new }
+        ensures names { KeepsTable self.old self.new }
+        ensures gives { GivesNames self.old → GivesNames self.new }
     {
         remove(&mut self.store, FILES, &inode.to_be_bytes())
     }

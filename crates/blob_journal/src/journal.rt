@@ -1,11 +1,13 @@
 //! The journal: a blob with one edit in each sector.
-ghost use Rattle.std.specs.Prelude.{◌≡◌, Some, true, codes, IfOk};
+ghost use Rattle.std.specs.Prelude.{◌≡◌, ◌+◌, Some, true, codes, IfOk, OnOk};
 ghost use Rattle.std.specs.Int.{w64, to_be_bytes};
 ghost use Rattle.blob_model.specs.Directory.{current, is_current};
 ghost use Rattle.blob_model.specs.Places.{Place};
+ghost use Rattle.blob_directory.specs.Names.{edit_of};
 ghost use Rattle.blob_memory.specs.Store.{directory, durable, place};
 ghost use Rattle.blob_faulty.specs.Wrapper.{inner_of, inside};
-ghost use Rattle.blob_journal.specs.Currents.{KeepsCurrent, SameDirectory};
+ghost use Rattle.blob_journal.specs.Currents.{BeginsAs, KeepsCurrent, SameDirectory};
+ghost use Rattle.blob_journal.specs.Keeping.{bytes_in, with_sector};
 
 use crate::store::{Handle, JOURNALS, Store, open, read_all};
 use blob_base::{Blob, Error, Probability, SectorSize, WriteOptions};
@@ -51,6 +53,7 @@ impl Journal {
         ensures generation { IfOk result (λ r. r.0.generation ≡ generation) }
         ensures current { IfOk result (λ r. is_current (directory (inner_of store.new)) (place (inside r.0.blob)) ≡ true) }
         ensures found { IfOk result (λ r. (o : Place) → current (directory (inner_of store.old)) (codes "j") (to_be_bytes w64 generation) ≡ Some o → durable (inner_of store.old) o ≡ Some r.1.items) }
+        ensures durable { IfOk result (λ r. durable (inner_of store.new) (place (inside r.0.blob)) ≡ Some r.1.items) }
         ensures kept { KeepsCurrent store.old store.new }
     {
         let (blob, size) = open(store, JOURNALS, &generation.to_be_bytes())?;
@@ -79,6 +82,9 @@ impl Journal {
         ensures place { place (inside self.new.blob) ≡ place (inside self.old.blob) }
         ensures generation { self.new.generation ≡ self.old.generation }
         ensures directory { SameDirectory store.old store.new }
+        ensures bytes { OnOk result (bytes_in self.new ≡ with_sector self.old (edit_of edit.now)) }
+        ensures sectors { OnOk result (self.new.sectors ≡ self.old.sectors + 1) }
+        ensures sector { IfOk result (λ sector. sector ≡ self.old.sectors) }
     {
         let sector = self.sectors;
         let Some(offset) = sector.checked_mul(SECTOR as u64) else {
@@ -120,11 +126,12 @@ impl Journal {
             .write_from(store, offset, &bytes, WriteOptions::SYNC)
     }
 
-    /// Makes these bytes those of the journal, durably. `Memory` is the only error of a wrapper that draws nothing.
+    /// Makes these bytes those of the journal, durably. It must be empty. `Memory` is the only error of a wrapper that draws nothing.
     pub(crate) fn begin<R: Rng>(&mut self, store: &mut Store<R>, bytes: &[u8]) -> Result<(), Error>
         ensures place { place (inside self.new.blob) ≡ place (inside self.old.blob) }
         ensures generation { self.new.generation ≡ self.old.generation }
         ensures directory { SameDirectory store.old store.new }
+        ensures bytes { OnOk result (BeginsAs (place (inside self.old.blob)) bytes.now store.old store.new) }
     {
         self.blob.write_from(store, 0, bytes, WriteOptions::SYNC)?;
         self.sectors = bytes.len() as u64 / SECTOR as u64;

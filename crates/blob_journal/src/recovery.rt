@@ -1,35 +1,22 @@
 //! The recovery: names from the journal, and a new journal.
 ghost use Rattle.std.specs.Prelude.{◌≡◌, IfOk, OnOk, OnErr};
+ghost use Rattle.blob_directory.specs.Checkpoints.{FitsJournal};
 ghost use Rattle.blob_directory.specs.Tables.{bound};
 
 use crate::journal::Journal;
 use crate::journaled::Journaled;
 use crate::store::{JOURNALS, remove};
 use blob_base::Error;
-use blob_directory::edit::{Edit, entry_of};
+use blob_directory::checkpoint::checkpoint;
 use blob_directory::profile::Keeps;
-use blob_directory::sector::encode;
 use blob_directory::tree::{Tree, kept_names, reached};
 use blob_faulty::Config;
 use rand_core::Rng;
-use std::alloc::{AllocError, Global};
+use std::alloc::AllocError;
 use std::collections::BTreeMap;
 
-/// Returns the bytes of a journal that settles the names of a tree. Fails only if memory runs out.
-fn checkpoint(alloc: Global, tree: &Tree) -> Result<Vec<u8>, AllocError> {
-    let mut bytes = Vec::new(alloc);
-    for (directory, _) in &tree.directories {
-        for (name, to) in &tree.names.names_in(*directory)? {
-            let entry = entry_of(alloc, *directory, name)?;
-            let sector = encode(alloc, &Edit::one(entry, Some(*to)), true)?;
-            bytes.extend_from_slice(&sector)?;
-        }
-    }
-    Ok(bytes)
-}
-
 impl<R: Rng + Drop> Journaled<R> {
-    ghost use Rattle.blob_journal.specs.Journals.{FindsNames};
+    ghost use Rattle.blob_journal.specs.Journals.{FindsNames, GivesNames};
     ghost use Rattle.blob_journal.specs.Keeping.{KeepsTable, table_in};
 
     /// Returns the names that the journal gives and the root reaches, and of each edit that nothing settled whether the
@@ -40,6 +27,7 @@ impl<R: Rng + Drop> Journaled<R> {
     /// `Memory`.
     pub fn find_names(&mut self, keeps: Keeps) -> Result<(Tree, Vec<bool>), Error>
         ensures found { IfOk result (λ r. FindsNames self.old keeps (bound r.0.names)) }
+        ensures fits { IfOk result (λ r. FitsJournal r.0) }
         ensures names { KeepsTable self.old self.new }
     {
         self.store.set_config(Config::default());
@@ -47,7 +35,7 @@ impl<R: Rng + Drop> Journaled<R> {
         let (_, bytes) = Journal::open(self.alloc, &mut self.store, generation)?;
         let (names, kept) = kept_names(self.alloc, &bytes, keeps)?;
         let edits = self.kept_edits(&kept)?;
-        let tree = reached(self.alloc, &names, u64::MAX)?;
+        let tree = reached(self.alloc, &names)?;
         Ok((tree, edits))
     }
 
@@ -65,9 +53,11 @@ impl<R: Rng + Drop> Journaled<R> {
     ///
     /// # Errors
     ///
-    /// `Memory`, `OffsetOverflow` if no generation is left. Calls see the names of before, and the old journal is there.
+    /// `Memory`; `OffsetOverflow` if no generation is left, or the journal of the next one isn't empty, which no recovery
+    /// leaves. Calls see the names of before, and the old journal is there.
     pub fn renew(&mut self, tree: Tree) -> Result<BTreeMap<u64, u64>, Error>
         ensures done { OnOk result (table_in self.new ≡ tree.names) }
+        ensures gives { OnOk result (FitsJournal tree → GivesNames self.new) }
         ensures refused { OnErr result (KeepsTable self.old self.new) }
     {
         let old = self.journal.generation;
@@ -75,7 +65,10 @@ impl<R: Rng + Drop> Journaled<R> {
             return Err(Error::OffsetOverflow);
         };
         let bytes = checkpoint(self.alloc, &tree)?;
-        let (mut journal, _) = Journal::open(self.alloc, &mut self.store, generation)?;
+        let (mut journal, found) = Journal::open(self.alloc, &mut self.store, generation)?;
+        if !found.is_empty() {
+            return Err(Error::OffsetOverflow);
+        }
         journal.begin(&mut self.store, &bytes)?;
         let Tree {
             names,

@@ -4,7 +4,7 @@ ghost use Rattle.blob_model.specs.Directory.{current, is_current};
 ghost use Rattle.blob_model.specs.Places.{Place};
 ghost use Rattle.blob_memory.specs.Store.{directory, durable, live, place};
 ghost use Rattle.blob_faulty.specs.Wrapper.{inner_of, inside};
-ghost use Rattle.blob_journal.specs.Currents.{KeepsCurrent, KeepsOthers};
+ghost use Rattle.blob_journal.specs.Currents.{KeepsBytes, KeepsCurrent, KeepsOthers};
 
 use blob_base::laws::opens::accepted_opens;
 use blob_base::{Blob, Error, Storage};
@@ -33,6 +33,7 @@ pub(crate) fn open<R: Rng>(
     ensures name { IfOk result (λ r. (place (inside r.0)).name ≡ name.now) }
     ensures current { IfOk result (λ r. is_current (directory (inner_of store.new)) (place (inside r.0)) ≡ true) }
     ensures found { IfOk result (λ r. (o : Place) → current (directory (inner_of store.old)) partition.now name.now ≡ Some o → durable (inner_of store.old) o ≡ Some (live (inside r.0))) }
+    ensures durable { IfOk result (λ r. durable (inner_of store.new) (place (inside r.0)) ≡ Some (live (inside r.0))) }
     ensures size { IfOk result (λ r. r.1 ≡ length (live (inside r.0))) }
     ensures kept { KeepsCurrent store.old store.new }
 {
@@ -61,7 +62,8 @@ pub(crate) fn remove<R: Rng>(
     partition: &str,
     name: &[u8],
 ) -> Result<(), Error>
-    ensures { KeepsOthers partition.now name.now store.old store.new }
+    ensures current { KeepsOthers partition.now name.now store.old store.new }
+    ensures bytes { KeepsBytes partition.now name.now store.old store.new }
 {
     store.remove(partition, Some(name))?;
     Ok(())

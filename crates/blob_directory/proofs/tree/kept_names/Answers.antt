@@ -1,8 +1,10 @@
-use Rattle.std.proofs.Common.{◌≡◌, ◌+◌, ◌-◌, ◌/◌, suc, length, not, ◌||◌, ◌&&◌, arith, ap, ◌∙◌}
-use Rattle.blob_directory.specs.Names.{Same}
-use Rattle.blob_directory.specs.Profiles.{counts, is_prefix, names_told, with_found}
+use Rattle.std.proofs.Common.{◌≡◌, ◌+◌, ◌-◌, ◌/◌, ◌<◌, suc, length, not, ◌||◌, ◌&&◌, arith, ap, sym, ◌∙◌}
+use Rattle.std.proofs.lemmas.List.Elements.{All-from_get_or}
+use Rattle.blob_directory.specs.Names.{Same, all_edited}
+use Rattle.blob_directory.specs.Profiles.{counts, found_in_all, is_prefix, kept_edits, names_told, with_found}
 use Rattle.blob_directory.specs.Sectors.{found_in}
 use Rattle.blob_directory.specs.Tables.{bound}
+use Rattle.blob_directory.proofs.Fitting.{told_fits}
 use Rattle.blob_directory.proofs.Journals.{one_sector}
 use Rattle.blob_directory.proofs.tree.kept_names.Goals as goal
 
@@ -22,3 +24,12 @@ loop-i-preserved c =
           (end - c.loop-i.i) (end - (c.loop-i.i + 1)) c.loop-i.left.now sector c.split_at.result.1.now (names_told c.args.keeps c.args.bytes.now)
           one_less c.split_at.ensures.front c.split_at.ensures.back same next c.loop-i.invariant.names;
     }
+
+pub returns-clause-sectors : goal.returns-clause-sectors
+returns-clause-sectors c =
+    let bytes = c.args.bytes.now in
+    let left = c.loop-i.left.now in
+    let none : length bytes / 1024 - c.loop-i.i ≡ 0 = omega arith in
+    let names : Same (bound c.loop-i.names) (names_told c.args.keeps bytes) =
+    λ e. ap (λ n. all_edited (bound c.loop-i.names) (kept_edits c.args.keeps c.loop-i.is_lost (found_in_all n left)) e) (sym none) ∙ c.loop-i.invariant.names e in
+    λ e to h. told_fits c.args.keeps bytes (All-from_get_or (λ b. b < 256) bytes 0 (λ i l. (c.type_inv.bytes i).fits)) e to (sym (names e) ∙ h)

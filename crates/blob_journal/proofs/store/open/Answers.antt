@@ -1,4 +1,4 @@
-use Rattle.std.proofs.Common.{◌≡◌, ap, ◌∙◌}
+use Rattle.std.proofs.Common.{ap, ◌∙◌}
 use Rattle.blob_model.specs.Directory.{Directory, is_current}
 use Rattle.blob_memory.specs.Store.{directory, place}
 use Rattle.blob_faulty.specs.Wrapper.{inner_of, inside}
@@ -16,3 +16,6 @@ returns-clause-found g c = λ o is. (c.accepted_opens.ensures.goes_on _ _ _ _ _ 
 
 pub returns-clause-kept : goal.returns-clause-kept
 returns-clause-kept g c = λ o h. opened_keeps _ _ _ _ _ _ _ _ _ _ _ c.in_ok-blob.ensures.opened o h
+
+pub returns-clause-durable : goal.returns-clause-durable
+returns-clause-durable g c = c.accepted_opens.ensures.durable _ _ _ _ _ _ _ _ _ _ _ c.in_ok-blob.ensures.opened

@@ -1,25 +1,106 @@
-use Rattle.std.proofs.Common.{◌≡◌, List, ℕ, [], ◌∷◌, ◌++◌, Some, Vec, Global, sym, ap, subst, ◌∙◌}
+use Rattle.std.proofs.Common.{◌≡◌, List, ℕ, [], ◌∷◌, ◌++◌, Some, None, Vec, Global, sym, ap, subst, ◌∙◌, inl, inr, ⊎_elim}
 use Rattle.std.specs.Int.{w64, to_be_bytes}
 use Rattle.std.specs.List.{All}
-use Rattle.std.proofs.lemmas.List.Elements.{All-push}
+use Rattle.std.specs.Map.Iter.{deref_pair}
+use Rattle.std.proofs.lemmas.List.Elements.{All-nil, All-same, All-push}
+use Rattle.std.proofs.lemmas.Map.Iter.{rest_all, rest_more}
 use Rattle.blob_directory.specs.declared.edit.Binding.{Binding}
 use Rattle.blob_directory.specs.Names.{entry}
 use Rattle.blob_directory.specs.Tables.{bound}
+use Rattle.blob_directory.proofs.Ranges.{Among, Cell, among_bound, name_kept, name_new, none_behind, not_prefixed, range_of, rest_ascends, rest_begins, same_rest}
 use Rattle.blob_directory.proofs.Withins.{prefixed}
+use Rattle.blob_directory.proofs.table.Table.names_in.Goals.{in-None, in-Some+in_default}
 use Rattle.blob_directory.proofs.table.Table.names_in.Goals as goal
+
+pub loop-entry-init : goal.loop-entry-init
+loop-entry-init c =
+    let table = c.args.self.now in
+    let start : List ℕ = to_be_bytes w64 c.args.directory in
+    let cells : List Cell = c.into_iter-entry-iterator.result in
+    let range = range_of start c.in_ok-from_slice.field-0 table.entries.entries cells (c.in_ok-from_slice.ensures.items ∙ c.to_be_bytes-start.ensures)
+    (c.into_iter-entry-iterator.ensures.into_iter_gives ∙ c.range-entry-items.ensures.between tt) c.range-entry-items.ensures.ordered in
+    let P = λ (n : Vec ℕ Global × Binding). bound table (entry c.args.directory n.0.items) ≡ Some n.1 in
+    record {
+      told = All-same P c.new-names.result.items [] c.new-names.ensures.items (All-nil P);
+      ascends = range.ascends;
+      begins = range.begins;
+      all = λ name to h. inr (range.all name (Some to) (among_bound (start ++ name) to table h));
+    }
 
 pub loop-entry-preserved-in_ok-push : goal.loop-entry-preserved-in_ok-push
 loop-entry-preserved-in_ok-push c =
     let table = c.args.self.now in
-    let start : List ℕ = c.to_be_bytes-start.result in
+    let start : List ℕ = to_be_bytes w64 c.args.directory in
+    let now : List Cell = c.loop-entry.entry-iterator in
+    let left : List Cell = c.next.new.self in
+    let at : Cell = (c.in-Some.entry.now, c.in-Some.field-0-1.now) in
+    let more : now ≡ at ∷ left = rest_more deref_pair now left c.next.result (c.in-Some.entry, c.in-Some.field-0-1) c.in-Some.is c.next.ensures.steps in
     let key : List ℕ = c.deref.result.now in
     let name : Vec ℕ Global = c.in_ok-from_slice-2.field-0 in
     let to : Binding = c.in-Some-get.binding in
-    let cut : start ++ c.in-Some-strip_prefix.name.now ≡ key =
-    prefixed start key c.in-Some-strip_prefix.name.now c.in-Some-strip_prefix.ensures.cases.0 c.in-Some-strip_prefix.ensures.cases.1 in
-    let same_key : key ≡ c.deref-in-loop-entry.result.now = c.deref.ensures.value ∙ sym c.deref-in-loop-entry.ensures.value in
-    let there : bound table (to_be_bytes w64 c.args.directory ++ name.items) ≡ Some to =
-    ap (λ l. bound table (l ++ name.items)) (sym c.to_be_bytes-start.ensures) ∙ ap (λ l. bound table (start ++ l)) c.in_ok-from_slice-2.ensures.items ∙ ap (bound table) (cut ∙ same_key) ∙ sym c.get.ensures ∙ c.in-Some-get.is in
-    let pushed : c.push.new.self.items ≡ c.loop-entry.names.items ++ (name, to) ∷ [] = c.in_ok-push.ensures.items in
+    let cut : c.to_be_bytes-start.result ++ c.in-Some-strip_prefix.name.now ≡ key =
+    prefixed c.to_be_bytes-start.result key c.in-Some-strip_prefix.name.now c.in-Some-strip_prefix.ensures.cases.0 c.in-Some-strip_prefix.ensures.cases.1 in
+    let whole : start ++ name.items ≡ c.in-Some.entry.now.items =
+    ap (λ l. l ++ name.items) (sym c.to_be_bytes-start.ensures) ∙ ap (λ l. c.to_be_bytes-start.result ++ l) c.in_ok-from_slice-2.ensures.items ∙ cut ∙ c.deref.ensures.value in
+    let there : bound table (start ++ name.items) ≡ Some to = ap (bound table) (whole ∙ sym c.deref-in-loop-entry.ensures.value) ∙ sym c.get.ensures ∙ c.in-Some-get.is in
+    let names = c.loop-entry.names.items in
+    let pushed : c.push.new.self.items ≡ names ++ (name, to) ∷ [] = c.in_ok-push.ensures.items in
     let P = λ (n : Vec ℕ Global × Binding). bound table (entry c.args.directory n.0.items) ≡ Some n.1 in
-    subst (All P) (sym pushed) (All-push P c.loop-entry.names.items (name, to) c.loop-entry.invariant there)
+    record {
+      told = subst (All P) (sym pushed) (All-push P names (name, to) c.loop-entry.invariant.told there);
+      ascends = rest_ascends now left at more c.loop-entry.invariant.ascends;
+      begins = rest_begins start now left at more c.loop-entry.invariant.begins;
+      all = λ n t h. ⊎_elim
+          (λ listed. inl (name_kept names c.push.new.self.items (name, to) n t pushed listed))
+          (λ among. ⊎_elim
+          (λ here.
+          let same : start ++ name.items ≡ start ++ n = whole ∙ here.0 in
+          let both : Some to ≡ Some t = sym there ∙ ap (bound table) same ∙ h in
+          let one : to ≡ t = cc in
+          inl (name_new names c.push.new.self.items (name, to) n t pushed (same_rest start name.items n same) one))
+          (λ behind. inr behind)
+          (subst (λ l. Among l (start ++ n) (Some t)) more among))
+          (c.loop-entry.invariant.all n t h);
+    }
+
+pub loop-entry-preserved : goal.loop-entry-preserved
+loop-entry-preserved c =
+    let table = c.args.self.now in
+    let start : List ℕ = to_be_bytes w64 c.args.directory in
+    let now : List Cell = c.loop-entry.entry-iterator in
+    let left : List Cell = c.next.new.self in
+    let at : Cell = (c.in-Some.entry.now, c.in-Some.field-0-1.now) in
+    let more : now ≡ at ∷ left = rest_more deref_pair now left c.next.result (c.in-Some.entry, c.in-Some.field-0-1) c.in-Some.is c.next.ensures.steps in
+    record {
+      told = c.loop-entry.invariant.told;
+      ascends = rest_ascends now left at more c.loop-entry.invariant.ascends;
+      begins = rest_begins start now left at more c.loop-entry.invariant.begins;
+      all = λ n t h. ⊎_elim
+          (λ listed. inl listed)
+          (λ among. ⊎_elim
+          (λ here.
+          let free : None ≡ Some t = c.in_default-get.ensures ∙ ap (bound table) (c.deref-in-loop-entry.ensures.value ∙ here.0) ∙ h in
+          absurd (cc))
+          (λ behind. inr behind)
+          (subst (λ l. Among l (start ++ n) (Some t)) more among))
+          (c.loop-entry.invariant.all n t h);
+    }
+
+pub returns-clause-all : goal.returns-clause-all
+returns-clause-all c =
+    let start : List ℕ = to_be_bytes w64 c.args.directory in
+    let now : List Cell = c.loop-entry.entry-iterator in
+    let left : List Cell = c.next.new.self in
+    λ name to h.
+    ⊎_elim
+    (λ listed. listed)
+    (λ among. elim c.match-next.branch [
+      | in-None w ↦ absurd (subst (λ (l : List Cell). Among l (start ++ name) (Some to)) (rest_all deref_pair now left c.next.result w.in-None.is c.next.ensures.steps) among)
+      | in-Some+in_default w ↦
+          let at : Cell = (w.in-Some.entry.now, w.in-Some.field-0-1.now) in
+          let more : now ≡ at ∷ left = rest_more deref_pair now left c.next.result (w.in-Some.entry, w.in-Some.field-0-1) w.in-Some.is c.next.ensures.steps in
+          absurd (none_behind start now left at name (Some to) more c.loop-entry.invariant.ascends c.loop-entry.invariant.begins
+          (λ rest is. not_prefixed c.to_be_bytes-start.result w.deref.result.now w.in_default.ensures.cases rest (w.deref.ensures.value ∙ is ∙ ap (λ l. l ++ rest) (sym c.to_be_bytes-start.ensures)))
+          among)
+    ])
+    (c.loop-entry.invariant.all name to h)

@@ -1,8 +1,17 @@
-use Rattle.std.proofs.Common.{◌≡◌, Some}
+use Rattle.std.proofs.Common.{◌≡◌, ◌⊎◌, ℕ, List, Some}
+use Rattle.std.specs.Int.{w64, to_be_bytes}
 use Rattle.std.specs.List.{All}
+use Rattle.blob_directory.specs.declared.edit.Binding.{Binding}
 use Rattle.blob_directory.specs.Names.{entry}
-use Rattle.blob_directory.specs.Tables.{bound}
+use Rattle.blob_directory.specs.Tables.{HasName, bound}
+use Rattle.blob_directory.proofs.Ranges.{Among, Ascends, IsFrom}
 use Rattle.blob_directory.proofs.table.Table.names_in.Given as goal
 
+-- a name of the directory is in the list, or is left to visit
 abbrev pub invariant-loop-entry : goal.invariant-loop-entry
-invariant-loop-entry l = All (λ n. bound l.self (entry l.directory n.0.items) ≡ Some n.1) l.names.items
+invariant-loop-entry l = record {
+  told : All (λ n. bound l.self (entry l.directory n.0.items) ≡ Some n.1) l.names.items;
+  ascends : Ascends l.entry-iterator;
+  begins : IsFrom (to_be_bytes w64 l.directory) l.entry-iterator;
+  all : (name : List ℕ) (to : Binding) → bound l.self (entry l.directory name) ≡ Some to → HasName l.names.items name to ⊎ Among l.entry-iterator (entry l.directory name) (Some to);
+}

@@ -7,5 +7,8 @@ use Rattle.blob_fs.proofs.file_system.FileSystem.recover.Goals as goal
 
 pub returns-clause-found : goal.returns-clause-found
 returns-clause-found g c =
-    let taken : table_of c.begin_life.new.self ≡ c.in_ok-tree.tree.names = c.begin_life.ensures ∙ c.in_ok-directories.ensures.done in
+    let taken : table_of c.begin_life.new.self ≡ c.in_ok-tree.tree.names = c.begin_life.ensures.names ∙ c.in_ok-directories.ensures.done in
     subst (λ (t : Table). FindsNames c.args.self.now.store (keeps_of c.args.self.now) (bound t)) (sym taken) c.in_ok-tree.ensures.found
+
+pub returns-clause-gives : goal.returns-clause-gives
+returns-clause-gives g c = c.begin_life.ensures.gives (c.in_ok-directories.ensures.gives c.in_ok-tree.ensures.fits)

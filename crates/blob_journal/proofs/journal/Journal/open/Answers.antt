@@ -1,7 +1,7 @@
-use Rattle.std.proofs.Common.{◌≡◌, ℕ, List, Some, ap, sym, ◌∙◌}
+use Rattle.std.proofs.Common.{ℕ, List, Some, ap, sym, ◌∙◌}
 use Rattle.std.specs.Prelude.{codes}
 use Rattle.blob_model.specs.Directory.{current, is_current}
-use Rattle.blob_memory.specs.Store.{directory, place}
+use Rattle.blob_memory.specs.Store.{directory, durable, place}
 use Rattle.blob_memory.specs.declared.storage.Storage as memory
 use Rattle.blob_faulty.specs.Wrapper.{inner_of, inside}
 use Rattle.blob_journal.proofs.journal.Journal.open.Goals as goal
@@ -19,3 +19,9 @@ returns-clause-found g c = λ o is. c.in_ok-blob.ensures.found o (ap (λ (n : Li
 
 pub returns-clause-kept : goal.returns-clause-kept
 returns-clause-kept g c = λ o h. ap (λ (s : memory.Storage). is_current (directory s) o) c.read_all.ensures.inner ∙ c.open.ensures.kept o h
+
+pub returns-clause-durable : goal.returns-clause-durable
+returns-clause-durable g c =
+    ap (λ (s : memory.Storage). durable s (place (inside c.in_ok-blob.blob))) c.read_all.ensures.inner
+    ∙ c.in_ok-blob.ensures.durable
+    ∙ ap Some (sym (c.in_ok-bytes.ensures.bytes c.in_ok-blob.ensures.size))

@@ -1,7 +1,7 @@
-use Rattle.std.proofs.Common.{◌≡◌, List, ℕ, Some, ap, ap₂, sym, ◌∙◌}
+use Rattle.std.proofs.Common.{◌≡◌, List, ℕ, Some, ap, ap₂, refl, sym, ◌∙◌}
 use Rattle.std.specs.Prelude.{codes}
 use Rattle.std.specs.Int.{w64, to_be_bytes}
-use Rattle.blob_model.specs.Directory.{Directory, current}
+use Rattle.blob_model.specs.Directory.{current}
 use Rattle.blob_model.specs.Places.{Place}
 use Rattle.blob_memory.specs.Store.{directory, durable, place}
 use Rattle.blob_memory.specs.declared.storage.Storage as memory
@@ -10,7 +10,6 @@ use Rattle.blob_faulty.specs.Wrapper.{inner_of, inside}
 use Rattle.blob_directory.specs.Names.{Same}
 use Rattle.blob_directory.specs.Profiles.{names_told}
 use Rattle.blob_directory.specs.Tables.{bound}
-use Rattle.blob_directory.specs.declared.table.Table.{Table}
 use Rattle.blob_journal.proofs.Currents.{current_of_name}
 use Rattle.blob_journal.proofs.journaled.Journaled.find_names.Goals as goal
 
@@ -24,10 +23,18 @@ returns-clause-found g c =
     let inner : inner_of c.set_config.new.self ≡ inner_of self.store = ap (λ (s : OverMemory g.row.R.Denot). inner_of s) c.set_config.ensures.set in
     let found : durable (inner_of c.set_config.new.self) at ≡ Some c.in_ok-bytes.bytes.items =
     c.in_ok-bytes.ensures.found at (ap (λ (s : memory.Storage). current (directory s) (codes "j") name) inner ∙ here) in
-    let told : Same (bound c.in_ok-names.names) (names_told c.args.keeps c.deref.result.now) = c.in_ok-names.ensures in
+    let told : Same (bound c.in_ok-names.names) (names_told c.args.keeps c.deref.result.now) = c.in_ok-names.ensures.names in
     let same : Same (bound c.in_ok-names.names) (names_told c.args.keeps c.in_ok-bytes.bytes.items) = λ e. told e ∙ ap (λ l. names_told c.args.keeps l e) c.deref.ensures.value in
     record {
       journal = c.in_ok-bytes.bytes.items;
       is = record { place = at; current = here; durable = sym (ap (λ (s : memory.Storage). durable s at) inner) ∙ found };
-      finds = record { within = c.in_ok-tree.ensures (names_told c.args.keeps c.in_ok-bytes.bytes.items) same };
+      finds = c.in_ok-tree.ensures.finds (names_told c.args.keeps c.in_ok-bytes.bytes.items) same;
+    }
+
+pub returns-clause-fits : goal.returns-clause-fits
+returns-clause-fits g c =
+    let found = c.in_ok-tree.ensures.finds (bound c.in_ok-names.names) (λ e. refl) in
+    record {
+      places = c.in_ok-tree.ensures.places;
+      sectors = λ e to h. c.in_ok-names.ensures.sectors e to (found.within e to h).0;
     }

@@ -1,0 +1,31 @@
+use Rattle.std.proofs.Common.{◌≡◌, ◌&&◌, List, ℕ, true, false, ap, ap₂, sym, ◌∙◌}
+use Rattle.std.specs.Prelude.{codes}
+use Rattle.std.specs.Int.{w64, to_be_bytes}
+use Rattle.std.specs.Str.{bytes_eq}
+use Rattle.blob_model.specs.Directory.{current, is_current}
+use Rattle.blob_model.specs.Places.{Place}
+use Rattle.blob_memory.specs.Store.{directory}
+use Rattle.blob_faulty.specs.Wrapper.{inner_of}
+use Rattle.blob_journal.proofs.Currents.{current_named, current_of_name, named_current}
+use Rattle.blob_journal.proofs.journaled.Journaled.remove_file.Goals as goal
+
+pub returns-clause-gives : goal.returns-clause-gives
+returns-clause-gives g c =
+    let self = c.args.self.now in
+    let name : List ℕ = to_be_bytes w64 self.journal.generation in
+    λ before.
+    let at : Place = before.is.place in
+    let is = current_named (directory (inner_of self.store)) (codes "j") name at before.is.current in
+    let other : (bytes_eq (codes "f") at.partition && bytes_eq c.to_be_bytes.result at.name) ≡ false =
+    ap (λ (q : List ℕ). bytes_eq (codes "f") q && bytes_eq c.to_be_bytes.result at.name) is.0 in
+    let there : is_current (directory (inner_of c.remove.new.store)) at ≡ true = c.remove.ensures.current at other
+    (named_current (directory (inner_of self.store)) (codes "j") name at before.is.current) in
+    record {
+      journal = before.journal;
+      is = record {
+        place = at;
+        current = ap₂ (λ (p n : List ℕ). current (directory (inner_of c.remove.new.store)) p n) (sym is.0) (sym is.1) ∙ current_of_name (directory (inner_of c.remove.new.store)) at there;
+        durable = c.remove.ensures.bytes at other ∙ before.is.durable;
+      };
+      gives = before.gives;
+    }
