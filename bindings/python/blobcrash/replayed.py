@@ -19,7 +19,7 @@ Content = Tuple[Tuple[Any, ...], ...]
 
 
 class NotMadeAgain(RuntimeError):
-    """A call of a script can't be made, for want of memory."""
+    """A call of a script ran out of memory."""
 
 
 class ReplayedStore:
