@@ -28,7 +28,7 @@ _blobcrash() {
         mountctl:mountctl) mapfile -t COMPREPLY < <(compgen -f -- "$word") ;;
         mountctl:profile) words='ext4 xfs btrfs posix' ;;
         mountctl:export) mapfile -t COMPREPLY < <(compgen -d -- "$word") ;;
-        mountctl:*) [ "$COMP_CWORD" -ne 3 ] || words='status settle config profile keep off on crash crash-after record export umount socket' ;;
+        mountctl:*) [ "$COMP_CWORD" -ne 3 ] || words='status settle config profile keep off on crash crash-after record note export umount socket' ;;
         crash_run:*)
             words='--seeds --first --jobs --prepare --from --start --work --check --stop-after --timeout --fault --out --profile --tear --keep --size
                 --allow-other --no-record --help'
