@@ -10,7 +10,7 @@ impl Storage {
 
     /// Makes a second store with the same files and the same next number. No later call on one store changes the other.
     ///
-    /// For a blob of more than 64 KB the two share each page that hasn't changed since a sync. Other pages, smaller blobs
+    /// For a blob of more than 16 KB the two share each page that hasn't changed since a sync. Other pages, smaller blobs
     /// and raw files are copied; reserved capacity isn't. The counts of shared pages aren't atomic, so a fork stays on its
     /// store's thread.
     ///

@@ -7,7 +7,7 @@ use Rattle.blob_pages.specs.declared.page.Page.TheVariants.{Owned, Shared}
 
 -- the size of a page in bytes, `PAGE` in the code
 abbrev pub page_size : ℕ
-page_size = 65536
+page_size = 16384
 
 -- the bytes of a page
 abbrev pub page_bytes : Page → List ℕ

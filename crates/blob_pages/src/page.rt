@@ -7,9 +7,9 @@ use std::rc::Rc;
 
 /// The size of a page in bytes.
 ///
-/// Sharing 64 MB counts 1024 pages. The first write to a shared page copies 64 KB. A file of at most 64 KB has no
+/// Sharing 64 MB counts 4096 pages. The first write to a shared page copies 16 KB. A file of at most 16 KB has no
 /// pages: it is one vector.
-pub const PAGE: usize = 65536;
+pub const PAGE: usize = 16384;
 
 /// A page that only this value has, or one that other values may share.
 #[derive(Drop)]
