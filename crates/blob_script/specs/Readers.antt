@@ -1,12 +1,15 @@
 -- What a reader of a script has read, and what one more line adds to it.
-use Rattle.std.specs.Prelude.{◌≡◌, ℕ, Bool, true, not, if◌then◌else◌, Option, Some, None, option_and_then, Result, IfOk, IfSome, IfNone}
+use Rattle.std.specs.Prelude.{◌≡◌, ◌⊎◌, ℕ, Bool, true, not, if◌then◌else◌, Option, Some, None, option_and_then, Result, IfOk, IfSome, IfNone}
 use Rattle.blob_draws.specs.declared.config.Config.{Config}
 use Rattle.blob_script.specs.declared.script.preamble.Preamble.{Preamble}
 use Rattle.blob_script.specs.declared.script.reader.Reader.{Reader}
+use Rattle.blob_script.specs.declared.script.setting.Setting.{Setting}
+use Rattle.blob_script.specs.Acts as acts
 use Rattle.blob_script.specs.Acts.{Act}
-use Rattle.blob_script.specs.Lines.{Said}
+use Rattle.blob_script.specs.Lines.{Said, Call, Configure}
 use Rattle.blob_script.specs.Preambles.{images_of, words_of}
 use Rattle.blob_script.specs.Scripts.{Script, with_call, with_said}
+use Rattle.blob_script.specs.Settings.{with_setting}
 use Rattle.blob_script.specs.Tokens.{is_empty}
 
 abbrev pub preamble_of : Reader → Preamble
@@ -51,6 +54,10 @@ pub record MakesNoCall (r : Reader) (said : Option Said) (r' : Reader) : Type 0 
   pub begun : has_begun r' ≡ has_begun r
   pub preamble : has_begun r ≡ true → preamble_of r' ≡ preamble_of r
   pub config : config_of r' ≡ config_of r
+
+-- with these settings it says this call, and leaves these
+abbrev pub SaysCall : Config → Option Said → Act → Config → Type 0
+SaysCall c said act d = ((said ≡ Some (Call act)) × (d ≡ c)) ⊎ ((setting : Setting) × (said ≡ Some (Configure setting)) × (d ≡ with_setting c setting) × (act ≡ acts.Configure d))
 
 -- it can't follow
 abbrev pub Refuses : Reader → Option Said → Type 0

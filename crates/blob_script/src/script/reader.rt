@@ -3,7 +3,8 @@ ghost use Rattle.std.specs.Prelude.{◌≡◌, ◌+◌, true, false, OnErr};
 ghost use Rattle.std.specs.Io.Iter.{u64_saturate};
 ghost use Rattle.blob_script.specs.Acts.{act_of};
 ghost use Rattle.blob_script.specs.Lines.{line_of, said_by};
-ghost use Rattle.blob_script.specs.Readers.{MakesCall, MakesNoCall, HasRead, IfCall, IfNoCall, IsSame, Refuses, config_of, has_begun, lines_read, preamble_of};
+ghost use Rattle.blob_script.specs.Readers.{MakesCall, MakesNoCall, HasRead, IfCall, IfNoCall, IsSame, Refuses, SaysCall};
+ghost use Rattle.blob_script.specs.Readers.{config_of, has_begun, lines_read, preamble_of};
 ghost use Rattle.blob_script.specs.Scripts.{no_script};
 ghost use Rattle.blob_script.specs.Settings.{with_setting};
 
@@ -84,12 +85,16 @@ impl Reader {
     /// - `BadCall` if it can't follow the lines before it: a line of the preamble after a call, or a second seed.
     /// - `NoMemory` if what it gives can't be allocated.
     ///
-    /// Nothing changes then.
+    /// Nothing changes then. After the preamble only a call changes the reader, and only its settings.
     pub fn take(&mut self, line: Line) -> Result<Option<Call>, RefusedLine>
         ensures call { IfCall result (λ call. MakesCall self.old (Some (said_by line)) (act_of call) self.new) }
         ensures none { IfNoCall result (MakesNoCall self.old (Some (said_by line)) self.new) }
         ensures bad { result ≡ Err RefusedLine.BadCall → Refuses self.old (Some (said_by line)) }
         ensures err { OnErr result (IsSame self.old self.new) }
+        ensures says { IfCall result (λ call. SaysCall self.old.config (Some (said_by line)) (act_of call) self.new.config) }
+        ensures after_call { IfCall result (λ _. self.new ≡ record self.old { config = self.new.config; has_begun = true }) }
+        ensures after_none { has_begun self.old ≡ true → IfNoCall result (self.new ≡ self.old) }
+        ensures after_err { has_begun self.old ≡ true → OnErr result (self.new ≡ self.old) }
         ensures number { lines_read self.new ≡ lines_read self.old }
     {
         match line {
@@ -121,6 +126,13 @@ impl Reader {
         Call::Configure(copy_of(&self.config))
     }
 
+    /// Ends the preamble: its lines are rejected from then on.
+    pub fn end_preamble(&mut self)
+        ensures { self.new ≡ record self.old { has_begun = true } }
+    {
+        self.has_begun = true;
+    }
+
     /// Takes the preamble, and ends it: its lines are rejected from then on.
     pub fn begin(&mut self) -> Preamble
         ensures preamble { result ≡ preamble_of self.old }
@@ -128,7 +140,7 @@ impl Reader {
         ensures config { config_of self.new ≡ config_of self.old }
         ensures number { lines_read self.new ≡ lines_read self.old }
     {
-        self.has_begun = true;
+        self.end_preamble();
         let alloc = *self.preamble.words.allocator();
         mem::replace(&mut self.preamble, Preamble::new(alloc))
     }
