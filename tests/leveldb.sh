@@ -46,6 +46,23 @@ else
     echo "leveldb.sh: the seeds of docs/LEVELDB.md are of LevelDB 1.23, and this is $version"
 fi
 
+# leaves MODE STATUS: makes every crash of one recorded run, and checks each state.
+leaves() {
+    expect "a record of $1" 0 "$crash" --record "$work/script" "$1"
+    # shellcheck disable=SC2016
+    expect "every crash of $1" "$2" tools/states --files --whole --jobs 2 --out "$work/failed" "$work/script" -- \
+        sh -c '"$0" --check "$STATE" "$ACKNOWLEDGED"' "$crash"
+    expect 'in all states' 0 grep -q ', all of them; ' "$work/out"
+    tail -n 1 "$work/out"
+}
+if has_python; then
+    leaves sync 0
+    leaves sync-posix-create-rename 0
+    leaves sync-posix 1
+else
+    skip 'there is no Python 3.8 or later'
+fi
+
 refuses '' 0 x '1 frob' '1 sync-frob' '--seed 1' '--seed x sync' '--jobs 0 1 sync'
 
 sanitize='-O1 -fsanitize=address,undefined -fno-sanitize-recover=all'

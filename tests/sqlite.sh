@@ -135,7 +135,7 @@ fi
 flags="-std=c11 -D_XOPEN_SOURCE=700 -Wall -Wextra -Werror -g -DSQLITE_CORE -Ibindings/c -Iadapters/common -Iadapters/sqlite"
 flags="$flags -Iadapters/sqlite/crash"
 vfs='adapters/sqlite/store.c adapters/sqlite/locks.c adapters/sqlite/memory.c adapters/sqlite/parameters.c adapters/sqlite/vfs.c'
-vfs="$vfs adapters/common/disk.c"
+vfs="$vfs adapters/common/disk.c adapters/common/record.c"
 driver='adapters/common/driver.c adapters/common/pool.c adapters/common/words.c'
 sanitize='-O1 -fsanitize=address,undefined -fno-sanitize-recover=all'
 # A refused allocation returns NULL, as without the sanitizer.
@@ -183,6 +183,18 @@ if [ -n "$python" ]; then
     fi
 else
     skip 'there is no Python whose sqlite3 loads extensions'
+fi
+
+# Every crash of one recorded commit.
+if has sqlite3 && has_python; then
+    for outcome in 'extra posix 0' 'full posix 1' 'extra ext4 0'; do
+        fails=${outcome##* }
+        # shellcheck disable=SC2086
+        check "every crash of a commit: $outcome" run "$fails" sh examples/sqlite_states.sh ${outcome% *}
+        check "fails in $fails states" grep -Eq "^[0-9]+ crashes, [0-9]+ outcomes, [0-9]+ states, all of them; $fails fail\$" "$work/out"
+    done
+else
+    skip "there is no SQLite's shell or no Python 3.8 or later"
 fi
 
 finish

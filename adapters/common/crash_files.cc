@@ -40,6 +40,7 @@ class LibraryDisk : public Disk {
         fprintf(stderr, "this is no setting: %s\n", setting.c_str());
         abort();
     }
+    void note(const std::string& text) override { disk_note(&disk_, text.c_str()); }
     void power_off_after(int64_t calls) override { disk_power_off_after(&disk_, calls); }
     bool is_off() const override { return !disk_.is_on; }
     uint64_t faults() const override { return disk_.faults; }
@@ -124,6 +125,11 @@ void CrashFiles::crash() {
 void CrashFiles::set(const std::string& setting) {
     Lock lock(mutex_);
     disk_->set(setting);
+}
+
+void CrashFiles::note(const std::string& text) {
+    Lock lock(mutex_);
+    disk_->note(text);
 }
 
 void CrashFiles::settle() {

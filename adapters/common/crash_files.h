@@ -23,6 +23,8 @@ class Disk {
     virtual std::vector<std::string> names(size_t count) = 0;
     // Makes a setting of a preamble. Ends the program if it is none.
     virtual void set(const std::string& setting) = 0;
+    // Adds a comment to the record, if there is one.
+    virtual void note(const std::string& text) = 0;
     virtual void power_off_after(int64_t calls) = 0;
     virtual bool is_off() const = 0;
     virtual uint64_t faults() const = 0;
@@ -48,6 +50,8 @@ class CrashFiles {
     // Crashes, clears the faults and turns the power on. Descriptors are stale.
     void crash();
     void set(const std::string& setting);
+    // Adds a comment to the record that BLOBCRASH_RECORD asks for.
+    void note(const std::string& text);
     // Makes everything durable.
     void settle();
     // Calls that failed by injection.

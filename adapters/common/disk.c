@@ -1,5 +1,7 @@
 #include "disk.h"
 
+#include "record.h"
+
 #include <stdarg.h>
 #include <stdio.h>
 #include <stdlib.h>
@@ -22,9 +24,23 @@ void disk_trace(const char *format, ...) {
     fputc('\n', stderr);
 }
 
+static void end_record(void) { record_end(); }
+
+/* Begins the record that the environment asks for. That of an earlier disk, if there is one, goes on. */
+static void begin_record(struct disk *disk, const char *preamble) {
+    const char *path = getenv("BLOBCRASH_RECORD");
+    if (!path || !record_notes || strcmp(record_state(), "off") != 0) return;
+    record_preamble(preamble ? preamble : "");
+    int error = record_begin(path);
+    if (error) fprintf(stderr, "there is no record %s: %s\n", path, strerror(error));
+    else disk->is_recorded = atexit(end_record) == 0;
+}
+
 uint32_t disk_start(struct disk *disk, const char *preamble) {
     struct blobcrash_script_ran ran = blobcrash_files_open(&disk->files, bytes_of(preamble), length_of(preamble));
     if (ran.status != BLOBCRASH_DONE) return ran.status;
+    disk->is_recorded = false;
+    begin_record(disk, preamble);
     disk->calls_left = -1;
     disk->is_on = true;
     disk->changes = disk->faults = 0;
@@ -32,12 +48,20 @@ uint32_t disk_start(struct disk *disk, const char *preamble) {
 }
 
 void disk_end(struct disk *disk) {
+    if (disk->is_recorded) record_end();
+    disk->is_recorded = false;
     blobcrash_files_close(&disk->files);
     disk->is_on = false;
 }
 
 uint32_t disk_set(struct disk *disk, const char *setting) {
-    return blobcrash_files_configure(&disk->files, bytes_of(setting), length_of(setting));
+    uint32_t status = blobcrash_files_configure(&disk->files, bytes_of(setting), length_of(setting));
+    if (disk->is_recorded && status == BLOBCRASH_DONE) record_setting(setting);
+    return status;
+}
+
+void disk_note(struct disk *disk, const char *text) {
+    if (disk->is_recorded) record_note(text);
 }
 
 void disk_power_off_after(struct disk *disk, int64_t calls) { disk->calls_left = calls < 0 ? -1 : calls; }
@@ -82,6 +106,7 @@ struct blobcrash_file_reply disk_apply(struct disk *disk, const struct blobcrash
     bool is_made = changes(call->kind) ? may_change(disk) : disk->is_on || call->kind == BLOBCRASH_F_CLOSE;
     if (!is_made) return reply;
     reply = blobcrash_files_apply(&disk->files, call, bytes_of(path), length_of(path), bytes_of(to), length_of(to));
+    if (disk->is_recorded) record_call(call, path, to, reply.status);
     noted(disk, reply.status);
     return reply;
 }
@@ -93,13 +118,16 @@ struct blobcrash_file_reply disk_call(struct disk *disk, uint32_t kind, uint64_t
 
 uint32_t disk_write(struct disk *disk, uint64_t descriptor, uint64_t offset, const void *bytes, size_t len) {
     if (!may_change(disk)) return DISK_OFF;
-    return noted(disk, blobcrash_files_write(&disk->files, descriptor, offset, (const uint8_t *)bytes, len));
+    uint32_t status = blobcrash_files_write(&disk->files, descriptor, offset, (const uint8_t *)bytes, len);
+    if (disk->is_recorded) record_write(descriptor, offset, bytes, len, status);
+    return noted(disk, status);
 }
 
 struct blobcrash_ran disk_read(struct disk *disk, uint64_t descriptor, uint64_t offset, void *into, size_t capacity) {
     struct blobcrash_ran ran = {.status = DISK_OFF};
     if (!disk->is_on) return ran;
     ran = blobcrash_files_read(&disk->files, descriptor, offset, (uint8_t *)into, capacity);
+    if (disk->is_recorded) record_read(descriptor, offset, capacity, ran.status);
     noted(disk, ran.status);
     return ran;
 }
@@ -133,6 +161,7 @@ uint32_t disk_crash(struct disk *disk, struct disk_crash *crash) {
     disk_trace("crash");
     disk->is_on = false;
     struct blobcrash_file_reply reply = blobcrash_files_apply(&disk->files, &call, nothing, 0, nothing, 0);
+    if (disk->is_recorded) record_call(&call, NULL, NULL, reply.status);
     if (reply.status != BLOBCRASH_DONE) return reply.status;
     if (crash) count_crash(disk, &reply, crash);
     disk->calls_left = -1;

@@ -23,7 +23,7 @@ struct disk {
     struct blobcrash_files files;
     /* The calls before the power goes off; negative if it stays on. */
     int64_t calls_left;
-    bool is_on;
+    bool is_on, is_recorded;
     /* Since disk_start. */
     uint64_t changes, faults;
 };
@@ -36,7 +36,8 @@ struct disk_crash {
 };
 
 /*
- * Starts an empty file system, with the power on. `preamble` has the lines of blobcrash_files_open.
+ * Starts an empty file system, with the power on. `preamble` has the lines of blobcrash_files_open. If the environment has
+ * BLOBCRASH_RECORD, the name of a file, what happens to the first disk of the process is recorded there (record.h), until disk_end.
  *
  * DONE; BAD_LINE and NO_MEMORY, with the file system before unchanged.
  */
@@ -45,6 +46,9 @@ void disk_end(struct disk *disk);
 
 /* Makes a setting, as "config sync 1 40" or "syncs lie". DONE; BAD_LINE, NO_MEMORY and CLOSED, which change nothing. */
 uint32_t disk_set(struct disk *disk, const char *setting);
+
+/* Adds a comment to the record, if there is one. */
+void disk_note(struct disk *disk, const char *text);
 
 /* Lets `calls` more calls change something. After them every call except a close fails until the crash. A negative number cancels this. */
 void disk_power_off_after(struct disk *disk, int64_t calls);

@@ -1,9 +1,12 @@
 // Crashes LevelDB by seed: docs/LEVELDB.md. The arguments are those of adapters/common/driver.h, and
 //
-//     crash --scenarios     the scenarios of LevelDB's own test of faults, in each profile
+//     crash --scenarios                 the scenarios of LevelDB's own test of faults, in each profile
+//     crash --record SCRIPT MODE        records a short run for tools/states
+//     crash --check FOLDER FILE         checks what a crash of it left below FOLDER/d; FILE has the acknowledged batches
 #include "driver.h"
 #include "life.h"
 #include "mode.h"
+#include "recorded.h"
 #include "scenarios.h"
 
 #include <cstring>
@@ -24,6 +27,8 @@ static bool is_mode(const char* name) {
 
 int main(int argc, char** argv) {
     if (argc == 2 && strcmp(argv[1], "--scenarios") == 0) return scenarios_run();
+    if (argc == 4 && strcmp(argv[1], "--record") == 0) return recorded_run(argv[2], argv[3]);
+    if (argc == 4 && strcmp(argv[1], "--check") == 0) return recorded_check(argv[2], argv[3]);
     driver leveldb = {};
     leveldb.name = "crash";
     leveldb.modes = MODES;

@@ -24,7 +24,7 @@ if [ -z "$archive" ]; then
 fi
 
 is_current() {
-    [ -f "$program" ] && [ -z "$(find "$archive" "$here" "$top/bindings/c" -type f -newer "$program" | head -n 1)" ]
+    [ -f "$program" ] && [ -z "$(find "$archive" "$here" "$here/../common" "$top/bindings/c" -type f -newer "$program" | head -n 1)" ]
 }
 
 # shellcheck source=tools/building.sh
@@ -34,8 +34,8 @@ lock mount
 if ! is_current; then
     : >"$out/began"
     # shellcheck disable=SC2046,SC2086
-    "$compiler" -std=c11 -D_XOPEN_SOURCE=700 -O2 -g -Wall -Wextra -Werror "-I$top/bindings/c" ${CFLAGS:-} \
-        $(pkg-config --cflags fuse3) -o "$program.new" "$here"/*.c "$archive" ${FUSE_LIBS:-$(pkg-config --libs fuse3)} >&2
+    "$compiler" -std=c11 -D_XOPEN_SOURCE=700 -O2 -g -Wall -Wextra -Werror "-I$top/bindings/c" "-I$here/../common" ${CFLAGS:-} \
+        $(pkg-config --cflags fuse3) -o "$program.new" "$here"/*.c "$here/../common/record.c" "$archive" ${FUSE_LIBS:-$(pkg-config --libs fuse3)} >&2
     touch -r "$out/began" "$program.new" # a source may have changed since
     mv -f "$program.new" "$program"
 fi

@@ -21,6 +21,7 @@ class SimpleDisk : public adapters::Disk {
     std::vector<std::string> names(size_t) override { return listed_; }
     // It has no settings.
     void set(const std::string&) override {}
+    void note(const std::string&) override {}
     void power_off_after(int64_t calls) override { calls_left_ = calls; }
     bool is_off() const override { return is_off_; }
     uint64_t faults() const override { return 0; }

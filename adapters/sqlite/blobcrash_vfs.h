@@ -4,8 +4,8 @@
  * A process has one file system, as a machine has one disk. A crash hits all of its files. It belongs to the thread that started it; a
  * call of another thread fails.
  *
- * A program links store.c, locks.c, memory.c, parameters.c and vfs.c, and disk.c of adapters/common, with `-DSQLITE_CORE`, and uses this
- * header. A program that loads the extension uses the SQL functions of extension.c. docs/SQLITE.md describes both.
+ * A program links store.c, locks.c, memory.c, parameters.c and vfs.c, and disk.c and record.c of adapters/common, with `-DSQLITE_CORE`, and
+ * uses this header. A program that loads the extension uses the SQL functions of extension.c. docs/SQLITE.md describes both.
  */
 #ifndef BLOBCRASH_VFS_H
 #define BLOBCRASH_VFS_H
@@ -38,6 +38,9 @@ int blobcrash_vfs_set(const char *setting);
  * unsynced ones may survive a crash, and none fails. Returns SQLITE_OK; SQLITE_MISUSE as blobcrash_vfs_set.
  */
 int blobcrash_vfs_repeat_truncations(bool repeats);
+
+/* Adds a comment to the record that BLOBCRASH_RECORD asks for (disk.h), if there is one. Returns SQLITE_OK; SQLITE_MISUSE as blobcrash_vfs_set. */
+int blobcrash_vfs_note(const char *text);
 
 /* Makes all files durable, without a draw. Returns SQLITE_OK; SQLITE_NOMEM; SQLITE_MISUSE as blobcrash_vfs_set. */
 int blobcrash_vfs_settle(void);

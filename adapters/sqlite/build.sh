@@ -36,7 +36,7 @@ compile() {
     shift
     # shellcheck disable=SC2086
     "$compiler" -std=c11 -D_XOPEN_SOURCE=700 -O2 -g -Wall -Wextra -Werror "-I$top/bindings/c" "-I$common" "-I$here" "-I$here/crash" \
-        ${CFLAGS:-} -o "$file.new" "$here/store.c" "$here/locks.c" "$here/memory.c" "$here/parameters.c" "$here/vfs.c" "$common/disk.c" "$@"
+        ${CFLAGS:-} -o "$file.new" "$here/store.c" "$here/locks.c" "$here/memory.c" "$here/parameters.c" "$here/vfs.c" "$common/disk.c" "$common/record.c" "$@"
     mv -f "$file.new" "$file"
 }
 

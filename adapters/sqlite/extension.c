@@ -5,6 +5,7 @@
  * - blobcrash_crash(): crashes, and returns how many bytes of unsynced writes were lost by its choices.
  * - blobcrash_power_off(calls): lets this many more calls change something; then every call fails until the next crash.
  * - blobcrash_set(setting): makes a setting of the file system, as 'config sync 1 40' or 'syncs lie'.
+ * - blobcrash_note(text): adds a comment to the record of the run.
  * - blobcrash_settle(): makes all files durable, without a draw.
  * - blobcrash_changes(): returns how many calls have changed something since the file system was started.
  * - blobcrash_reset(): ends the file system. The next open starts a new one.
@@ -44,14 +45,24 @@ static void sql_power_off(sqlite3_context *context, int count, sqlite3_value **a
     give(context, blobcrash_vfs_power_off_after(sqlite3_value_int64(arguments[0])));
 }
 
+/* Returns the argument if it is a text without a zero byte, otherwise an error. */
+static const char *text_of(sqlite3_context *context, sqlite3_value *argument) {
+    const char *text = (const char *)sqlite3_value_text(argument);
+    if (text && strlen(text) == (size_t)sqlite3_value_bytes(argument)) return text;
+    sqlite3_result_error(context, "blobcrash_set and blobcrash_note take a text", -1);
+    return NULL;
+}
+
 static void sql_set(sqlite3_context *context, int count, sqlite3_value **arguments) {
-    const char *setting = (const char *)sqlite3_value_text(arguments[0]);
+    const char *setting = text_of(context, arguments[0]);
     (void)count;
-    if (setting && strlen(setting) == (size_t)sqlite3_value_bytes(arguments[0])) {
-        give(context, blobcrash_vfs_set(setting));
-    } else {
-        sqlite3_result_error(context, "blobcrash_set takes a text", -1);
-    }
+    if (setting) give(context, blobcrash_vfs_set(setting));
+}
+
+static void sql_note(sqlite3_context *context, int count, sqlite3_value **arguments) {
+    const char *text = text_of(context, arguments[0]);
+    (void)count;
+    if (text) give(context, blobcrash_vfs_note(text));
 }
 
 static void sql_settle(sqlite3_context *context, int count, sqlite3_value **arguments) {
@@ -82,6 +93,7 @@ static int create_functions(sqlite3 *db) {
     } functions[] = {
         {"blobcrash_crash", 0, sql_crash},   {"blobcrash_power_off", 1, sql_power_off},
         {"blobcrash_set", 1, sql_set},       {"blobcrash_settle", 0, sql_settle},
+        {"blobcrash_note", 1, sql_note},
         {"blobcrash_reset", 0, sql_reset},   {"blobcrash_changes", 0, sql_changes},
         {"blobcrash_message", 0, sql_message},
     };

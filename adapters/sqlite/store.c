@@ -264,6 +264,13 @@ int blobcrash_vfs_set(const char *setting) {
     }
 }
 
+int blobcrash_vfs_note(const char *text) {
+    if (!is_ours()) return refuse_thread();
+    if (strpbrk(text, "\r\n")) return store_refuse(SQLITE_MISUSE, "more than one line");
+    disk_note(&store.disk, text);
+    return SQLITE_OK;
+}
+
 int blobcrash_vfs_repeat_truncations(bool repeats) {
     if (!is_ours()) return refuse_thread();
     store.repeats_truncations = repeats;

@@ -59,7 +59,7 @@ def add_documents(tree):
     for name in C_EXAMPLES:
         copy(TOP / "bindings/c" / name, documents / "examples/c" / name)
     # The licence of libfuse wants that a user can link the mount with another one.
-    for source in sorted((TOP / "adapters/mount").glob("*.[ch]")):
+    for source in sorted([*(TOP / "adapters/mount").glob("*.[ch]"), *(TOP / "adapters/common").glob("record.[ch]")]):
         copy(source, documents / "mount" / source.name)
 
 

@@ -1,12 +1,22 @@
 /*
  * The record of a run: a script of files, as docs/FORMATS.md has it, with a line for each call of the layer that changes something or
  * may draw. `blobcrash files` replays it to the same names and bytes. It begins before the first such call. If it can't be written, it
- * stops and says so on standard error; no call fails because of it.
+ * stops and says so on standard error; no call fails because of it. A process has one record, of one file system.
  */
-#ifndef MOUNT_RECORD_H
-#define MOUNT_RECORD_H
+#ifndef COMMON_RECORD_H
+#define COMMON_RECORD_H
 
 #include "blobcrash_files.h"
+
+#include <stdbool.h>
+
+#ifdef __cplusplus
+extern "C" {
+#ifdef __cplusplus
+}
+#endif
+
+#endif
 
 /* Whether the next call is to be noted. If nothing is recorded then, nothing can be recorded later. */
 extern bool record_notes;
@@ -32,5 +42,9 @@ void record_setting(const char *setting);
 void record_note(const char *text);
 void record_write(uint64_t descriptor, uint64_t offset, const void *bytes, size_t len, uint32_t status);
 void record_read(uint64_t descriptor, uint64_t offset, size_t len, uint32_t status);
+
+#ifdef __cplusplus
+}
+#endif
 
 #endif

@@ -39,7 +39,7 @@ static void stop(void) {
 /* Stops after an error. The file ends with a whole line. */
 static void fail(int error) {
     int kept = ftruncate(file, (off_t)written);
-    fprintf(stderr, "mount: the record ended early: %s%s\n", strerror(error), kept ? ", in a line" : "");
+    fprintf(stderr, "the record ended early: %s%s\n", strerror(error), kept ? ", in a line" : "");
     failure = error;
     stop();
 }
@@ -95,9 +95,10 @@ static void put_hex(const uint8_t *bytes, size_t len) {
     end = to + 2 * len;
 }
 
-/* Puts a space and a name or a path. */
+/* Puts a space and a name or a path. The path of the root is empty. */
 static void put_name(const char *name) {
     *end++ = ' ';
+    if (!*name) put_text("\"\"");
     for (; *name; name++) {
         unsigned char byte = (unsigned char)*name;
         if (byte > ' ' && byte < 127 && byte != '\\' && byte != '#') {
@@ -139,12 +140,21 @@ static void end_line(void) {
 }
 
 /* What a line has after its word. */
-enum shape { NOTHING, NUMBER, NUMBER_FIRST, NUMBER_NAME, FIRST_NUMBER_NAME, NAMES };
+enum shape { NOTHING, NUMBER, NUMBER_FIRST, PATH, PATHS, NUMBER_NAME, FIRST_NUMBER_NAME, NAMES };
 
 static const struct {
     const char *word;
     enum shape shape;
 } lines[] = {
+    [BLOBCRASH_F_CREATE] = {"create", PATH},
+    [BLOBCRASH_F_OPEN] = {"open", PATH},
+    [BLOBCRASH_F_OPEN_TRUNCATED] = {"open_truncated", PATH},
+    [BLOBCRASH_F_LINK] = {"link", PATHS},
+    [BLOBCRASH_F_UNLINK] = {"unlink", PATH},
+    [BLOBCRASH_F_RENAME] = {"rename", PATHS},
+    [BLOBCRASH_F_MAKE_DIRECTORY] = {"mkdir", PATH},
+    [BLOBCRASH_F_REMOVE_DIRECTORY] = {"rmdir", PATH},
+    [BLOBCRASH_F_SYNC_DIRECTORY] = {"fsyncdir", PATH},
     [BLOBCRASH_F_CREATE_AT] = {"create_at", NUMBER_NAME},
     [BLOBCRASH_F_LINK_AT] = {"link_at", FIRST_NUMBER_NAME},
     [BLOBCRASH_F_UNLINK_AT] = {"unlink_at", NUMBER_NAME},
@@ -165,7 +175,15 @@ static const struct {
 
 /* Whether a call only looks: it changes nothing and draws nothing. */
 static bool only_looks(uint32_t kind) {
-    return kind == BLOBCRASH_F_FIND_AT || kind == BLOBCRASH_F_LIST_AT || kind == BLOBCRASH_F_SIZE || kind == BLOBCRASH_F_INODE_OF;
+    switch (kind) {
+    case BLOBCRASH_F_FIND:
+    case BLOBCRASH_F_FIND_AT:
+    case BLOBCRASH_F_LIST:
+    case BLOBCRASH_F_LIST_AT:
+    case BLOBCRASH_F_SIZE:
+    case BLOBCRASH_F_INODE_OF: return true;
+    default: return false;
+    }
 }
 
 static void put_call(const struct blobcrash_file_call *call, const char *path, const char *to) {
@@ -173,13 +191,13 @@ static void put_call(const struct blobcrash_file_call *call, const char *path, c
     enum shape shape = lines[call->kind].shape;
     put_text(lines[call->kind].word);
     if (shape == FIRST_NUMBER_NAME) put_number(call->first);
-    if (shape != NOTHING) put_number(call->number);
+    if (shape != NOTHING && shape != PATH && shape != PATHS) put_number(call->number);
     if (shape == NUMBER_FIRST) put_number(call->first);
-    if (path && shape >= NUMBER_NAME) put_name(path);
-    if (shape != NAMES) return;
-    put_number(call->first);
-    put_name(to);
-    put_text(taken[call->last]);
+    if (path && shape >= PATH) put_name(path);
+    if (shape == NAMES) put_number(call->first);
+    if (shape == NAMES || shape == PATHS) put_name(to);
+    if (call->kind == BLOBCRASH_F_RENAME) put_text(taken[call->first]);
+    if (call->kind == BLOBCRASH_F_RENAME_AT) put_text(taken[call->last]);
 }
 
 void record_call(const struct blobcrash_file_call *call, const char *path, const char *to, uint32_t status) {
