@@ -125,6 +125,35 @@ def test_random_scripts_against_brute_force():
     assert compared > 500, compared
 
 
+def printed_states(script):
+    """What `blobcrash states` prints of a script: the states of the crash after each number of calls."""
+    ran = subprocess.run([f"{TOP}/blobcrash", "states"], input=script.encode(), stdout=subprocess.PIPE, check=True)
+    states = {}
+    *lines, end = ran.stdout.decode().splitlines()
+    assert end.endswith(", all of them"), end
+    for line in lines:
+        tokens = line.split()
+        if tokens[0] == "#":
+            here = states.setdefault(int(tokens[4].rstrip(",")), [])
+            here.append([])
+        else:
+            partition, name, data = tokens[1:]
+            here[-1].append((partition.encode(), b"" if name == "-" else bytes.fromhex(name), bytes.fromhex(data)))
+    return {calls: [tuple(sorted(state)) for state in found] for calls, found in states.items()}
+
+
+def test_random_scripts_against_the_program():
+    chance = random.Random(58)
+    for _ in range(40):
+        script = random_script(chance)
+        printed = printed_states(script)
+        lines = script.split("\n")[1:]
+        for line in CrashStates(script)._places():
+            calls = sum(not text.startswith("#") for text in lines[:line])
+            found = [state.content for state in CrashStates(script, at=line)]
+            assert sorted(printed[calls]) == sorted(found), (script, line)
+
+
 def recorded(kind, records, settings):
     """The script of a log that appends records."""
     with Store(7, settings=settings, by=Library) as store:
