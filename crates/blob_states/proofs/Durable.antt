@@ -1,9 +1,9 @@
 -- The bytes of a store are those of the files that its laboratory represents.
-use Rattle.std.proofs.Common.{◌≡◌, ℕ, ◌==◌, ◌&&◌, Bool, true, List, [], ◌++◌, Option, Some, None, refl, sym, ap, ◌∙◌, arith}
+use Rattle.std.proofs.Common.{◌≡◌, ℕ, ◌==◌, ◌&&◌, true, List, [], ◌++◌, Option, Some, None, refl, ap, ◌∙◌, arith}
 use Rattle.std.specs.Prelude.{unwrap_or, is_some}
 use Rattle.blob_header.specs.Header.{data_start, region}
 use Rattle.blob_model.specs.Directory.{Directory, File, Raw, Incarnation, is_current, is_that}
-use Rattle.blob_model.specs.Files.{Files, durable_at, log_of, raw_again}
+use Rattle.blob_model.specs.Files.{durable_at, log_of, raw_again}
 use Rattle.blob_model.specs.Log.{Entry, durable_after}
 use Rattle.blob_model.specs.Opening.{place_of}
 use Rattle.blob_model.specs.Pending.{Pending}

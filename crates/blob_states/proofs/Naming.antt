@@ -1,20 +1,20 @@
 -- Each name that has a file is that of an image, or was opened.
-use Rattle.std.proofs.Common.{◌≡◌, ◌≢◌, ℕ, Bool, true, false, cond, List, [], ◌∷◌, Option, Some, None, refl, sym, ap, ◌∙◌, subst}
+use Rattle.std.proofs.Common.{◌≡◌, ◌≢◌, ℕ, Bool, true, false, cond, List, [], ◌∷◌, Option, Some, None, refl, sym, subst}
 use Rattle.std.specs.Prelude.{fold}
 use Rattle.std.specs.List.{AllByRecursion, Contains}
 use Rattle.std.specs.Str.{bytes_eq}
 use Rattle.std.proofs.lemmas.Slice.Eq.{bytes_eq-Decides}
 use Rattle.rand_core.specs.Stream.{Stream}
 use Rattle.blob_header.specs.Refusals.{Refusal, BlobAlreadyOpen}
-use Rattle.blob_model.specs.Directory.{Directory, File, Raw, Incarnation, directory_made, directory_without, with_file}
-use Rattle.blob_model.specs.Files.{Files, admit, after_open, durable_at, raw_again, reopen, with_opening}
+use Rattle.blob_model.specs.Directory.{Directory, File, Raw, Incarnation, directory_without, with_file}
+use Rattle.blob_model.specs.Files.{Files, after_open, durable_at, raw_again, with_opening}
 use Rattle.blob_model.specs.Opening.{Opening, Begins, Continues, Declines, opening}
 use Rattle.blob_model.specs.Places.{Place}
 use Rattle.blob_draws.specs.declared.config.Config.{Config}
 use Rattle.blob_script.specs.Acts.{Act, Ask, Admit, Close, Configure, Crash, Finish, Open, OpenLoose, Remove, Reopen, Scan, Through}
 use Rattle.blob_script.specs.Preambles.{Image}
 use Rattle.blob_lab_model.specs.Accepted.{opened_name}
-use Rattle.blob_lab_model.specs.After.{after_ask, after_act, apply_act, exclusively_opened, files_after}
+use Rattle.blob_lab_model.specs.After.{after_ask, apply_act, exclusively_opened}
 use Rattle.blob_lab_model.specs.Answers.{kept_at}
 use Rattle.blob_lab_model.specs.Scripted.{Words}
 use Rattle.blob_lab_model.specs.States.{Held, State, empty_directory, start, with_image}

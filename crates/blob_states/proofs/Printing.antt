@@ -1,9 +1,9 @@
 -- The crashes that were printed.
-use Rattle.std.proofs.Common.{◌≡◌, ◌<◌, ◌≤◌, ℕ, true, zero, suc, ◌+◌, ◌-◌, ◌++◌, List, [], ◌∷◌, map, fold, length, Option, Some, None, refl, sym, ap, ◌∙◌, subst, arith, append_assoc, append-nil}
+use Rattle.std.proofs.Common.{◌≡◌, ℕ, true, zero, suc, ◌+◌, ◌++◌, List, [], ◌∷◌, map, fold, length, Option, Some, None, refl, sym, ap, ◌∙◌, arith, append-nil}
 use Rattle.std.specs.List.{AllByRecursion, flat_map}
 use Rattle.std.proofs.lemmas.List.{map-append}
 use Rattle.std.proofs.lemmas.List.Concat.{flat_map-append}
-use Rattle.blob_states.specs.Printed.{HasFewerCalls, HasNoStates, IsCrashOf, Point, calls_from, calls_of, crash_points, point_text, total_line, total_of, with_point}
+use Rattle.blob_states.specs.Printed.{HasFewerCalls, HasNoStates, IsCrashOf, Point, calls_from, calls_of, point_text, total_of, with_point}
 use Rattle.blob_states.specs.declared.print.Total.{Total}
 use Rattle.blob_states.specs.declared.recorded.Recorded.{Recorded}
 use Rattle.blob_states.specs.declared.script.RefusedScript.{RefusedScript}

@@ -1,5 +1,5 @@
 -- A crash of a run that was made again.
-use Rattle.std.proofs.Common.{◌≡◌, ◌≢◌, ℕ, List, [], ◌∷◌, Option, Some, refl, sym, ap, ◌∙◌, subst}
+use Rattle.std.proofs.Common.{◌≡◌, ◌≢◌, ℕ, List, [], ◌∷◌, Option, Some, refl, ap, ◌∙◌, subst}
 use Rattle.std.specs.Prelude.{IfSome}
 use Rattle.std.proofs.lemmas.Option.{IfSome_then}
 use Rattle.blob_header.specs.Refusals.{Memory}
@@ -15,11 +15,11 @@ use Rattle.blob_lab_model.specs.Runs.{LeadsTo}
 use Rattle.blob_lab_model.specs.States.{State}
 use Rattle.blob_lab_store.specs.Generators.{SetsWords}
 use Rattle.blob_lab_store.specs.LabRuns.{RunsTo}
-use Rattle.blob_lab_store.specs.LabStands.{LabStandsFor, Performs, stream_of, wrapper_of}
+use Rattle.blob_lab_store.specs.LabStands.{LabStandsFor, Performs, stream_of}
 use Rattle.blob_lab_store.specs.declared.lab.Lab.{Lab}
 use Rattle.blob_choices.specs.Outcomes.{NoneOutOfMemory, acts_of, with_stream}
 use Rattle.blob_choices.proofs.Runs.{sound}
-use Rattle.blob_states.specs.Crashed.{durable_file, image_lines, lines_left}
+use Rattle.blob_states.specs.Crashed.{durable_file, image_lines}
 use Rattle.blob_states.specs.CrashStates.{Leaves, only_words}
 use Rattle.blob_states.specs.Recorded.{Name, after_acts}
 use Rattle.blob_states.proofs.Crashing.{crashes}

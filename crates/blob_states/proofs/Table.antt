@@ -1,12 +1,12 @@
 -- The states of a table.
-use Rattle.std.proofs.Common.{◌≡◌, ℕ, Bool, true, false, if◌then◌else◌, List, [], ◌∷◌, ◌++◌, map, refl, sym, ap, ◌∙◌, arith}
+use Rattle.std.proofs.Common.{◌≡◌, ℕ, Bool, true, false, if◌then◌else◌, List, [], ◌∷◌, ◌++◌, map, refl, sym, ap, arith}
 use Rattle.std.specs.Prelude.{String, Vec, string_bytes}
 use Rattle.std.specs.Global.{Global}
 use Rattle.std.specs.Str.{bytes_eq}
 use Rattle.std.specs.List.{list_any}
 use Rattle.std.specs.Map.{keys_of}
 use Rattle.indexmap.specs.IndexMap.{insert_entry}
-use Rattle.blob_states.specs.CrashStates.{LeftState, has_lines, left_by, lines_in, with_state}
+use Rattle.blob_states.specs.CrashStates.{LeftState, has_lines, left_by, with_state}
 
 abbrev pub Entries : Type 0
 Entries = List (String Global × Vec ℕ Global)

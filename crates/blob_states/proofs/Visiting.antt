@@ -1,13 +1,11 @@
 -- The crashes that were tried, and the states that they left.
-use Rattle.std.proofs.Common.{◌≡◌, ◌≢◌, ◌<◌, ◌≤◌, ℕ, zero, suc, ◌+◌, ◌-◌, ◌^◌, Bool, true, false, not, if◌then◌else◌, List, [], ◌∷◌, ◌++◌, length, map, Option, Some, None, refl, sym, ap, ◌∙◌, subst, arith, append_assoc, append-nil}
+use Rattle.std.proofs.Common.{◌≡◌, ◌≢◌, ℕ, zero, suc, ◌+◌, Bool, true, false, not, if◌then◌else◌, List, [], ◌∷◌, ◌++◌, length, map, Option, Some, None, refl, sym, ap, ◌∙◌, subst, arith, append_assoc, append-nil}
 use Rattle.std.specs.List.{All, AllPairs, Contains}
 use Rattle.std.proofs.lemmas.List.{length-append, length-map}
 use Rattle.std.proofs.lemmas.List.Elements.{All-contains, All-nil, All-push, All-weaker, Contains-append_left, Contains-append_right}
-use Rattle.rand_core.specs.Stream.{Stream}
-use Rattle.blob_model.specs.Draws.{Row}
 use Rattle.blob_tree.specs.Trees.{DecisionTree, Leaf, Choice, Advances, IsLeaf, depth, extend_path, if_more, leaves, left_after, left_from, outcome_word, words_of}
 use Rattle.blob_lab_model.specs.States.{State}
-use Rattle.blob_choices.specs.Decided.{Decides, HasU64Words, path_stream, zeros}
+use Rattle.blob_choices.specs.Decided.{Decides, path_stream, zeros}
 use Rattle.blob_states.specs.Crashed.{crash_draws, lines_left}
 use Rattle.blob_states.specs.CrashStates.{AreLeft, IsLeft, LeftState, left_by, lines_in, only_words, with_state}
 use Rattle.blob_states.specs.Recorded.{Name}

@@ -1,10 +1,9 @@
 -- A recorded run: its start, the state after its first calls, and the names that may have a file then.
-use Rattle.std.specs.Prelude.{◌≡◌, ◌≢◌, ◌<◌, ◌⊎◌, ℕ, List, [], ◌∷◌, ◌++◌, take, map, String, Vec, Option, Some, None, string_bytes}
+use Rattle.std.specs.Prelude.{◌≢◌, ℕ, List, take, map, String, Vec, Option, Some, None, string_bytes}
 use Rattle.std.specs.Global.{Global}
 use Rattle.std.specs.List.{AllByRecursion, Contains}
 use Rattle.blob_model.specs.Files.{Files}
-use Rattle.blob_script.specs.declared.call.Call.{Call}
-use Rattle.blob_script.specs.Acts.{Act, act_of}
+use Rattle.blob_script.specs.Acts.{Act}
 use Rattle.blob_script.specs.Preambles.{Image, images_of, words_of}
 use Rattle.blob_script.specs.Settings.{no_rates}
 use Rattle.blob_lab_model.specs.Accepted.{opened_name}

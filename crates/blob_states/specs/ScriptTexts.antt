@@ -4,7 +4,7 @@ use Rattle.blob_draws.specs.declared.config.Config.{Config}
 use Rattle.blob_script.specs.declared.call.Call.{Call}
 use Rattle.blob_script.specs.declared.script.preamble.Preamble.{Preamble}
 use Rattle.blob_script.specs.Preambles.{images_of, words_of}
-use Rattle.blob_script.specs.Readers.{HasRead, config_of, lines_read, preamble_of}
+use Rattle.blob_script.specs.Readers.{HasRead, config_of, preamble_of}
 use Rattle.blob_script.specs.Scripts.{Script, lines_of, script_of, with_line}
 use Rattle.blob_choices.specs.Outcomes.{acts_of}
 use Rattle.blob_states.specs.declared.recorded.Recorded.{Recorded}

@@ -1,9 +1,8 @@
-use Rattle.std.proofs.Common.{rules, ◌≡◌, Bool, true, false, OnOk, List, [], ◌∷◌, ◌++◌, map, string_bytes, refl, sym, ap, ◌∙◌}
+use Rattle.std.proofs.Common.{rules, ◌≡◌, true, false, map, string_bytes, sym, ap, ◌∙◌}
 use Rattle.std.specs.List.{list_any}
 use Rattle.std.specs.Map.{keys_of}
-use Rattle.std.specs.String.{string_eq}
 use Rattle.std.proofs.lemmas.Map.Made.{is_some-lookup}
-use Rattle.blob_states.specs.CrashStates.{has_lines, left_by, states_in, with_state}
+use Rattle.blob_states.specs.CrashStates.{left_by, states_in}
 use Rattle.blob_states.proofs.Table.{added, has_key, is_at, not_there, state_in, there}
 use Rattle.blob_states.proofs.found.add.Goals as goal
 

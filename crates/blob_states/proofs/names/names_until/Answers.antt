@@ -1,5 +1,5 @@
 use Rattle.std.proofs.Common.{rules, arith, ◌≡◌, ◌<◌, length, get_or, take, string_bytes}
-use Rattle.blob_states.specs.Recorded.{HasOpened, names_of}
+use Rattle.blob_states.specs.Recorded.{names_of}
 use Rattle.blob_states.proofs.NamesSoFar.{calls_more, images_kept, images_more}
 use Rattle.blob_states.proofs.names.names_until.Goals as goal
 

@@ -1,7 +1,7 @@
 use Rattle.std.proofs.Common.{rules, ◌≡◌, List, subst, take}
 use Rattle.blob_draws.specs.declared.config.Config.{Config}
 use Rattle.blob_script.specs.declared.call.Call.{Call}
-use Rattle.blob_script.specs.Preambles.{Image, Words, images_of, words_of}
+use Rattle.blob_script.specs.Preambles.{Image, Words, words_of}
 use Rattle.blob_script.specs.Settings.{no_rates}
 use Rattle.blob_lab_model.specs.States.{State, start}
 use Rattle.blob_lab_store.specs.LabRuns.{RunsTo}

@@ -1,4 +1,4 @@
-use Rattle.std.proofs.Common.{rules, refl, ◌≡◌, ◌+◌, ◌≤◌, length, arith, []}
+use Rattle.std.proofs.Common.{rules, arith}
 use Rattle.blob_states.proofs.Reading.{finished, goes_on, read_all}
 use Rattle.blob_states.proofs.script.read_script.Goals as goal
 

@@ -1,11 +1,8 @@
-use Rattle.std.proofs.Common.{rules, arith, ◌≡◌, ◌≤◌, ◌+◌, Bool, true, false, not, if◌then◌else◌, Option, Some, None, length, string_bytes, refl, ap}
+use Rattle.std.proofs.Common.{rules, arith, ◌≡◌, Bool, false, not, if◌then◌else◌, Some, None, length, string_bytes, refl, ap}
 use Rattle.blob_model.specs.Files.{all_needs}
 use Rattle.blob_script.specs.Preambles.{words_of}
 use Rattle.blob_script.specs.Settings.{no_rates}
-use Rattle.blob_tree.specs.Trees.{DecisionTree, if_more}
-use Rattle.blob_choices.specs.Decided.{Decides}
-use Rattle.blob_states.specs.Crashed.{crash_draws}
-use Rattle.blob_states.specs.CrashStates.{TakesPath, left_by, states_in}
+use Rattle.blob_states.specs.CrashStates.{TakesPath, states_in}
 use Rattle.blob_states.specs.Recorded.{first_acts, first_images, names_of, state_after}
 use Rattle.blob_states.proofs.Naming.{named}
 use Rattle.blob_states.proofs.Visiting.{all_found, next_tried}

@@ -1,4 +1,4 @@
-use Rattle.std.proofs.Common.{◌≡◌, ◌≤◌, ◌-◌, Bool, if◌then◌else◌, Option, Some, None}
+use Rattle.std.proofs.Common.{◌≤◌, ◌-◌, if◌then◌else◌, Some, None}
 use Rattle.blob_tree.specs.Trees.{DecisionTree}
 use Rattle.blob_choices.specs.Decided.{Decides}
 use Rattle.blob_states.specs.Crashed.{crash_draws}
