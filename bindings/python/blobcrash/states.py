@@ -146,7 +146,9 @@ class CrashStates:
         seed = [] if parts.seed is None else [f"seed {parts.seed}"]
         script = "".join(f"{text}\n" for text in [*parts.images, *given, *seed, *self._lines])
         calls = sum(not text.startswith("#") for text in self._lines[:line])
-        ran = subprocess.run([program(), "states", "--at", str(calls)], input=script.encode(), stdout=subprocess.PIPE, check=False)
+        named = f"{program()}_states"
+        command = [named] if os.path.exists(named) else [program(), "states"]
+        ran = subprocess.run([*command, "--at", str(calls)], input=script.encode(), stdout=subprocess.PIPE, check=False)
         if ran.returncode:
             raise NotMadeAgain(f"blobcrash states ended with status {ran.returncode}")
         *lines, counts = ran.stdout.decode().splitlines()
@@ -246,7 +248,7 @@ class _Crash:
         return taken
 
     def script(self, taken: List[int]) -> str:
-        """The script whose crash takes these words."""
+        """The script that ends with a crash by these words."""
         session, used = self._of._replayed(self._words, self._line)
         session.close()
         return self._script([*self._words[: used or 0], *taken])
