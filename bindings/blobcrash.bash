@@ -10,6 +10,8 @@ _blobcrash() {
         case ${COMP_WORDS[1]}:$before in
         explore:--limit) ;;
         explore:*) words='--limit --last --help' ;;
+        states:--at | states:--limit) ;;
+        states:*) words='--at --limit --help' ;;
         explain:explain) words='--help' ;;
         files:files) words='explore --help' ;;
         files:--limit) ;;

@@ -6,7 +6,7 @@ top=$(CDPATH='' cd -- "$(dirname -- "$0")/.." && pwd -P)
 . "$top/tests/counting.sh"
 release=$(sed -n 's/^const VERSION: &str = "blobcrash \([0-9.]*\),.*/\1/p' "$top/crates/blobcrash/src/main.rt")
 
-need_program explain explore files
+need_program explain explore files states
 sh "$top/bindings/build.sh" || give_up "the library can't be built"
 prefix=$work/prefix
 ok 'it installs' sh "$top/bindings/install.sh" "$prefix"
@@ -45,6 +45,7 @@ libexec/blobcrash/blobcrash
 libexec/blobcrash/blobcrash_explain
 libexec/blobcrash/blobcrash_explore
 libexec/blobcrash/blobcrash_files
+libexec/blobcrash/blobcrash_states
 share/bash-completion/completions/blobcrash
 share/blobcrash/help
 share/man/man1/blobcrash.1

@@ -14,7 +14,7 @@ export work
 PATH=$PATH:/opt/rattle/bin
 export PATH PYTHONDONTWRITEBYTECODE=1
 
-need_program explain explore
+need_program explain explore states
 BLOBCRASH=$program
 export BLOBCRASH
 # Python on the pages and some commands use the library. Its build may be under way: then this waits for it.

@@ -68,7 +68,7 @@ if ! has_python || ! (cd "$top/tools" && python3 -B -c 'import releasing.wheel, 
     skip 'all of it: there is no Python with setuptools and wheel'
     finish
 fi
-need_program explain explore files
+need_program explain explore files states
 sh "$top/bindings/build.sh" || give_up "the library can't be built"
 kit=$(dirname -- "$(dirname -- "$(readlink -f -- "$(command -v rt || echo /opt/rattle/bin/rt)")")")
 mode=--draft

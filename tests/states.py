@@ -125,6 +125,33 @@ def test_random_scripts_against_brute_force():
     assert compared > 500, compared
 
 
+def found_by(script, **named):
+    """The counts, and the states: after which line, their acknowledgements and their blobs."""
+    states = CrashStates(script, **named)
+    found = sorted((state.line, state.acknowledged, state.content) for state in states)
+    return str(states), found
+
+
+def test_random_scripts_against_the_program():
+    chance = random.Random(58)
+    for number in range(40):
+        script = random_script(chance) + "\n# acknowledged x"
+        whole = number % 4 == 0
+        assert found_by(script, whole=whole, proved=True) == found_by(script, whole=whole), script
+    crashed = "words max 0 0 0\nconfig write 0 1 1 2 subset\nopen p 61\nwrite 0 0 6162\ncrash\nwrite 0 1 63"
+    for state in CrashStates(crashed, at=5, proved=True):
+        # Its script leaves it.
+        words, *lines = state.script.splitlines()
+        taken = [MAX if word == "max" else int(word) for word in words.split()[1:]]
+        with Store(words=[*taken, MAX], by=Library, allow_stale=True) as store:
+            replies(store, [*lines, "reopen", "config clear"])
+            found = logical(store)
+        with state.store() as store:
+            assert logical(store) == found, state
+    raises(ValueError, CrashStates, script, proved=True, limit=1)
+    raises(ValueError, CrashStates, script, proved=True, files=True)
+
+
 def recorded(kind, records, settings):
     """The script of a log that appends records."""
     with Store(7, settings=settings, by=Library) as store:
@@ -302,8 +329,8 @@ def test_the_command():
             file.write(recorded(ForgetsSync, RECORDS[:1], ["write 0 1 1 2 sectors 8"]))
         out = os.path.join(work, "out")
         check = ["sh", "-c", 'test ! -s "$ACKNOWLEDGED" || (test -s "$STATE/wal/30" && grep -q crash "$SCRIPT")']
-        for jobs in ("1", "3"):
-            ran = command("--out", out, "--jobs", jobs, script, "--", *check)
+        for options in (["--jobs", "1"], ["--jobs", "3"], ["--proved"]):
+            ran = command("--out", out, *options, script, "--", *check)
             assert ran.returncode == 0 and ran.stdout.endswith(", all of them; 0 fail\n"), ran
         ran = command("--out", out, script, "--", "sh", "-c", 'test ! -s "$ACKNOWLEDGED"')
         assert ran.returncode == 1 and "the check exits with 1" in ran.stdout, ran
@@ -311,6 +338,7 @@ def test_the_command():
             assert file.read().endswith("\ncrash\n")
         assert os.path.isdir(os.path.join(out, "1", "state"))
         assert command(script).returncode == 2 and command("--limit", "0", script, "--", "true").returncode == 2
+        assert command("--proved", "--limit", "1", script, "--", "true").returncode == 2
         assert command(os.path.join(work, "none"), "--", "true").returncode == 2
         assert command(script, "--", "/none/none").returncode == 2
         with open(script, "w", encoding="utf-8") as file:

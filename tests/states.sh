@@ -9,6 +9,7 @@ if ! has_python; then
     finish
 fi
 sh "$top/bindings/build.sh" || give_up "the library can't be built"
+need_program states
 export PYTHONDONTWRITEBYTECODE=1
 add python3 "$top/tests/states.py"
 for sync in '' --forget-sync; do
@@ -21,6 +22,26 @@ for sync in '' --forget-sync; do
     fi
     tell $? "examples/log_states.py $sync"
 done
+
+# expect NAME STATUS LAST_LINE ERRORS ARGUMENT ..: what `blobcrash states` ends with, of $work/in.
+expect() {
+    name=$1 wanted=$2 last=$3 errors=$4
+    shift 4
+    "$top/blobcrash" states "$@" <"$work/in" >"$work/out" 2>"$work/err"
+    status=$?
+    [ "$status" = "$wanted" ] && [ "$(tail -n 1 "$work/out")" = "$last" ] && [ "$(cat "$work/err")" = "$errors" ]
+    tell $? "blobcrash states: $name: status $status, $(tail -n 1 "$work/out")"
+}
+printf 'seed 7\nimage p 62 43574943000000006161\nconfig write 0 1 1 2 subset\nopen p 62\nwrite 0 0 6262\n' >"$work/in"
+expect 'four outcomes of two bytes' 0 '# 1 crash, 4 outcomes, 4 states, all of them' '' --at 3
+expect 'each crash' 0 '# 4 crashes, 7 outcomes, 7 states, all of them' ''
+expect 'a limit' 0 '# 1 crash, 3 outcomes, 3 states, not all of them: the limit was reached' '' --limit 3 --at 3
+expect 'no outcome' 0 '# 4 crashes, 0 outcomes, 0 states, not all of them: the limit was reached' '' --limit 0
+expect 'too few calls' 2 '' 'the script has 3 calls' --at 4
+printf 'config write 0 1 1 2 subset\nseed 7\n' >"$work/in"
+expect 'a bad line' 2 '' 'line 2: bad call'
+: >"$work/in"
+expect 'no line' 0 '# 1 crash, 1 outcome, 1 state, all of them' ''
 
 if ! has sqlite3 fusermount3 || [ ! -w /dev/fuse ] || ! sh "$top/adapters/mount/build.sh" >/dev/null 2>&1; then
     # A kernel can't be installed.

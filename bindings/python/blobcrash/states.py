@@ -7,21 +7,22 @@
         assert log.records[: len(state.acknowledged)] == state.acknowledged
 
 A crash is put after each call that may change what it leaves. The calls before it are made as they were recorded, with their draws. Of the
-crash all draws are tried.
+crash all draws are tried. With `proved=True` the program `blobcrash states` finds the states of each crash of a store.
 """
 
 from __future__ import annotations
 
 import os
+import subprocess
 from itertools import chain, islice
 from typing import Any, Dict, Iterator, List, NamedTuple, Optional, Set, Tuple
 
 from .file_system import Files
 from .generator import words_of
-from .grammar import MAX, hex_of
-from .layers import Library
+from .grammar import MAX, hex_of, unhex
+from .layers import Library, program
 from .recorded import split_script
-from .replayed import Content, ReplayedFiles, ReplayedStore
+from .replayed import Content, NotMadeAgain, ReplayedFiles, ReplayedStore
 from .store import Store
 
 # How many words a script and a crash are given at first.
@@ -81,13 +82,27 @@ class CrashStates:
 
     `script` is one of a store, or with `files` one of files. `at` is the only line after which there is a crash. `limit` is how many outcomes
     are tried of each crash: first all kept, then each single loss, all lost, each single draw kept, then the others. With `whole` each
-    write is kept or lost as a whole.
+    write is kept or lost as a whole. With `proved` the states of each crash are those that the program `blobcrash states` prints, of which it
+    is proved that none is missing. They come in its order: depth first.
 
     Iterating yields each `CrashState`. Meanwhile `crashes` counts the places of a crash, `outcomes` the crashes that were made, `states` the
-    states, and `complete` is whether no limit was reached. Raises `BadLine` for a line that is no call.
+    states, and `complete` is whether no limit was reached. Raises `BadLine` for a line that is no call, and `ValueError` for `proved` with
+    `files` or `limit`.
     """
 
-    def __init__(self, script: str, *, files: bool = False, at: Optional[int] = None, limit: Optional[int] = None, whole: bool = False) -> None:
+    def __init__(
+        self,
+        script: str,
+        *,
+        files: bool = False,
+        at: Optional[int] = None,
+        limit: Optional[int] = None,
+        whole: bool = False,
+        proved: bool = False,
+    ) -> None:
+        if proved and (files or limit is not None):
+            raise ValueError("the program finds the states of a store, and all of them")
+        self._is_proved = proved
         self._parts = split_script(script)
         self._way: Any = ReplayedFiles if files else ReplayedStore
         self._is_files = bool(files)
@@ -108,7 +123,8 @@ class CrashStates:
         for line in self._places():
             self.crashes += 1
             acknowledged = tuple(text[len(_ACKNOWLEDGED) :] for text in self._lines[:line] if text.startswith(_ACKNOWLEDGED))
-            for script, content in _Crash(self, words, line).outcomes():
+            crash = _Crash(self, words, line)
+            for script, content in self._printed(crash, line) if self._is_proved else crash.outcomes():
                 self.outcomes += 1
                 if (content, acknowledged) not in seen:
                     seen.add((content, acknowledged))
@@ -122,6 +138,30 @@ class CrashStates:
             if line.startswith(_ACKNOWLEDGED) or (not line.startswith("#") and self._way.changes(line)):
                 places.append(number)
         return places if self._at is None else [place for place in places if place == self._at]
+
+    def _printed(self, crash: _Crash, line: int) -> Iterator[Tuple[str, Content]]:
+        """The script and the content of each state that the program prints. It counts the other outcomes."""
+        parts = self._parts
+        given = [f"words {_shown(parts.words)}"] if parts.words else []
+        seed = [] if parts.seed is None else [f"seed {parts.seed}"]
+        script = "".join(f"{text}\n" for text in [*parts.images, *given, *seed, *self._lines])
+        calls = sum(not text.startswith("#") for text in self._lines[:line])
+        named = f"{program()}_states"
+        command = [named] if os.path.exists(named) else [program(), "states"]
+        ran = subprocess.run([*command, "--at", str(calls)], input=script.encode(), stdout=subprocess.PIPE, check=False)
+        if ran.returncode:
+            raise NotMadeAgain(f"blobcrash states ended with status {ran.returncode}")
+        *lines, counts = ran.stdout.decode().splitlines()
+        states: List[Tuple[List[int], List[Tuple[Any, ...]]]] = []
+        for printed in lines:
+            if printed.startswith("#"):
+                states.append((_words_in(printed), []))
+            else:
+                _, partition, name, data = printed.split()
+                states[-1][1].append((partition.encode(), unhex(name), unhex(data)))
+        for taken, blobs in states:
+            yield crash.script(taken), tuple(sorted(blobs))
+        self.outcomes += int(counts.split()[3]) - len(states)
 
     def _recorded_words(self) -> List[int]:
         """The words of the whole script, with zeros after them that no call takes, and a last one."""
@@ -207,10 +247,24 @@ class _Crash:
             yield self._script([*self._words[: used or 0], *taken]), content
         return taken
 
+    def script(self, taken: List[int]) -> str:
+        """The script that ends with a crash by these words."""
+        session, used = self._of._replayed(self._words, self._line)
+        session.close()
+        return self._script([*self._words[: used or 0], *taken])
+
     def _script(self, words: List[int]) -> str:
-        shown = " ".join("max" if word == MAX else str(word) for word in words)
-        lines = [*self._of._parts.images, *([f"words {shown}"] if words else []), *self._of._lines[: self._line], "crash"]
+        lines = [*self._of._parts.images, *([f"words {_shown(words)}"] if words else []), *self._of._lines[: self._line], "crash"]
         return "".join(f"{line}\n" for line in lines)
+
+
+def _words_in(printed: str) -> List[int]:
+    """The words in a line `# crash after call N, words ..` or `.., no words`."""
+    return [MAX if word == "max" else int(word) for word in printed.split(", ")[1].split() if word not in ("no", "words")]
+
+
+def _shown(words: List[int]) -> str:
+    return " ".join("max" if word == MAX else str(word) for word in words)
 
 
 def _stem(taken: Words) -> Words:

@@ -8,6 +8,7 @@ once, CHECK is run: it exits with 0 if all is well. `docs/GUIDE.md` has an examp
   --at LINE      only a crash after this line, of those that aren't empty, `words` or `seed`
   --limit N      at most N outcomes of each crash: first none lost, each single loss, all lost, each single draw kept
   --whole        each write is kept or lost as a whole
+  --proved       the states are those that `blobcrash states` prints: of a store, and without --limit
   --jobs N       how many checks run at once (1)
   --out FOLDER   where failures are kept (out/states): the script, which ends with the crash, and the state
 
@@ -103,7 +104,7 @@ def states_command(arguments: List[str]) -> int:
         arguments = [*arguments, "--"]
     at = arguments.index("--")
     own, command = arguments[:at], arguments[at + 1 :]
-    for name in ("--files", "--whole"):
+    for name in ("--files", "--whole", "--proved"):
         parser.add_argument(name, action="store_true", help=argparse.SUPPRESS)
     for name, default in (("--at", None), ("--limit", None), ("--jobs", 1)):
         parser.add_argument(name, type=int, default=default, help=argparse.SUPPRESS)
@@ -112,6 +113,8 @@ def states_command(arguments: List[str]) -> int:
     options = parser.parse_args(own)
     if not command or options.jobs < 1 or (options.limit is not None and options.limit < 1):
         parser.error("wants a CHECK after --, and numbers from 1 on")
+    if options.proved and (options.files or options.limit is not None):
+        parser.error("--proved is of a store, and without --limit")
     try:
         with open(options.script, encoding="utf-8") as file:
             script = file.read()
@@ -125,7 +128,7 @@ def states_command(arguments: List[str]) -> int:
 
 
 def _run(script: str, options: argparse.Namespace, command: List[str]) -> int:
-    states = CrashStates(script, files=options.files, at=options.at, limit=options.limit, whole=options.whole)
+    states = CrashStates(script, files=options.files, at=options.at, limit=options.limit, whole=options.whole, proved=options.proved)
     with tempfile.TemporaryDirectory(dir=_IN_MEMORY if os.path.isdir(_IN_MEMORY) else None) as work:
         checks = _Checks(command, options.out, options.jobs, work)
         for state in states:

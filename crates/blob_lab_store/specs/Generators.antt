@@ -1,5 +1,5 @@
 -- The generator of a laboratory, and words that are inserted before its next one.
-use Rattle.std.specs.Prelude.{◌≡◌, ◌++◌, ℕ, List}
+use Rattle.std.specs.Prelude.{◌≡◌, ◌++◌, ℕ, List, None}
 use Rattle.blob_faulty.specs.Wrapper.{rng_of}
 use Rattle.blob_lab_model.specs.Scripted.{Left, scripted_stream}
 use Rattle.blob_lab_model.specs.States.{State}
@@ -14,3 +14,7 @@ generator_of lab = rng_of lab.wrapper
 pub record PushesWords (lab : Lab) (words : List ℕ) (lab' : Lab) : Type 0 where
   pub generator : generator_of lab' ≡ (words ++ (generator_of lab).0, (generator_of lab).1)
   pub stands : (v : State) → LabStandsFor lab v → LabStandsFor lab' (record v { stream = scripted_stream (generator_of lab') })
+
+-- These words come next, and then zeros. Only the generator changes.
+abbrev pub SetsWords : Lab → List ℕ → Lab → Type 0
+SetsWords lab words lab' = (v : State) → LabStandsFor lab v → LabStandsFor lab' (record v { stream = scripted_stream (words, None) })

@@ -2,7 +2,7 @@
 ghost use Rattle.std.specs.Prelude.{◌≡◌, IfSome, OnErr, OnOk, is_none, is_some};
 ghost use Rattle.blob_header.specs.Refusals.{IsMemory};
 ghost use Rattle.blob_script.specs.Acts.{Configure, act_of};
-ghost use Rattle.blob_lab_store.specs.Generators.{PushesWords, generator_of};
+ghost use Rattle.blob_lab_store.specs.Generators.{PushesWords, SetsWords, generator_of};
 ghost use Rattle.blob_lab_store.specs.LabStands.{Performs, Wraps, wrapper_of};
 ghost use Rattle.blob_tree.specs.WordsLeft.{EndsAfter};
 ghost use Rattle.blob_lab_model.specs.States.{State};
@@ -98,6 +98,14 @@ impl Lab {
         self.wrapper.set_rng(rng);
         pushed?;
         Ok(())
+    }
+
+    /// Replaces the words that the generator gives next by these, followed by zeros. Drops the words and the seed that were
+    /// left. Allocates nothing.
+    pub fn set_words(&mut self, words: Vec<u64>)
+        ensures { SetsWords self.old words.items self.new }
+    {
+        self.wrapper.set_rng(ScriptedRng::new(words));
     }
 
     fn configure(&mut self, config: &Config) -> Reply

@@ -1,0 +1,11 @@
+pub mod Crashing
+pub mod Table
+pub mod Adding
+pub mod Visiting
+pub mod Naming
+pub mod NamesSoFar
+pub mod HexFields
+pub mod Durable
+pub mod Replaying
+pub mod Reading
+pub mod Printing

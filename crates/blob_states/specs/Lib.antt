@@ -1,0 +1,5 @@
+pub mod Recorded
+pub mod Crashed
+pub mod CrashStates
+pub mod ScriptTexts
+pub mod Printed

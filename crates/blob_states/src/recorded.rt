@@ -1,0 +1,55 @@
+//! A recorded run.
+ghost use Rattle.std.specs.Prelude.{◌≡◌, IfOk, OnErr};
+ghost use Rattle.blob_header.specs.Refusals.{IsMemory};
+ghost use Rattle.blob_script.specs.Preambles.{images_of, words_of};
+ghost use Rattle.blob_states.specs.Recorded.{image_of};
+
+use blob_base::Error;
+use blob_script::Call;
+use blob_script::script::Preamble;
+use std::alloc::Global;
+
+/// What lies in the store at first, the words and the seed of the run's draws, and its calls.
+#[derive(Drop)]
+pub struct Recorded {
+    pub preamble: Preamble,
+    pub calls: Vec<Call>,
+}
+
+/// Returns a copy of a preamble. The only error is `Memory`.
+pub(crate) fn copy_of(alloc: Global, preamble: &Preamble) -> Result<Preamble, Error>
+    ensures images { IfOk result (λ copy. images_of copy.images.items ≡ images_of preamble.now.images.items) }
+    ensures words { IfOk result (λ copy. words_of copy ≡ words_of preamble.now) }
+    ensures memory { OnErr result (IsMemory result) }
+{
+    let images = copies(alloc, &preamble.images)?;
+    let words = Vec::from_slice(alloc, &preamble.words)?;
+    Ok(Preamble {
+        images,
+        words,
+        seed: preamble.seed,
+    })
+}
+
+fn copies(
+    alloc: Global,
+    images: &[(String, Vec<u8>, Vec<u8>)],
+) -> Result<Vec<(String, Vec<u8>, Vec<u8>)>, Error>
+    ensures ok { IfOk result (λ all. images_of all.items ≡ images_of images.now) }
+    ensures memory { OnErr result (IsMemory result) }
+{
+    let mut all = Vec::with_capacity(alloc, images.len())?;
+    for image in images {
+        let copy = copied(image)?;
+        all.push(copy)?;
+    }
+    Ok(all)
+}
+
+fn copied(image: &(String, Vec<u8>, Vec<u8>)) -> Result<(String, Vec<u8>, Vec<u8>), Error>
+    ensures ok { IfOk result (λ copy. image_of copy ≡ image_of image.now) }
+    ensures memory { OnErr result (IsMemory result) }
+{
+    let (partition, name, bytes) = image;
+    Ok((partition.clone()?, name.clone()?, bytes.clone()?))
+}

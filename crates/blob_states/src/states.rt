@@ -1,0 +1,61 @@
+//! The states that a crash leaves, each once.
+ghost use Rattle.std.specs.Prelude.{◌≡◌, ◌≤◌, IfOk, OnErr, false, length};
+ghost use Rattle.blob_header.specs.Refusals.{IsMemory};
+ghost use Rattle.blob_states.specs.CrashStates.{AreStatesOf};
+ghost use Rattle.blob_states.specs.Recorded.{state_after};
+
+use crate::found::add;
+use crate::names::names_until;
+use crate::recorded::Recorded;
+use crate::visit::visit;
+use blob_base::Error;
+use blob_choices::laws::draws;
+use blob_tree::Explorer;
+use indexmap::IndexMap;
+use std::alloc::Global;
+
+/// What a crash could have left: each state once, by the lines that set its files, with the words of a crash that leaves it.
+#[derive(Drop)]
+pub struct CrashStates {
+    pub states: IndexMap<String, Vec<u64>>,
+    /// The number of outcomes that were tried.
+    pub outcomes: u64,
+    /// Whether these are all outcomes.
+    pub is_complete: bool,
+}
+
+/// Returns what a crash after the first `count` calls could have left. Tries at most `limit` outcomes.
+///
+/// The only error is `Memory`, also if a call was refused it.
+pub fn crash_states(
+    alloc: Global,
+    run: &Recorded,
+    count: usize,
+    limit: u64,
+) -> Result<CrashStates, Error>
+    requires { count ≤ length run.now.calls.items }
+    ensures left { IfOk result (AreStatesOf (state_after run.now count)) }
+    ensures within { IfOk result (λ found. found.outcomes ≤ limit) }
+    ensures limit { IfOk result (λ found. found.is_complete ≡ false → found.outcomes ≡ limit) }
+    ensures memory { OnErr result (IsMemory result) }
+{
+    draws();
+    let names = names_until(alloc, run, count)?;
+    let mut explorer = Explorer::new(alloc);
+    let mut spare = 64;
+    let mut states = IndexMap::new(alloc);
+    let mut outcomes = 0;
+    let mut is_complete = false;
+    'outcomes: while outcomes < limit && !is_complete {
+        let leaf = visit(alloc, run, count, &names, &explorer, &mut spare)?;
+        let taken = leaf.words.len();
+        add(&mut states, leaf.lines, leaf.words)?;
+        outcomes += 1;
+        is_complete = !explorer.advance(taken)?;
+    }
+    Ok(CrashStates {
+        states,
+        outcomes,
+        is_complete,
+    })
+}
