@@ -1,6 +1,5 @@
 -- What one more line does to the settings that a session is opened with.
-use Rattle.std.proofs.Common.{◌≡◌, ◌≢◌, ℕ, ◌+◌, ◌≤◌, ◌<◌, List, [], ◌∷◌, ◌++◌, All, Bool, true, false, Option, Some, None, Result, Ok, Err, IfErr, length, refl, sym, ap, ◌∙◌, append_assoc, arith, inl, inr, subst}
-use Rattle.std.specs.Prelude.{◌⊎◌, option_and_then}
+use Rattle.std.proofs.Common.{◌≡◌, ℕ, ◌+◌, List, [], ◌∷◌, ◌++◌, All, Bool, true, false, Some, None, Result, Ok, Err, IfErr, refl, sym, ap, ◌∙◌, append_assoc, arith, inl, inr, subst}
 use Rattle.std.proofs.lemmas.List.{length_push}
 use Rattle.std.proofs.lemmas.List.Elements.{All-push}
 use Rattle.blob_draws.specs.declared.config.Config.{Config}
@@ -9,15 +8,15 @@ use Rattle.blob_script.specs.declared.script.reader.Reader.{Reader}
 use Rattle.blob_script.specs.Acts.{Act}
 use Rattle.blob_script.specs.Lines.{line_of}
 use Rattle.blob_script.specs.Preambles.{Image, Words, images_of, words_of}
-use Rattle.blob_script.specs.Readers.{HasRead, IsSame, MakesCall, MakesNoCall, Refuses, config_of, has_begun, lines_read, preamble_of, with_meaning, with_preamble}
+use Rattle.blob_script.specs.Readers.{HasRead, MakesCall, MakesNoCall, config_of, has_begun, lines_read, preamble_of, with_preamble}
 use Rattle.blob_script.specs.Scripts.{with_call}
-use Rattle.blob_script.specs.Tokens.{is_empty}
 use Rattle.blob_script.proofs.Readers.{calls_kept, read_call, read_on}
-use Rattle.blob_lab.specs.Scripts.{Script, no_script, lines_of, with_said, with_line}
+use Rattle.blob_lab.specs.Scripts.{Script, no_script, lines_of, with_line}
 use Rattle.blob_lab.proofs.ScriptSteps.{more_lines, one_line}
 use Rattle.blob_lab_model.specs.States.{start}
 use Rattle.blob_lab_store.specs.LabStands.{LabStandsFor}
 use Rattle.blob_sessions.specs.Debts.{IsNew}
+use Rattle.blob_sessions.specs.Sessions.{settings_of}
 use Rattle.blob_sessions.specs.declared.kept.Kept.{Kept}
 use Rattle.blob_sessions.specs.declared.preamble.RefusedPreamble.{RefusedPreamble}
 use Rattle.blob_sessions.specs.declared.preamble.RefusedPreamble.TheVariants.{BadLine}
@@ -123,14 +122,14 @@ refuses_call result r r' line last act next is makes refused number e =
 
 -- a laboratory that was made of what was read
 pub made : (k : Kept) (lines : List (List ℕ)) (r : Reader) (p : Preamble) (config : Config) → ReadsSettings lines r → p ≡ preamble_of r → config ≡ config_of r
-    → LabStandsFor k.lab (start (images_of p.images.items) (words_of p) config) → k.config ≡ config_of r → k.last ≡ None → IsNew k.debts → IsMadeOf k lines
+    → LabStandsFor k.lab (start (images_of p.images.items) (words_of p) config) → settings_of k ≡ config_of r → k.last ≡ None → IsNew k.debts → IsMadeOf k lines
 made k lines r p config reads is same stands settings last debts = record {
   script = reads.script;
   are = reads.are;
   stands = subst (λ (c : Config). LabStandsFor k.lab (start reads.script.images reads.script.words c)) (same ∙ reads.read.config)
       (subst (λ (w : Words). LabStandsFor k.lab (start reads.script.images w config)) (ap words_of is ∙ reads.words)
       (subst (λ (images : List Image). LabStandsFor k.lab (start images (words_of p) config)) (ap (λ (q : Preamble). images_of q.images.items) is ∙ reads.images) stands));
-  config = settings ∙ reads.read.config;
+  settings = settings ∙ reads.read.config;
   last = last;
   debts = debts;
 }

@@ -5,12 +5,14 @@ use Rattle.blob_lab_store.specs.declared.lab.Lab.{Lab}
 use Rattle.blob_script.specs.declared.reply.Reply.{Reply}
 use Rattle.blob_script.specs.Acts.{Act}
 use Rattle.blob_lab_store.specs.LabStands.{Performs}
+use Rattle.blob_script.specs.Lines.{line_of}
+use Rattle.blob_script.specs.Readers.{SaysCall}
 use Rattle.blob_script.specs.Replies.{reply_line}
 use Rattle.blob_draws.specs.declared.config.Config.{Config}
 use Rattle.blob_sessions.specs.declared.kept.Kept.{Kept}
 use Rattle.blob_sessions.specs.declared.ran.Ran.{Ran}
 use Rattle.blob_sessions.specs.declared.ran.TheConstants.{BAD_LINE}
-use Rattle.blob_sessions.specs.Sessions.{RunsLine, SaysCall, IsNoCall, IsTooLong, Makes, TellsAgain}
+use Rattle.blob_sessions.specs.Sessions.{RunsLine, IsNoCall, IsTooLong, Makes, TellsAgain, settings_of}
 
 performs_alike : (a b c d : Lab) (act : Act) (reply : Reply) → b ≡ a → d ≡ c → Performs b act reply c → Performs a act reply d
 performs_alike a b c d act reply before after p =
@@ -20,11 +22,11 @@ pub said_call : (o : Option LabCall) (call : LabCall) (P : LabCall → Type 0) �
 said_call None call P e h = absurd (cc)
 said_call (Some x) call P e h = let same : x ≡ call = cc e in subst P same h
 
-pub answered : (k asked made k' : Kept) (line : List ℕ) (act : Act) (ran : Ran) (old new : List ℕ) → SaysCall k.config line act asked.config → asked ≡ record k { config = asked.config } → (reply : Reply) → Makes asked act reply made
-    → made.config ≡ asked.config → TellsAgain made k' ran old new → RunsLine k k' line ran old new
+pub answered : (k asked made k' : Kept) (line : List ℕ) (act : Act) (ran : Ran) (old new : List ℕ) → SaysCall (settings_of k) (line_of line) act (settings_of asked) → asked ≡ record k { reader = asked.reader; begun = asked.begun } → (reply : Reply) → Makes asked act reply made
+    → settings_of made ≡ settings_of asked → TellsAgain made k' ran old new → RunsLine k k' line ran old new
 answered k asked made k' line act ran old new asks kept reply makes same tells =
-    let AskedWith : Config → Type 0 = λ c. SaysCall k.config line act c in
-    let asks' : SaysCall k.config line act k'.config = subst AskedWith (sym (ap (λ x. x.config) tells.same ∙ same)) asks in
+    let AskedWith : Config → Type 0 = λ c. SaysCall (settings_of k) (line_of line) act c in
+    let asks' : SaysCall (settings_of k) (line_of line) act (settings_of k') = subst AskedWith (sym (ap settings_of tells.same ∙ same)) asks in
     let makes' : Makes k act reply k' = record { performs = performs_alike k.lab asked.lab made.lab k'.lab act reply (ap (λ x. x.lab) kept) (ap (λ x. x.lab) tells.same) makes.performs; last = ap (λ x. x.last) tells.same ∙ makes.last; debts = ap (λ x. x.debts) tells.same ∙ makes.debts ∙ ap (λ x. x.debts) kept } in
     let known = tells.status in
     record {

@@ -2,7 +2,7 @@
 use Rattle.std.specs.Prelude.{◌≡◌, ℕ, List, Some}
 use Rattle.blob_script.specs.Acts.{Act}
 use Rattle.blob_script.specs.declared.reply.Reply.{Reply}
-use Rattle.blob_sessions.specs.Sessions.{Makes, OnHeld, kept_of}
+use Rattle.blob_sessions.specs.Sessions.{Makes, OnHeld, kept_of, settings_of}
 use Rattle.blob_sessions.specs.Typed.{IsNoTypedCall, typed_act, typed_reply, without_reply}
 use Rattle.blob_sessions.specs.declared.kept.Kept.{Kept}
 use Rattle.blob_sessions.specs.declared.ran.TheConstants.{BAD_CALL, CLOSED}
@@ -14,7 +14,7 @@ use Rattle.blob_sessions.specs.declared.typed.TypedReply.{TypedReply}
 pub record Applies (k k' : Kept) (asked : TypedCall) (partition name : List ℕ) (reply : TypedReply) : Type 0 where
   pub made : (reply.status ≡ BAD_CALL → ⊥) → (act : Act) × (last : Reply) × (typed_act asked partition name ≡ Some act) × Makes k act last k' × (reply ≡ typed_reply last)
   pub bad : reply.status ≡ BAD_CALL → IsNoTypedCall asked partition name × (k' ≡ k) × (reply ≡ without_reply BAD_CALL)
-  pub config : k'.config ≡ k.config
+  pub settings : settings_of k' ≡ settings_of k
 
 abbrev pub AppliesTo : Session → Session → TypedCall → List ℕ → List ℕ → TypedReply → Type 0
 AppliesTo before after asked partition name reply =

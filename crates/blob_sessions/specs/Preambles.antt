@@ -10,6 +10,7 @@ use Rattle.blob_lab_store.specs.LabStands.{LabStandsFor}
 use Rattle.blob_lab.specs.Scripts.{Script, lines_of, script_of, with_line}
 use Rattle.blob_lab_model.specs.States.{start}
 use Rattle.blob_sessions.specs.Debts.{IsNew}
+use Rattle.blob_sessions.specs.Sessions.{settings_of}
 use Rattle.blob_sessions.specs.declared.kept.Kept.{Kept}
 
 abbrev pub IsSetting : Act → Type 0
@@ -41,7 +42,7 @@ pub record IsMadeOf (k : Kept) (lines : List (List ℕ)) : Type 0 where
   pub script : Script
   pub are : AreSettings lines script
   pub stands : LabStandsFor k.lab (start script.images script.words script.config)
-  pub config : k.config ≡ script.config
+  pub settings : settings_of k ≡ script.config
   pub last : k.last ≡ None
   pub debts : IsNew k.debts
 

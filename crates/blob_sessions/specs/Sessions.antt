@@ -1,17 +1,14 @@
 -- What a session holds, and what its calls do to that.
 use Rattle.std.specs.Prelude.{◌≡◌, ◌≢◌, ◌⊎◌, ◌<◌, ◌≤◌, ◌^◌, ℕ, List, [], Bool, length, take, drop, Option, Some, None, IfSome, MatchOption}
 use Rattle.blob_draws.specs.declared.config.Config.{Config}
-use Rattle.blob_script.specs.declared.call.Call.{Call as LabCall}
-use Rattle.blob_script.specs.declared.script.setting.Setting.{Setting}
 use Rattle.blob_script.specs.declared.reply.Reply.{Reply}
 use Rattle.blob_script.specs.declared.reply.Reply.TheVariants as replies
-use Rattle.blob_script.specs.Acts as acts
-use Rattle.blob_script.specs.Acts.{Act, Through, Read, Write, act_of}
+use Rattle.blob_script.specs.Acts.{Act, Through, Read, Write}
 use Rattle.blob_lab_store.specs.LabStands.{Performs}
-use Rattle.blob_script.specs.Lines.{Blank, Configure, Call, line_of}
+use Rattle.blob_script.specs.Lines.{Blank, line_of}
+use Rattle.blob_script.specs.Readers.{SaysCall, config_of}
 use Rattle.blob_script.specs.Replies.{reply_line}
 use Rattle.blob_lab.specs.Scripts.{Script, with_line}
-use Rattle.blob_script.specs.Settings.{with_setting}
 use Rattle.blob_sessions.specs.Debts.{MakesDebtCall, no_debt}
 use Rattle.blob_sessions.specs.declared.debts.DebtCall.{DebtCall}
 use Rattle.blob_sessions.specs.declared.debts.DebtReply.{DebtReply}
@@ -29,17 +26,13 @@ pub record Makes (k : Kept) (act : Act) (reply : Reply) (k' : Kept) : Type 0 whe
   -- the registry isn't asked
   pub debts : k'.debts ≡ k.debts
 
--- with these settings the line says this call, and leaves these
-abbrev pub SaysCall : Config → List ℕ → Act → Config → Type 0
-SaysCall c line act d = ((line_of line ≡ Some (Call act)) × (d ≡ c)) ⊎ ((setting : Setting) × (line_of line ≡ Some (Configure setting)) × (d ≡ with_setting c setting) × (act ≡ acts.Configure d))
-
--- the same of a call of the program
-abbrev pub ReadsCall : Config → List ℕ → Config → LabCall → Type 0
-ReadsCall c line d call = SaysCall c line (act_of call) d
+-- the settings so far
+abbrev pub settings_of : Kept → Config
+settings_of k = config_of k.reader
 
 -- the call of a line was made, with a reply of which this holds
 abbrev pub Calls : Kept → List ℕ → Kept → (Reply → Type 0) → Type 0
-Calls k line k' P = (act : Act) × (reply : Reply) × SaysCall k.config line act k'.config × Makes k act reply k' × P reply
+Calls k line k' P = (act : Act) × (reply : Reply) × SaysCall (settings_of k) (line_of line) act (settings_of k') × Makes k act reply k' × P reply
 
 -- the call of a line was made and its reply is printed; or the line says nothing, and nothing was done
 abbrev pub PrintsReply : Kept → List ℕ → Kept → List ℕ → Type 0
@@ -88,7 +81,7 @@ pub record TellsAgain (k k' : Kept) (ran : Ran) (old new : List ℕ) : Type 0 wh
 pub record AnswersWrite (k k' : Kept) (handle offset : ℕ) (bytes : List ℕ) (sync : Bool) (status : ℕ) : Type 0 where
   pub done : status ≡ DONE → Makes k (Through handle (Write offset bytes sync)) replies.Done k'
   pub other : status ≡ OTHER_REPLY → (reply : Reply) × Makes k (Through handle (Write offset bytes sync)) reply k' × (reply ≢ replies.Done)
-  pub config : k'.config ≡ k.config
+  pub settings : settings_of k' ≡ settings_of k
   pub known : (status ≡ DONE) ⊎ (status ≡ OTHER_REPLY)
 
 -- a reply with these bytes, or with this number of bytes
@@ -104,7 +97,7 @@ HasLength reply len = ⊥
 pub record AnswersRead (k k' : Kept) (handle offset : ℕ) (status : ℕ) (old new : List ℕ) : Type 0 where
   pub done : status ≡ DONE → (reply : Reply) × Makes k (Through handle (Read offset (length old))) reply k' × RepliesBytes reply new
   pub other : status ≡ OTHER_REPLY → (reply : Reply) × Makes k (Through handle (Read offset (length old))) reply k' × (HasLength reply (length old) → ⊥) × (new ≡ old)
-  pub config : k'.config ≡ k.config
+  pub settings : settings_of k' ≡ settings_of k
   pub known : (status ≡ DONE) ⊎ (status ≡ OTHER_REPLY)
 
 -- without a reply

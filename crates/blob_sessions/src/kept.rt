@@ -1,13 +1,8 @@
 // A laboratory with what else its lines need.
-ghost use Rattle.std.specs.Prelude.{◌≡◌, Some, None, IfSome, IfNone, IfOk, OnErr};
+ghost use Rattle.std.specs.Prelude.{◌≡◌, true, Some, None, OnErr};
 ghost use Rattle.blob_script.specs.Acts.{act_of};
 ghost use Rattle.blob_script.specs.Lines.{Blank, line_of};
-ghost use Rattle.blob_script.specs.Settings.{with_setting};
-ghost use Rattle.blob_sessions.specs.Applying.{Applies};
-ghost use Rattle.blob_sessions.specs.Debts.{IsNew, MakesDebtCall};
-ghost use Rattle.blob_sessions.specs.Sessions.{RunsLine, AnswersRead, AnswersWrite, ReadsCall, IsNoCall, Makes, TellsAgain};
-ghost use Rattle.blob_sessions.specs.Typed.{IsNamed, last_reply};
-ghost use Rattle.blob_sessions.specs.Words.{TakesWords, TellsWordsLeft};
+ghost use Rattle.blob_script.specs.Readers.{IfCall, IfNoCall, SaysCall, config_of, has_begun};
 
 use crate::debts::{DebtCall, DebtReply, Debts};
 use crate::kinds::{ADMIT, OPEN, OPEN_LOOSE, REMOVE_BLOB, REMOVE_PARTITION, SCAN};
@@ -17,25 +12,26 @@ use crate::ran::{
 use crate::reply_text::{line_len, write_line};
 use crate::typed::{TypedCall, TypedReply, numbered_call, versions};
 use blob_faulty::Config;
-use blob_lab::script::{Line, RefusedLine, Setting, read_line};
+use blob_lab::script::{Reader, RefusedLine, read_line};
 use blob_lab::{Call, Lab, Reply};
-use blob_script::script::setting::copy_of;
 use std::alloc::Global;
 
-/// A laboratory, its settings, and the reply to its last call.
+/// A laboratory, the reader of its lines, and the reply to its last call.
 pub struct Kept {
     pub(crate) lab: Lab,
-    config: Config,
+    /// It has the settings so far, and counts no lines.
+    reader: Reader,
     pub(crate) last: Option<Reply>,
     /// A registry that no call of the laboratory changes.
     pub(crate) debts: Debts,
+    ghost begun: { has_begun reader ≡ true },
 }
 
 impl Drop for Kept {
     fn drop(self) {
         let Kept {
             lab,
-            config: _,
+            reader: _,
             last: _,
             debts,
         } = self;
@@ -45,15 +41,21 @@ impl Drop for Kept {
 }
 
 impl Kept {
+    ghost use Rattle.blob_sessions.specs.Applying.{Applies};
+    ghost use Rattle.blob_sessions.specs.Debts.{IsNew, MakesDebtCall};
+    ghost use Rattle.blob_sessions.specs.Sessions.{RunsLine, AnswersRead, AnswersWrite, IsNoCall, Makes, TellsAgain};
+    ghost use Rattle.blob_sessions.specs.Typed.{IsNamed, last_reply};
+    ghost use Rattle.blob_sessions.specs.Words.{TakesWords, TellsWordsLeft};
+
     pub fn new(alloc: Global, lab: Lab, config: Config) -> Kept
         ensures lab { result.lab ≡ lab }
-        ensures config { result.config ≡ config }
+        ensures config { config_of result.reader ≡ config }
         ensures last { result.last ≡ None }
         ensures debts { IsNew result.debts }
     {
         Kept {
             lab,
-            config,
+            reader: Reader::begun(alloc, config),
             last: None,
             debts: Debts::new(alloc),
         }
@@ -219,36 +221,24 @@ impl Kept {
 
     /// Reads the call of a line. Returns `None` if the line is empty or a comment.
     fn read_call(&mut self, alloc: Global, line: &[u8]) -> Result<Option<Call>, RefusedLine>
-        ensures call { IfOk result (λ read. IfSome read (ReadsCall self.old.config line.now self.new.config)) }
-        ensures blank { IfOk result (λ read. IfNone read (line_of line.now ≡ Some Blank)) }
+        ensures call { IfCall result (λ call.
+            SaysCall (config_of self.old.reader) (line_of line.now) (act_of call) (config_of self.new.reader)) }
+        ensures blank { IfNoCall result (line_of line.now ≡ Some Blank) }
         ensures bad { result ≡ Err RefusedLine.BadCall → IsNoCall line.now }
-        ensures nothing { IfOk result (λ read. IfNone read (self.new ≡ self.old)) }
+        ensures nothing { IfNoCall result (self.new ≡ self.old) }
         ensures err { OnErr result (self.new ≡ self.old) }
-        ensures kept { self.new ≡ record self.old { config = self.new.config } }
+        ensures kept { self.new ≡ record self.old { reader = self.new.reader; begun = self.new.begun } }
     {
-        match read_line(alloc, line)? {
-            Line::Call(call) => Ok(Some(call)),
-            Line::Configure(setting) => Ok(Some(self.configure(setting))),
-            Line::Blank => Ok(None),
-            Line::Image { .. } | Line::Words(_) | Line::Seed(_) => Err(RefusedLine::BadCall),
-        }
+        let line = read_line(alloc, line)?;
+        self.reader.take(line)
     }
 
     /// Makes a call, and keeps its reply.
     fn make(&mut self, call: &Call)
         ensures made { (reply : Reply) × Makes self.old (act_of call.now) reply self.new }
-        ensures config { self.new.config ≡ self.old.config }
+        ensures reader { self.new.reader ≡ self.old.reader }
     {
         let reply = self.lab.apply(call);
         self.last = Some(reply);
-    }
-
-    /// The call that hands the whole configuration so far on.
-    fn configure(&mut self, setting: Setting) -> Call
-        ensures whole { result ≡ Call.Configure (with_setting self.old.config setting) }
-        ensures kept { self.new ≡ record self.old { config = with_setting self.old.config setting } }
-    {
-        self.config = setting.apply(copy_of(&self.config));
-        Call::Configure(copy_of(&self.config))
     }
 }

@@ -1,5 +1,5 @@
-use Rattle.std.proofs.Common.{rules, ◌≡◌, ◌+◌, arith}
-use Rattle.blob_sessions.proofs.Adding.{bad_line, begins, goes_on_by}
+use Rattle.std.proofs.Common.{arith}
+use Rattle.blob_sessions.proofs.Adding.{begins, goes_on_by}
 use Rattle.blob_sessions.proofs.preamble.read.Goals as goal
 
 pub lines-init : goal.lines-init
