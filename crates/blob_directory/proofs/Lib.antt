@@ -5,4 +5,5 @@ pub mod Ranges
 pub mod Maps
 pub mod Sectors
 pub mod Walks
+pub mod Syncs
 pub mod Withins
