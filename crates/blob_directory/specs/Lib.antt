@@ -6,3 +6,4 @@ pub mod Sectors
 pub mod Profiles
 pub mod Syncs
 pub mod Wanted
+pub mod Settled
