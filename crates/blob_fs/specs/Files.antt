@@ -7,8 +7,10 @@ use Rattle.blob_directory.specs.declared.profile.Keeps.{Keeps}
 use Rattle.blob_directory.specs.declared.table.Table.{Table}
 use Rattle.blob_directory.specs.Names.{Edit, Names, Same, edited}
 use Rattle.blob_directory.specs.Tables.{bound}
+use Rattle.blob_directory.specs.Trees.{Finds}
 use Rattle.blob_journal.specs.declared.journaled.Journaled.{Journaled}
-use Rattle.blob_journal.specs.Journals.{FindsKept as finds_kept, FindsNames as finds_names, GivesNames as gives_names}
+use Rattle.blob_journal.specs.Currents.{Represents}
+use Rattle.blob_journal.specs.Journals.{FindsKept as finds_kept, FindsNames as finds_names, GivesNames as gives_names, store_of}
 use Rattle.blob_journal.specs.Keeping.{generator_in, table_in, with_generator as with_generator_in}
 
 -- the names, their journal and the store
@@ -61,6 +63,20 @@ FindsNames fs fs' = finds_names (journaled_of fs) (keeps_of fs) (names_of fs')
 abbrev pub FindsKept : {R : Type 0} → FileSystem R → Selections → FileSystem R → Type 0
 FindsKept fs kept fs' = finds_kept (journaled_of fs) kept (keeps_of fs) (names_of fs')
 
--- by every profile the journal gives the names that calls see
+-- whatever a crash keeps, the journal gives the names that calls see, by every profile
 abbrev pub GivesNames : {R : Type 0} → FileSystem R → Type 0
 GivesNames fs = gives_names (journaled_of fs)
+
+-- the store represents some files
+abbrev pub RepresentsFiles : {R : Type 0} → FileSystem R → Type 0
+RepresentsFiles fs = Represents (store_of (journaled_of fs))
+
+-- a crash found the names, and its journal gives them
+pub record IsRecovered {R : Type 0} (fs : FileSystem R) : Type 0 where
+  pub gives : GivesNames fs
+  pub told : Names
+  pub finds : Finds (names_of fs) told
+
+-- if the journal gave the names, a recovery finds those of them that the root reaches
+abbrev pub FindsAgain : {R : Type 0} → FileSystem R → FileSystem R → Type 0
+FindsAgain fs fs' = GivesNames fs → Finds (names_of fs') (names_of fs)
