@@ -1,5 +1,5 @@
 -- The names that a journal of settled sectors gives.
-use Rattle.std.proofs.Common.{◌≡◌, ℕ, zero, suc, ◌+◌, ◌-◌, ◌*◌, ◌/◌, ◌<◌, ◌≤◌, List, [], ◌∷◌, ◌++◌, Bool, true, false, Option, None, Some, Vec, Global, length, take, drop, get_or, is_some, append-nil, refl, sym, ap, ap₂, subst, ◌∙◌, ◌⊎◌, inl, inr, ⊎_elim, arith, map, append_assoc, length-append, replicate, if◌then◌else◌}
+use Rattle.std.proofs.Common.{◌≡◌, ℕ, ◌+◌, ◌*◌, ◌/◌, ◌<◌, List, [], ◌∷◌, ◌++◌, Bool, true, false, Option, None, Some, Vec, Global, length, take, drop, get_or, is_some, append-nil, refl, sym, ap, ap₂, subst, ◌∙◌, ◌⊎◌, inl, inr, ⊎_elim, arith, append_assoc, length-append, if◌then◌else◌}
 use Rattle.std.specs.List.{All, Contains}
 use Rattle.std.specs.Cmp.Lexicographic.{bytes_decides}
 use Rattle.std.specs.Str.{bytes_eq}
@@ -15,7 +15,7 @@ use Rattle.std.proofs.lemmas.List.Elements.{All-append, All-cons, All-contains, 
 use Rattle.blob_directory.specs.declared.edit.Binding.{Binding}
 use Rattle.blob_directory.specs.declared.profile.Keeps.{Keeps}
 use Rattle.blob_directory.specs.Checkpoints.{Bindings, FitSectors, bindings_in, settled_sectors}
-use Rattle.blob_directory.specs.Names.{Edit, Names, Same, all_edited, changed, edited, entry}
+use Rattle.blob_directory.specs.Names.{Edit, Names, Same, all_edited, changed, entry}
 use Rattle.blob_directory.specs.Tables.{HasName}
 use Rattle.blob_directory.specs.Profiles.{edits_of, found_in_all, kept_edits, names_told}
 use Rattle.blob_directory.specs.Sectors.{FitsSector, Found, edit_bytes, filled, found_in, sector_of}

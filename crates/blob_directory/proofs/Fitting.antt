@@ -1,20 +1,17 @@
 -- Each name that a journal gives fits in a sector.
-use Rattle.std.proofs.Common.{◌≡◌, ℕ, zero, suc, ◌+◌, ◌<◌, ◌≤◌, ◌/◌, ◌^◌, ◌∷◌, [], ◌++◌, List, Bool, true, false, ◌||◌, ◌&&◌, not, Option, None, Some, length, take, drop, get_or, refl, sym, ap, subst, ◌∙◌, ⊎_elim, arith, lit<, if◌then◌else◌, nat_eq, nat_lt, nat_le, length-drop}
+use Rattle.std.proofs.Common.{◌≡◌, ℕ, zero, suc, ◌+◌, ◌<◌, ◌≤◌, ◌/◌, ◌^◌, ◌∷◌, [], List, Bool, true, false, ◌||◌, ◌&&◌, not, None, Some, length, take, drop, get_or, sym, ap, subst, ◌∙◌, ⊎_elim, arith, lit<, nat_eq, nat_lt, nat_le, length-drop}
 use Rattle.std.specs.List.{All}
 use Rattle.std.specs.Cmp.Lexicographic.{bytes_decides}
 use Rattle.std.specs.Str.{bytes_eq}
 use Rattle.std.specs.Int.{w64, from_be_bytes}
 use Rattle.std.proofs.lemmas.Bool.{cases_Bool, cond-true, cond-false, and_parts, ltb-true, leb-true}
-use Rattle.std.proofs.lemmas.Bool.Decides.{nat_tests}
 use Rattle.std.proofs.lemmas.List.{length-take, length-take-le}
 use Rattle.std.proofs.lemmas.List.Elements.{All-drop, All-head, All-tail, All-take}
-use Rattle.blob_directory.specs.declared.edit.Binding.{Binding}
-use Rattle.blob_directory.specs.declared.edit.Kind.{Kind}
 use Rattle.blob_directory.specs.declared.profile.Keeps.{Keeps}
 use Rattle.blob_directory.specs.Checkpoints.{FitSectors}
 use Rattle.blob_directory.specs.Names.{Change, Edit, Names, all_edited, changed, edited}
 use Rattle.blob_directory.specs.Profiles.{edits_of, found_in_all, is_prefix, kept_edits, names_told}
-use Rattle.blob_directory.specs.Sectors.{Fits, FitsSector, Found, binding_told, change_told, edit_bytes, edit_told, found_in, has_change, inode_told, more_told, number_told}
+use Rattle.blob_directory.specs.Sectors.{FitsSector, Found, binding_told, change_told, edit_bytes, edit_told, found_in, has_change, inode_told, more_told, number_told}
 use Rattle.blob_directory.proofs.Sectors.{length-change_bytes, one_bytes}
 
 abbrev Small : List ℕ → Type 0

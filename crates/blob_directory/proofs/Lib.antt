@@ -4,5 +4,7 @@ pub mod Journals
 pub mod Ranges
 pub mod Maps
 pub mod Sectors
+pub mod Settled
 pub mod Walks
+pub mod Syncs
 pub mod Withins

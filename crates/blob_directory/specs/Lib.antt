@@ -4,3 +4,6 @@ pub mod Trees
 pub mod Checkpoints
 pub mod Sectors
 pub mod Profiles
+pub mod Syncs
+pub mod Wanted
+pub mod Settled

@@ -1,5 +1,6 @@
 //! Laws about the sectors of a journal, and about the names that are found.
 ghost use Rattle.blob_directory.specs.Sectors.{LostHasNone, NamesFit, RoundTrip};
+ghost use Rattle.blob_directory.specs.Settled.{SettledIsFound};
 ghost use Rattle.blob_directory.specs.Trees.{FindsAgain, FindsAll};
 
 /// The edit of the sector of an edit is that edit, settled or not. A lost sector, all zeros, has none. Every edit of one name or
@@ -15,4 +16,10 @@ pub fn sectors()
 pub fn found()
     ensures all { FindsAll }
     ensures again { FindsAgain }
+{}
+
+/// If a sector of a journal has a settled edit of an entry, and no sector behind it has an edit of that entry, the journal gives
+/// the entry what that edit makes of it: by every profile, whatever other sectors were lost.
+pub fn settled()
+    ensures { SettledIsFound }
 {}

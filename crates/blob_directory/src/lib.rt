@@ -10,6 +10,7 @@ pub mod sector;
 pub mod table;
 pub mod tree;
 pub mod unsettled;
+mod wanted;
 
 pub use edit::{Binding, Change, Edit, Kind};
 pub use profile::{Keeps, Profile, Settles};

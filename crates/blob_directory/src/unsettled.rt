@@ -1,6 +1,10 @@
 //! The edits that a crash may lose, and which of them a sync settles.
+ghost use Rattle.std.specs.Prelude.{◌≡◌, OnErr, OnOk};
+ghost use Rattle.blob_directory.specs.Syncs.{Marks, is_in, is_number, is_of, touches};
+
 use crate::edit::Edit;
 use crate::profile::Settles;
+use crate::wanted::choose;
 use std::alloc::{AllocError, Global};
 
 /// An edit that nothing settled.
@@ -25,13 +29,35 @@ pub struct About {
     pub other_directory: Option<u64>,
 }
 
+fn is_number(other: Option<u64>, number: u64) -> bool
+    ensures { result ≡ is_number other number }
+{
+    match other {
+        None => false,
+        Some(other) => other == number,
+    }
+}
+
 impl About {
-    fn is_of(&self, inode: u64) -> bool {
-        self.inode == inode || self.other == Some(inode)
+    /// Returns whether the edit changes a name of an inode.
+    pub(crate) fn is_of(&self, inode: u64) -> bool
+        ensures { result ≡ is_of inode self.now }
+    {
+        self.inode == inode || is_number(self.other, inode)
     }
 
-    fn is_in(&self, directory: u64) -> bool {
-        self.directory == directory || self.other_directory == Some(directory)
+    /// Returns whether the edit changes a name in a directory.
+    pub(crate) fn is_in(&self, directory: u64) -> bool
+        ensures { result ≡ is_in directory self.now }
+    {
+        self.directory == directory || is_number(self.other_directory, directory)
+    }
+
+    /// Returns whether it does one or the other.
+    pub(crate) fn touches(&self, number: u64) -> bool
+        ensures { result ≡ touches number self.now }
+    {
+        self.is_of(number) || self.is_in(number)
     }
 }
 
@@ -47,106 +73,19 @@ pub enum Synced {
     Directory(u64),
 }
 
-/// Marks the edits in a directory.
-fn want_in(edits: &mut [Unsettled], directory: u64) {
-    for i in 0..edits.len() {
-        let edit = &mut edits[i];
-        if edit.about.is_in(directory) {
-            edit.is_wanted = true;
-        }
-    }
-}
-
-/// Marks the edits up to a number.
-fn want_before(edits: &mut [Unsettled], number: u64) {
-    for i in 0..edits.len() {
-        let edit = &mut edits[i];
-        if edit.number < number {
-            edit.is_wanted = true;
-        }
-    }
-}
-
-/// Returns the number behind that of the last edit of an inode, or in a directory. 0 if there is none.
-fn behind_last(edits: &[Unsettled], inode: u64) -> u64 {
-    let mut behind = 0;
-    for edit in edits {
-        if edit.about.is_of(inode) || edit.about.is_in(inode) {
-            behind = edit.number.saturating_add(1);
-        }
-    }
-    behind
-}
-
-/// Marks the edits of an inode that aren't marked, and appends their directories.
-fn want_of(edits: &mut [Unsettled], inode: u64, next: &mut Vec<u64>) -> Result<(), AllocError> {
-    for i in 0..edits.len() {
-        let edit = &mut edits[i];
-        if !edit.is_wanted && edit.about.is_of(inode) {
-            edit.is_wanted = true;
-            next.push(edit.about.directory)?;
-            if let Some(other) = edit.about.other_directory {
-                next.push(other)?;
-            }
-        }
-    }
-    Ok(())
-}
-
-/// Marks the edits of an inode's names and, upward, those of the directories that have them.
-fn want_names(alloc: Global, edits: &mut [Unsettled], inode: u64) -> Result<(), AllocError> {
-    let mut next = Vec::new(alloc);
-    next.push(inode)?;
-    let most = edits.len().saturating_mul(2);
-    for _ in 0..=most {
-        let Some(inode) = next.pop() else {
-            break;
-        };
-        want_of(edits, inode, &mut next)?;
-    }
-    Ok(())
-}
-
-/// Marks the edits that a sync settles, and no other. Fails only if memory runs out.
+/// Marks the edits that a sync settles, and no other. Fails only if memory runs out, and then marks none.
 pub fn want(
     alloc: Global,
     edits: &mut [Unsettled],
     settles: Settles,
     synced: Synced,
-) -> Result<(), AllocError> {
-    for i in 0..edits.len() {
-        let edit = &mut edits[i];
-        edit.is_wanted = false;
-    }
-    match (settles, synced) {
-        (Settles::Own, Synced::File { .. }) => {}
-        (Settles::Own, Synced::Directory(directory)) => want_in(edits, directory),
-        (Settles::Names, Synced::File { inode, .. }) => want_names(alloc, edits, inode)?,
-        (Settles::Names, Synced::Directory(directory)) => {
-            want_names(alloc, edits, directory)?;
-            want_in(edits, directory);
-        }
-        (Settles::UpToLast, Synced::File { inode, grown, .. }) => {
-            let number = behind_last(edits, inode).max(grown);
-            want_before(edits, number);
-        }
-        (Settles::UpToLast, Synced::Directory(directory)) => {
-            let number = behind_last(edits, directory);
-            want_before(edits, number);
-        }
-        (
-            Settles::All,
-            Synced::File {
-                is_changed,
-                inode,
-                ..
-            },
-        ) => {
-            if is_changed || behind_last(edits, inode) > 0 {
-                want_before(edits, u64::MAX);
-            }
-        }
-        (Settles::All, Synced::Directory(_)) => want_before(edits, u64::MAX),
+) -> Result<(), AllocError>
+    ensures marks { OnOk result (Marks settles synced edits.old edits.new) }
+    ensures refused { OnErr result (edits.new ≡ edits.old) }
+{
+    let wanted = choose(alloc, edits, settles, synced)?;
+    for edit in edits.iter_mut() {
+        edit.is_wanted = wanted.has(edit);
     }
     Ok(())
 }

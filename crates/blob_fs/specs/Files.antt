@@ -1,14 +1,25 @@
 -- The names of a file system, and what its calls leave of them.
-use Rattle.std.specs.Prelude.{◌≡◌, ℕ}
+use Rattle.std.specs.Prelude.{◌≡◌, ℕ, Bool, Option, Some}
+use Rattle.std.specs.BTreeMap.{get}
+use Rattle.std.specs.Ordering.{nat_cmp}
 use Rattle.blob_draws.specs.declared.selections.Selections.{Selections}
 use Rattle.blob_fs.specs.declared.file_system.Descriptor.{Descriptor}
 use Rattle.blob_fs.specs.declared.file_system.FileSystem.{FileSystem}
+use Rattle.blob_fs.specs.declared.switches.Syncs.{Syncs}
+use Rattle.blob_fs.specs.declared.switches.Syncs.TheVariants.{Honest}
+use Rattle.blob_directory.specs.declared.profile.Settles.{Settles}
+use Rattle.blob_directory.specs.declared.profile.Settles.TheVariants.{All}
+use Rattle.blob_directory.specs.declared.unsettled.Synced.{Synced}
+use Rattle.blob_directory.specs.declared.unsettled.Synced.TheVariants as synced
 use Rattle.blob_directory.specs.declared.profile.Keeps.{Keeps}
 use Rattle.blob_directory.specs.declared.table.Table.{Table}
 use Rattle.blob_directory.specs.Names.{Edit, Names, Same, edited}
 use Rattle.blob_directory.specs.Tables.{bound}
+use Rattle.blob_directory.specs.Trees.{Finds}
 use Rattle.blob_journal.specs.declared.journaled.Journaled.{Journaled}
-use Rattle.blob_journal.specs.Journals.{FindsKept as finds_kept, FindsNames as finds_names, GivesNames as gives_names}
+use Rattle.blob_journal.specs.Currents.{Represents}
+use Rattle.blob_journal.specs.Journals.{FindsKept as finds_kept, FindsNames as finds_names, GivesNames as gives_names, store_of}
+use Rattle.blob_journal.specs.Settling.{KeepsJournal as keeps_journal, SettlesEdits as settles_edits}
 use Rattle.blob_journal.specs.Keeping.{generator_in, table_in, with_generator as with_generator_in}
 
 -- the names, their journal and the store
@@ -61,6 +72,67 @@ FindsNames fs fs' = finds_names (journaled_of fs) (keeps_of fs) (names_of fs')
 abbrev pub FindsKept : {R : Type 0} → FileSystem R → Selections → FileSystem R → Type 0
 FindsKept fs kept fs' = finds_kept (journaled_of fs) kept (keeps_of fs) (names_of fs')
 
--- by every profile the journal gives the names that calls see
+-- whatever a crash keeps, the journal gives the names that calls see, by every profile
 abbrev pub GivesNames : {R : Type 0} → FileSystem R → Type 0
 GivesNames fs = gives_names (journaled_of fs)
+
+-- the store represents some files
+abbrev pub RepresentsFiles : {R : Type 0} → FileSystem R → Type 0
+RepresentsFiles fs = Represents (store_of (journaled_of fs))
+
+-- a crash found the names, and its journal gives them
+pub record IsRecovered {R : Type 0} (fs : FileSystem R) : Type 0 where
+  pub gives : GivesNames fs
+  pub told : Names
+  pub finds : Finds (names_of fs) told
+
+-- if the journal gave the names, a recovery finds those of them that the root reaches
+abbrev pub FindsAgain : {R : Type 0} → FileSystem R → FileSystem R → Type 0
+FindsAgain fs fs' = GivesNames fs → Finds (names_of fs') (names_of fs)
+
+-- Which edits a sync settles.
+
+abbrev pub KeepsJournal : {R : Type 0} → FileSystem R → FileSystem R → Type 0
+KeepsJournal fs fs' = keeps_journal (journaled_of fs) (journaled_of fs')
+
+-- exactly those that a sync of this kind settles
+abbrev pub SettlesEdits : {R : Type 0} → Settles → Synced → FileSystem R → FileSystem R → Type 0
+SettlesEdits settles kind fs fs' = settles_edits settles kind (journaled_of fs) (journaled_of fs')
+
+abbrev pub settles_of : {R : Type 0} → FileSystem R → Settles
+settles_of fs = fs.options.profile.settles
+
+abbrev pub syncs_of : {R : Type 0} → FileSystem R → Syncs
+syncs_of fs = fs.options.syncs
+
+-- the same files, descriptors and options
+pub record SameFiles {R : Type 0} (fs fs' : FileSystem R) : Type 0 where
+  pub files : fs'.files ≡ fs.files
+  pub opens : fs'.opens ≡ fs.opens
+  pub options : fs'.options ≡ fs.options
+
+-- a sync of this file; when it last grew, and whether it has changed, isn't said
+pub record IsSyncOf (inode : ℕ) (kind : Synced) : Type 0 where
+  pub grown : ℕ
+  pub changed : Bool
+  pub is : kind ≡ synced.File inode grown changed
+
+-- the inode of an open descriptor
+abbrev pub inode_opened : {R : Type 0} → FileSystem R → Descriptor → Option ℕ
+inode_opened fs file = get nat_cmp fs.opens file.number
+
+-- a sync that doesn't lie settles the edits that the profile says of the descriptor's file
+pub record SyncsFile {R : Type 0} (fs : FileSystem R) (file : Descriptor) (fs' : FileSystem R) : Type 0 where
+  pub inode : ℕ
+  pub opened : inode_opened fs file ≡ Some inode
+  pub kind : Synced
+  pub is : IsSyncOf inode kind
+  pub settled : SettlesEdits (settles_of fs) kind fs fs'
+
+-- those of a directory
+abbrev pub SyncsDirectory : {R : Type 0} → FileSystem R → ℕ → FileSystem R → Type 0
+SyncsDirectory fs directory fs' = SettlesEdits (settles_of fs) (synced.Directory directory) fs fs'
+
+-- all
+abbrev pub SyncsAll : {R : Type 0} → FileSystem R → FileSystem R → Type 0
+SyncsAll fs fs' = SettlesEdits All (synced.Directory 0) fs fs'

@@ -1,10 +1,11 @@
 //! The crash, and the recovery after it.
 ghost use Rattle.std.specs.Prelude.{IfOk, OnErr, OnOk};
-ghost use Rattle.blob_fs.specs.Files.{FindsKept, GivesNames, KeepsNames};
+ghost use Rattle.blob_fs.specs.Files.{FindsKept, GivesNames, IsRecovered, KeepsNames, SameNames};
 
 use crate::error::FsError;
 use crate::file_system::FileSystem;
 use crate::places::find_places;
+use blob_directory::laws::found;
 use blob_faulty::Selections;
 use rand_core::Rng;
 
@@ -30,7 +31,7 @@ pub struct Crash {
 
 impl<R: Rng + Drop> FileSystem<R> {
     /// Crashes and recovers. The draws decide which unsynced bytes and which unsettled edits are kept. Then all is durable, and
-    /// every descriptor is stale. A file that no name reaches is gone.
+    /// every descriptor is stale. A file that no name reaches is gone. Another crash straight after it finds the same names.
     ///
     /// # Errors
     ///
@@ -39,8 +40,11 @@ impl<R: Rng + Drop> FileSystem<R> {
     pub fn crash(&mut self) -> Result<Crash, FsError>
         ensures found { IfOk result (λ crash. FindsKept self.old crash.rows self.new) }
         ensures gives { OnOk result (GivesNames self.new) }
+        ensures recovered { OnOk result (IsRecovered self.new) }
+        ensures again { OnOk result (IsRecovered self.old → SameNames self.old self.new) }
         ensures refused { OnErr result (KeepsNames self.old self.new) }
     {
+        found();
         let pending = self.pending_places()?;
         let mut places = Vec::with_capacity(self.alloc, pending.len())?;
         let rows = self.store.crash()?;

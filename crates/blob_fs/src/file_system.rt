@@ -1,6 +1,6 @@
 //! A file system over the fault wrapper.
 ghost use Rattle.std.specs.Prelude.{◌≡◌, None, Some, OnOk, OnErr, IfOk};
-ghost use Rattle.blob_fs.specs.Files.{KeepsNames, MakesEdit, SameNames, names_of};
+ghost use Rattle.blob_fs.specs.Files.{KeepsJournal, KeepsNames, MakesEdit, SameFiles, SameNames, names_of};
 ghost use Rattle.blob_directory.specs.Names.{Same, edit_of, entry};
 
 use crate::error::FsError;
@@ -143,7 +143,9 @@ impl<R: Rng + Drop> FileSystem<R> {
 
     /// Refuses calls after a recovery that ran out of memory, and lets the wrapper draw the faults of files.
     pub(crate) fn begin_call(&mut self) -> Result<(), FsError>
-        ensures { KeepsNames self.old self.new }
+        ensures names { KeepsNames self.old self.new }
+        ensures journal { OnOk result (KeepsJournal self.old self.new) }
+        ensures files { SameFiles self.old self.new }
     {
         if self.is_down {
             return Err(FsError::Crashed);

@@ -1,5 +1,6 @@
 //! Open files: their bytes and sizes.
-ghost use Rattle.blob_fs.specs.Files.{KeepsNames};
+ghost use Rattle.std.specs.Prelude.{◌≡◌, IfOk, Some};
+ghost use Rattle.blob_fs.specs.Files.{KeepsNames, inode_opened};
 
 use crate::error::FsError;
 use crate::file_system::{Descriptor, File, FileSystem};
@@ -82,7 +83,9 @@ impl<R: Rng + Drop> FileSystem<R> {
     /// # Errors
     ///
     /// `Stale`.
-    pub fn inode_of(&self, file: Descriptor) -> Result<u64, FsError> {
+    pub fn inode_of(&self, file: Descriptor) -> Result<u64, FsError>
+        ensures { IfOk result (λ inode. inode_opened self.now file ≡ Some inode) }
+    {
         match self.opens.get(&file.number) {
             None => Err(FsError::Stale),
             Some(inode) => Ok(*inode),

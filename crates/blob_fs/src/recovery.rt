@@ -1,14 +1,15 @@
 //! The recovery: the names from the journal, and the files from their blobs.
 ghost use Rattle.std.specs.Prelude.{◌≡◌, OnOk, OnErr};
-ghost use Rattle.blob_fs.specs.Files.{FindsNames, GivesNames, KeepsNames};
-ghost use Rattle.blob_journal.specs.Journals.{GivesNames as gives_names};
+ghost use Rattle.blob_fs.specs.Files.{FindsAgain, FindsNames, GivesNames, KeepsNames, RepresentsFiles};
+ghost use Rattle.blob_journal.specs.Currents.{KeepsFiles};
+ghost use Rattle.blob_journal.specs.Journals.{GivesNames as gives_names, KeepsFilesOf, store_of};
 ghost use Rattle.blob_journal.specs.Keeping.{KeepsTable};
 
 use crate::error::FsError;
 use crate::file_system::{File, FileSystem};
 use blob_base::Error;
 use blob_directory::tree::Tree;
-use blob_journal::Journaled;
+use blob_journal::{FileBlob, Journaled};
 use rand_core::Rng;
 use std::alloc::Global;
 use std::collections::BTreeMap;
@@ -32,6 +33,60 @@ fn used_by(files: &BTreeMap<u64, File>) -> u64 {
     used
 }
 
+/// Cuts a file to a length, durably.
+fn cut_to<R: Rng + Drop>(
+    store: &mut Journaled<R>,
+    blob: &mut FileBlob,
+    length: u64,
+) -> Result<(), Error>
+    ensures names { KeepsTable store.old store.new }
+    ensures files { KeepsFilesOf blob.old store.old store.new }
+{
+    store.resize_file(blob, length)?;
+    store.sync_file(blob)?;
+    Ok(())
+}
+
+/// Cuts what a crash left of a file at its first byte beyond the synced size that was lost.
+fn cut<R: Rng + Drop>(
+    store: &mut Journaled<R>,
+    blob: &mut FileBlob,
+    old: &File,
+) -> Result<(), Error>
+    ensures names { KeepsTable store.old store.new }
+    ensures files { KeepsFilesOf blob.old store.old store.new }
+{
+    let size = blob.size();
+    if size <= old.synced {
+        return Ok(());
+    }
+    let found = store.read_whole(blob)?;
+    let live = store.read_whole(&old.blob)?;
+    let length = kept_length(&found, &live, old.synced as usize) as u64;
+    if length >= size {
+        return Ok(());
+    }
+    cut_to(store, blob, length)
+}
+
+/// Opens the blob of what a crash left of a file, and cuts it if the profile does.
+fn open_left<R: Rng + Drop>(
+    store: &mut Journaled<R>,
+    inode: u64,
+    old: &File,
+    cuts: bool,
+) -> Result<FileBlob, Error>
+    ensures names { KeepsTable store.old store.new }
+    ensures files { KeepsFiles (store_of store.old) (store_of store.new) }
+{
+    let mut blob = store.open_file(inode)?;
+    if !cuts {
+        return Ok(blob);
+    }
+    cut(store, &mut blob, old)?;
+    Ok(blob)
+}
+
 /// Opens what a crash left of a file.
 fn reopen<R: Rng + Drop>(
     store: &mut Journaled<R>,
@@ -40,19 +95,10 @@ fn reopen<R: Rng + Drop>(
     links: u32,
     cuts: bool,
 ) -> Result<File, Error>
-    ensures { KeepsTable store.old store.new }
+    ensures names { KeepsTable store.old store.new }
+    ensures files { KeepsFiles (store_of store.old) (store_of store.new) }
 {
-    let mut blob = store.open_file(inode)?;
-    let size = blob.size();
-    if cuts && size > old.synced {
-        let found = store.read_whole(&blob)?;
-        let live = store.read_whole(&old.blob)?;
-        let length = kept_length(&found, &live, old.synced as usize) as u64;
-        if length < size {
-            store.resize_file(&mut blob, length)?;
-            store.sync_file(&mut blob)?;
-        }
-    }
+    let blob = open_left(store, inode, old, cuts)?;
     let synced = blob.size();
     let mut file = File::new(blob);
     file.links = links;
@@ -68,7 +114,8 @@ fn reopen_all<R: Rng + Drop>(
     tree: &Tree,
     cuts: bool,
 ) -> Result<BTreeMap<u64, File>, FsError>
-    ensures { KeepsTable store.old store.new }
+    ensures names { KeepsTable store.old store.new }
+    ensures files { KeepsFiles (store_of store.old) (store_of store.new) }
 {
     let mut files = BTreeMap::new(alloc);
     for (inode, old) in old {
@@ -100,7 +147,8 @@ impl<R: Rng + Drop> FileSystem<R> {
     /// Recovers after a crash of the layer. Returns of each unsettled edit whether it was kept.
     pub(crate) fn recover(&mut self) -> Result<Vec<bool>, FsError>
         ensures found { OnOk result (FindsNames self.old self.new) }
-        ensures gives { OnOk result (GivesNames self.new) }
+        ensures gives { OnOk result (RepresentsFiles self.old → GivesNames self.new) }
+        ensures again { OnOk result (FindsAgain self.old self.new) }
         ensures refused { OnErr result (KeepsNames self.old self.new) }
     {
         let (tree, edits) = self.store.find_names(self.options.profile.keeps)?;

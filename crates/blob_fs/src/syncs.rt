@@ -1,5 +1,7 @@
 //! Syncs of files and of directories.
-ghost use Rattle.blob_fs.specs.Files.{KeepsNames};
+ghost use Rattle.std.specs.Prelude.{◌≡◌, IfOk, OnOk};
+ghost use Rattle.blob_fs.specs.declared.switches.Syncs.TheVariants.{Honest};
+ghost use Rattle.blob_fs.specs.Files.{IsSyncOf, KeepsJournal, KeepsNames, SettlesEdits, SyncsAll, SyncsDirectory, SyncsFile, syncs_of};
 
 use crate::error::FsError;
 use crate::file_system::{Descriptor, FileSystem};
@@ -7,33 +9,48 @@ use crate::switches::{FailedSync, Syncs};
 use blob_base::Error;
 use blob_directory::profile::Settles;
 use blob_directory::unsettled::Synced;
+use blob_journal::laws::settling;
 use rand_core::Rng;
 
 impl<R: Rng + Drop> FileSystem<R> {
     /// Settles the edits that a sync settles by the profile.
     fn settle_by(&mut self, settles: Settles, synced: Synced) -> Result<(), FsError>
-        ensures { KeepsNames self.old self.new }
+        ensures names { KeepsNames self.old self.new }
+        ensures settled { OnOk result (SettlesEdits settles synced self.old self.new) }
     {
+        settling::<R>();
         self.store.settle(settles, synced)?;
         self.remove_gone();
         Ok(())
     }
 
+    /// Returns what a sync of a file is, by what the file is before it.
+    fn sync_of(&self, inode: u64) -> Result<Synced, FsError>
+        ensures { IfOk result (λ kind. IsSyncOf inode kind) }
+    {
+        let Some(file) = self.files.get(&inode) else {
+            return Err(FsError::Stale);
+        };
+        Ok(Synced::File {
+            inode,
+            grown: file.grown,
+            is_changed: file.is_changed,
+        })
+    }
+
     /// Syncs an inode's bytes. Returns what is needed to choose the edits that this settles.
     fn sync_bytes(&mut self, inode: u64) -> Result<Synced, FsError>
-        ensures { KeepsNames self.old self.new }
+        ensures names { KeepsNames self.old self.new }
+        ensures journal { OnOk result (KeepsJournal self.old self.new) }
+        ensures file { IfOk result (λ kind. IsSyncOf inode kind) }
     {
+        let synced = self.sync_of(inode)?;
         let Some(file) = self.files.get_mut(&inode) else {
             return Err(FsError::Stale);
         };
         if let Err(error) = self.store.sync_file(&mut file.blob) {
-            return self.fail_sync(inode, error);
+            return Err(self.fail_sync(inode, error));
         }
-        let synced = Synced::File {
-            inode,
-            grown: file.grown,
-            is_changed: file.is_changed,
-        };
         file.synced = file.blob.size();
         file.is_changed = false;
         file.is_truncated = false;
@@ -41,13 +58,15 @@ impl<R: Rng + Drop> FileSystem<R> {
     }
 
     /// Returns the error of a sync of a file's bytes that failed. If the options say so, the bytes are dropped.
-    fn fail_sync(&mut self, inode: u64, error: Error) -> Result<Synced, FsError>
+    fn fail_sync(&mut self, inode: u64, error: Error) -> FsError
         ensures { KeepsNames self.old self.new }
     {
         if self.options.failed_sync == FailedSync::Drops && matches!(error, Error::Injected) {
-            self.drop_unsynced(inode)?;
+            if let Err(error) = self.drop_unsynced(inode) {
+                return error;
+            }
         }
-        Err(FsError::Store(error))
+        FsError::Store(error)
     }
 
     /// Says that a file has changed since its last sync.
@@ -66,19 +85,24 @@ impl<R: Rng + Drop> FileSystem<R> {
     /// `Stale`, `Injected` of the layer's sync, `Memory`. The names and bytes that the calls see stay. Some of the edits may be
     /// settled. After `Injected` with `FailedSync::Drops`, what was unsynced is dropped.
     pub fn sync(&mut self, file: Descriptor) -> Result<(), FsError>
-        ensures { KeepsNames self.old self.new }
+        ensures names { KeepsNames self.old self.new }
+        ensures settled { OnOk result (syncs_of self.old ≡ Honest → SyncsFile self.old file self.new) }
     {
+        settling::<R>();
         self.begin_call()?;
         let inode = self.inode_of(file)?;
         if self.options.syncs == Syncs::Lie {
             return Ok(());
         }
+        let settles = self.options.profile.settles;
         let synced = self.sync_bytes(inode)?;
-        let settled = self.settle_by(self.options.profile.settles, synced);
-        if settled.is_err() {
-            self.touch(inode);
+        match self.settle_by(settles, synced) {
+            Ok(()) => Ok(()),
+            Err(error) => {
+                self.touch(inode);
+                Err(error)
+            }
         }
-        settled
     }
 
     /// Makes a file's bytes and size durable. Settles the edits of a `sync` if the file's size changed since its last
@@ -120,8 +144,10 @@ impl<R: Rng + Drop> FileSystem<R> {
     ///
     /// `NotDirectory`, `NotFound`, `Memory`. Some of the edits may be settled.
     pub fn sync_directory_at(&mut self, directory: u64) -> Result<(), FsError>
-        ensures { KeepsNames self.old self.new }
+        ensures names { KeepsNames self.old self.new }
+        ensures settled { OnOk result (syncs_of self.old ≡ Honest → SyncsDirectory self.old directory self.new) }
     {
+        settling::<R>();
         self.begin_call()?;
         if self.files.contains_key(&directory) {
             return Err(FsError::NotDirectory);
@@ -132,12 +158,14 @@ impl<R: Rng + Drop> FileSystem<R> {
         if self.options.syncs == Syncs::Lie {
             return Ok(());
         }
-        self.settle_by(self.options.profile.settles, Synced::Directory(directory))
+        self.settle_by(self.options.profile.settles, Synced::Directory(directory))?;
+        Ok(())
     }
 
     /// Settles all edits.
     fn settle_names(&mut self) -> Result<(), FsError>
-        ensures { KeepsNames self.old self.new }
+        ensures names { KeepsNames self.old self.new }
+        ensures settled { OnOk result (SyncsAll self.old self.new) }
     {
         self.settle_by(Settles::All, Synced::Directory(0))
     }
@@ -148,8 +176,10 @@ impl<R: Rng + Drop> FileSystem<R> {
     ///
     /// `Injected` of the layer's syncs, `Memory`. What was done until then stays.
     pub fn sync_all(&mut self) -> Result<(), FsError>
-        ensures { KeepsNames self.old self.new }
+        ensures names { KeepsNames self.old self.new }
+        ensures settled { OnOk result (syncs_of self.old ≡ Honest → SyncsAll self.old self.new) }
     {
+        settling::<R>();
         self.begin_call()?;
         if self.options.syncs == Syncs::Lie {
             return Ok(());
@@ -158,7 +188,8 @@ impl<R: Rng + Drop> FileSystem<R> {
         for inode in &inodes {
             self.sync_bytes(*inode)?;
         }
-        self.settle_names()
+        self.settle_names()?;
+        Ok(())
     }
 
     fn inodes(&self) -> Result<Vec<u64>, FsError> {

@@ -1,8 +1,9 @@
 //! Files that no name and no descriptor refers to.
-ghost use Rattle.blob_fs.specs.Files.{KeepsNames};
+ghost use Rattle.blob_fs.specs.Files.{KeepsJournal, KeepsNames};
 
 use crate::file_system::FileSystem;
 use blob_faulty::Config;
+use blob_journal::laws::settling;
 use rand_core::Rng;
 
 /// A file that is gone. A crash that loses an edit from before that may find it again.
@@ -33,8 +34,10 @@ impl<R: Rng + Drop> FileSystem<R> {
 
     /// Removes the files that are gone, if all edits from before that are settled. Makes no draw.
     pub(crate) fn remove_gone(&mut self)
-        ensures { KeepsNames self.old self.new }
+        ensures names { KeepsNames self.old self.new }
+        ensures journal { KeepsJournal self.old self.new }
     {
+        settling::<R>();
         let settled = self.store.oldest_unsettled().unwrap_or(u64::MAX);
         for i in 0..self.gone.len() {
             let Some(gone) = self.gone.get(i).copied() else {
@@ -50,8 +53,10 @@ impl<R: Rng + Drop> FileSystem<R> {
 
     /// Removes a file and its blob. If memory is refused, the blob stays until the next crash.
     pub(crate) fn remove_file(&mut self, inode: u64)
-        ensures { KeepsNames self.old self.new }
+        ensures names { KeepsNames self.old self.new }
+        ensures journal { KeepsJournal self.old self.new }
     {
+        settling::<R>();
         self.store.set_config(Config::default());
         self.files.remove(&inode);
         let _ = self.store.remove_file(inode);

@@ -1,2 +1,5 @@
 pub mod Currents
 pub mod Overlays
+pub mod Standing
+pub mod Settling
+pub mod Kept

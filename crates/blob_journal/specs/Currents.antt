@@ -1,11 +1,15 @@
 -- What calls leave of a store's current incarnations.
-use Rattle.std.specs.Prelude.{◌≡◌, ◌&&◌, [], List, ℕ, Some, false, true}
+use Rattle.std.specs.Prelude.{◌≡◌, ◌&&◌, ◌<◌, [], List, ℕ, Option, Some, false, option_map, true}
 use Rattle.std.specs.Str.{bytes_eq}
 use Rattle.blob_model.specs.Directory.{is_current}
+use Rattle.blob_model.specs.Files.{Files}
+use Rattle.blob_model.specs.Log.{Choices}
+use Rattle.blob_model.specs.Pending.{Pending}
 use Rattle.blob_model.specs.Places.{Place}
 use Rattle.blob_memory.specs.Store.{directory, durable}
-use Rattle.blob_faulty.specs.Keeps.{OverMemory}
-use Rattle.blob_faulty.specs.Wrapper.{inner_of}
+use Rattle.blob_faulty.specs.Keeps.{IsFor, OverMemory}
+use Rattle.blob_faulty.specs.Outcomes.{left_of}
+use Rattle.blob_faulty.specs.Wrapper.{inner_of, pending_of}
 
 -- an incarnation that was current still is
 abbrev pub KeepsCurrent : {R : Type 0} → OverMemory R → OverMemory R → Type 0
@@ -27,3 +31,50 @@ KeepsBytes p n before after = (o : Place) → (bytes_eq p o.partition && bytes_e
 -- an incarnation without durable bytes has these from then on
 abbrev pub BeginsAs : {R : Type 0} → Place → List ℕ → OverMemory R → OverMemory R → Type 0
 BeginsAs o bytes before after = durable (inner_of before) o ≡ Some [] → durable (inner_of after) o ≡ Some bytes
+
+-- the store represents some files
+abbrev pub Represents : {R : Type 0} → OverMemory R → Type 0
+Represents store = (files : Files) × IsFor store files
+
+-- if it did, it still does
+abbrev pub KeepsFiles : {R : Type 0} → OverMemory R → OverMemory R → Type 0
+KeepsFiles before after = Represents before → Represents after
+
+-- the number of an incarnation was given in this store
+abbrev pub IsGiven : {R : Type 0} → OverMemory R → Place → Type 0
+IsGiven store o = o.number < (directory (inner_of store)).next
+
+-- what is pending of an incarnation
+abbrev pub pending_at : {R : Type 0} → OverMemory R → Place → List Pending
+pending_at store o = pending_of (λ o. o) store o
+
+-- nothing is pending that was not, and nothing is settled
+abbrev pub SamePending : {R : Type 0} → OverMemory R → OverMemory R → Type 0
+SamePending before after = (o : Place) → pending_at after o ≡ pending_at before o
+
+-- the same of any other name
+abbrev pub KeepsPending : {R : Type 0} → List ℕ → List ℕ → OverMemory R → OverMemory R → Type 0
+KeepsPending p n before after = (o : Place) → (bytes_eq p o.partition && bytes_eq n o.name) ≡ false → pending_at after o ≡ pending_at before o
+
+-- what a crash with these choices leaves of an incarnation
+abbrev pub left_at : {R : Type 0} → OverMemory R → Choices → Place → Option (List ℕ)
+left_at store t o = left_of (λ o. o) durable store t o
+
+-- whatever a crash leaves of the incarnation is what it would have left before, changed so
+abbrev pub LeftAs : {R : Type 0} → OverMemory R → OverMemory R → Place → (List ℕ → List ℕ) → Type 0
+LeftAs before after o change = (t : Choices) → left_at after t o ≡ option_map change (left_at before t o)
+
+-- these bytes are durable, and every crash leaves them
+pub record IsFixed {R : Type 0} (store : OverMemory R) (o : Place) (bytes : List ℕ) : Type 0 where
+  pub durable : durable (inner_of store) o ≡ Some bytes
+  pub left : (t : Choices) → left_at store t o ≡ Some bytes
+
+-- an incarnation with nothing durable and nothing pending
+pub record IsEmpty {R : Type 0} (store : OverMemory R) (o : Place) : Type 0 where
+  pub current : is_current (directory (inner_of store)) o ≡ true
+  pub durable : durable (inner_of store) o ≡ Some []
+  pub pending : pending_at store o ≡ []
+
+-- has these bytes from then on
+abbrev pub FixesBytes : {R : Type 0} → Place → List ℕ → OverMemory R → OverMemory R → Type 0
+FixesBytes o bytes before after = Represents before → IsEmpty before o → IsFixed after o bytes

@@ -7,15 +7,17 @@ use Rattle.blob_model.specs.Places.{Place}
 use Rattle.blob_model.specs.Stands.{replayed_at}
 use Rattle.blob_draws.specs.Rows.{table_of}
 use Rattle.blob_draws.specs.declared.selections.Selections.{Selections}
-use Rattle.blob_memory.specs.Store.{directory, durable}
+use Rattle.blob_memory.specs.Store.{directory, durable, place}
 use Rattle.blob_faulty.specs.Keeps.{OverMemory}
-use Rattle.blob_faulty.specs.Wrapper.{inner_of, pending_of}
+use Rattle.blob_faulty.specs.Wrapper.{inner_of, inside, pending_of}
 use Rattle.blob_directory.specs.Checkpoints.{Gives}
 use Rattle.blob_directory.specs.Names.{Names}
 use Rattle.blob_directory.specs.Profiles.{names_told}
 use Rattle.blob_directory.specs.Trees.{Finds}
 use Rattle.blob_directory.specs.declared.profile.Keeps.{Keeps}
 use Rattle.blob_journal.specs.declared.journaled.Journaled.{Journaled}
+use Rattle.blob_journal.specs.declared.store.FileBlob.{FileBlob}
+use Rattle.blob_journal.specs.Currents.{IsFixed, IsGiven, KeepsFiles}
 use Rattle.blob_journal.specs.Keeping.{names_in}
 
 -- the journal of a generation: the durable bytes of its blob
@@ -52,8 +54,30 @@ pub record FindsKept {R : Type 0} (j : Journaled R) (kept : Selections) (keeps :
 abbrev pub CrashKeeps : {R : Type 0} → Journaled R → Selections → Journaled R → Type 0
 CrashKeeps j kept j' = (keeps : Keeps) (names : Names) → FindsNames j' keeps names → FindsKept j kept keeps names
 
--- by every profile the journal gives the names that calls see
+-- the journal of a generation, of which nothing is pending: every crash leaves its durable bytes
+pub record IsFixedJournal {R : Type 0} (store : OverMemory R) (generation : ℕ) (bytes : List ℕ) : Type 0 where
+  pub place : Place
+  pub current : current (directory (inner_of store)) (codes "j") (to_be_bytes w64 generation) ≡ Some place
+  pub fixed : IsFixed store place bytes
+
+-- whatever a crash keeps, the journal gives the names that calls see, by every profile
 pub record GivesNames {R : Type 0} (j : Journaled R) : Type 0 where
   pub journal : List ℕ
-  pub is : IsJournal (store_of j) (generation_of j) journal
+  pub is : IsFixedJournal (store_of j) (generation_of j) journal
   pub gives : Gives journal (names_in j)
+
+-- the file's blob was opened in this store
+abbrev pub HasFile : {R : Type 0} → Journaled R → FileBlob → Type 0
+HasFile j file = IsGiven (store_of j) (place (inside file.blob))
+
+-- each file that was still is
+abbrev pub KeepsGiven : {R : Type 0} → Journaled R → Journaled R → Type 0
+KeepsGiven j j' = (file : FileBlob) → HasFile j file → HasFile j' file
+
+-- after a call on a file
+abbrev pub KeepsFile : {R : Type 0} → FileBlob → Journaled R → FileBlob → Journaled R → Type 0
+KeepsFile file j file' j' = HasFile j file → HasFile j' file'
+
+-- if the file's blob was opened in this store, and the store represented some files, it still does
+abbrev pub KeepsFilesOf : {R : Type 0} → FileBlob → Journaled R → Journaled R → Type 0
+KeepsFilesOf file j j' = HasFile j file → KeepsFiles (store_of j) (store_of j')

@@ -1,3 +1,4 @@
 pub mod Currents
 pub mod Journals
 pub mod Keeping
+pub mod Settling

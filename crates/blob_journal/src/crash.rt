@@ -1,5 +1,5 @@
 //! The crash of the store.
-ghost use Rattle.std.specs.Prelude.{IfOk};
+ghost use Rattle.std.specs.Prelude.{IfOk, OnOk};
 
 use crate::journaled::Journaled;
 use blob_base::Error;
@@ -7,7 +7,8 @@ use blob_faulty::Selections;
 use rand_core::Rng;
 
 impl<R: Rng + Drop> Journaled<R> {
-    ghost use Rattle.blob_journal.specs.Journals.{CrashKeeps};
+    ghost use Rattle.blob_journal.specs.Currents.{Represents};
+    ghost use Rattle.blob_journal.specs.Journals.{CrashKeeps, GivesNames, store_of};
     ghost use Rattle.blob_journal.specs.Keeping.{KeepsTable};
 
     /// Crashes the store. The draws decide which unsynced bytes and which unsettled edits are kept. Handles keep their live
@@ -18,8 +19,11 @@ impl<R: Rng + Drop> Journaled<R> {
     /// `Memory`. Nothing has changed except the generator.
     pub fn crash(&mut self) -> Result<Selections, Error>
         ensures kept { IfOk result (λ rows. CrashKeeps self.old rows self.new) }
+        ensures files { OnOk result (Represents (store_of self.new)) }
+        ensures gives { OnOk result (GivesNames self.old → GivesNames self.new) }
         ensures names { KeepsTable self.old self.new }
     {
-        self.store.crash()
+        let rows = self.store.crash()?;
+        Ok(rows)
     }
 }

@@ -4,6 +4,7 @@ ghost use Rattle.blob_memory.specs.Store.{place};
 ghost use Rattle.blob_faulty.specs.Wrapper.{inside};
 ghost use Rattle.blob_directory.specs.Names.{Same, edit_of};
 ghost use Rattle.blob_journal.specs.Currents.{SameDirectory};
+ghost use Rattle.blob_journal.specs.Settling.{Changes, all_settled};
 
 use crate::journal::Journal;
 use crate::journaled::Journaled;
@@ -27,6 +28,7 @@ fn settle_marked<R: Rng>(
     ensures place { place (inside journal.new.blob) ≡ place (inside journal.old.blob) }
     ensures generation { journal.new.generation ≡ journal.old.generation }
     ensures directory { SameDirectory store.old store.new }
+    ensures settled { OnOk result (Changes store.old store.new (place (inside journal.old.blob)) (all_settled edits.now)) }
 {
     for edit in edits {
         if edit.is_wanted {
@@ -37,6 +39,7 @@ fn settle_marked<R: Rng>(
 }
 
 impl<R: Rng + Drop> Journaled<R> {
+    ghost use Rattle.blob_journal.specs.Settling.{KeepsJournal, SettlesEdits};
     ghost use Rattle.blob_journal.specs.Keeping.{AddsSector, Edits, KeepsTable, SameBindings, generator_in, names_in, table_in, with_generator};
 
     /// Returns no names over a new store, with faults drawn from the generator.
@@ -83,7 +86,8 @@ impl<R: Rng + Drop> Journaled<R> {
 
     /// Replaces the fault rates of calls on files. What is pending keeps the mode and the rate of its issue.
     pub fn set_config(&mut self, config: Config)
-        ensures { KeepsTable self.old self.new }
+        ensures names { KeepsTable self.old self.new }
+        ensures journal { KeepsJournal self.old self.new }
     {
         self.store.set_config(config);
     }
@@ -141,7 +145,8 @@ impl<R: Rng + Drop> Journaled<R> {
     ///
     /// `Memory`, `OffsetOverflow`. Some of the edits may be settled.
     pub fn settle(&mut self, settles: Settles, synced: Synced) -> Result<(), Error>
-        ensures { KeepsTable self.old self.new }
+        ensures names { KeepsTable self.old self.new }
+        ensures settled { OnOk result (SettlesEdits settles synced self.old self.new) }
     {
         want(self.alloc, &mut self.unsettled, settles, synced)?;
         settle_marked(

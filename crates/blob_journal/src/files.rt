@@ -1,5 +1,5 @@
 //! The blobs of files, beside the journal.
-ghost use Rattle.std.specs.Prelude.{◌≡◌};
+ghost use Rattle.std.specs.Prelude.{◌≡◌, IfOk};
 ghost use Rattle.blob_faulty.specs.Wrapper.{size_of};
 
 use crate::journaled::Journaled;
@@ -17,8 +17,10 @@ impl FileBlob {
 }
 
 impl<R: Rng + Drop> Journaled<R> {
-    ghost use Rattle.blob_journal.specs.Journals.{GivesNames};
+    ghost use Rattle.blob_journal.specs.Currents.{KeepsFiles};
+    ghost use Rattle.blob_journal.specs.Journals.{GivesNames, HasFile, KeepsFile, KeepsFilesOf, KeepsGiven, store_of};
     ghost use Rattle.blob_journal.specs.Keeping.{KeepsTable};
+    ghost use Rattle.blob_journal.specs.Settling.{KeepsJournal};
 
     /// Opens the blob of a file's number. A missing one is created, empty.
     ///
@@ -26,7 +28,9 @@ impl<R: Rng + Drop> Journaled<R> {
     ///
     /// Those of the layer's open.
     pub fn open_file(&mut self, inode: u64) -> Result<FileBlob, Error>
-        ensures { KeepsTable self.old self.new }
+        ensures names { KeepsTable self.old self.new }
+        ensures files { KeepsFiles (store_of self.old) (store_of self.new) }
+        ensures given { IfOk result (λ file. HasFile self.new file) }
     {
         let (blob, _) = open(&mut self.store, FILES, &inode.to_be_bytes())?;
         Ok(FileBlob { blob })
@@ -58,6 +62,7 @@ impl<R: Rng + Drop> Journaled<R> {
     pub fn remove_file(&mut self, inode: u64) -> Result<(), Error>
         ensures names { KeepsTable self.old self.new }
         ensures gives { GivesNames self.old → GivesNames self.new }
+        ensures journal { KeepsJournal self.old self.new }
     {
         remove(&mut self.store, FILES, &inode.to_be_bytes())
     }
@@ -68,7 +73,9 @@ impl<R: Rng + Drop> Journaled<R> {
     ///
     /// Those of the layer's read, and `Memory`.
     pub fn read_whole(&mut self, file: &FileBlob) -> Result<Vec<u8>, Error>
-        ensures { KeepsTable self.old self.new }
+        ensures names { KeepsTable self.old self.new }
+        ensures files { KeepsFiles (store_of self.old) (store_of self.new) }
+        ensures given { KeepsGiven self.old self.new }
     {
         let size = file.size();
         read_all(self.alloc, &mut self.store, &file.blob, size)
@@ -109,7 +116,9 @@ impl<R: Rng + Drop> Journaled<R> {
     ///
     /// Those of the layer's resize, which may leave a part of it.
     pub fn resize_file(&mut self, file: &mut FileBlob, length: u64) -> Result<(), Error>
-        ensures { KeepsTable self.old self.new }
+        ensures names { KeepsTable self.old self.new }
+        ensures files { KeepsFilesOf file.old self.old self.new }
+        ensures given { KeepsFile file.old self.old file.new self.new }
     {
         file.blob.resize(&mut self.store, length)
     }
@@ -120,8 +129,12 @@ impl<R: Rng + Drop> Journaled<R> {
     ///
     /// Those of the layer's sync. Nothing is durable that was not.
     pub fn sync_file(&mut self, file: &mut FileBlob) -> Result<(), Error>
-        ensures { KeepsTable self.old self.new }
+        ensures names { KeepsTable self.old self.new }
+        ensures files { KeepsFiles (store_of self.old) (store_of self.new) }
+        ensures journal { KeepsJournal self.old self.new }
+        ensures given { KeepsFile file.old self.old file.new self.new }
     {
-        file.blob.sync(&mut self.store)
+        file.blob.sync(&mut self.store)?;
+        Ok(())
     }
 }

@@ -6,13 +6,16 @@ ghost use Rattle.blob_model.specs.Places.{Place};
 ghost use Rattle.blob_directory.specs.Names.{edit_of};
 ghost use Rattle.blob_memory.specs.Store.{directory, durable, place};
 ghost use Rattle.blob_faulty.specs.Wrapper.{inner_of, inside};
-ghost use Rattle.blob_journal.specs.Currents.{BeginsAs, KeepsCurrent, SameDirectory};
+ghost use Rattle.blob_journal.specs.Currents.{BeginsAs, FixesBytes, KeepsCurrent, KeepsFiles, SameDirectory, SamePending};
 ghost use Rattle.blob_journal.specs.Keeping.{bytes_in, with_sector};
+ghost use Rattle.blob_journal.specs.Settling.{Changes, with_settled};
 
 use crate::store::{Handle, JOURNALS, Store, open, read_all};
 use blob_base::{Blob, Error, Probability, SectorSize, WriteOptions};
 use blob_directory::edit::Edit;
 use blob_directory::sector::{SECTOR, encode};
+use blob_faulty::laws::keeps::writes;
+use blob_faulty::laws::outcomes::recorded;
 use blob_faulty::{Config, PartialWriteMode, WriteConfig};
 use rand_core::Rng;
 use std::alloc::Global;
@@ -55,6 +58,8 @@ impl Journal {
         ensures found { IfOk result (λ r. (o : Place) → current (directory (inner_of store.old)) (codes "j") (to_be_bytes w64 generation) ≡ Some o → durable (inner_of store.old) o ≡ Some r.1.items) }
         ensures durable { IfOk result (λ r. durable (inner_of store.new) (place (inside r.0.blob)) ≡ Some r.1.items) }
         ensures kept { KeepsCurrent store.old store.new }
+        ensures files { KeepsFiles store.old store.new }
+        ensures pending { SamePending store.old store.new }
     {
         let (blob, size) = open(store, JOURNALS, &generation.to_be_bytes())?;
         let bytes = read_all(alloc, store, &blob, size)?;
@@ -116,14 +121,18 @@ impl Journal {
         ensures place { place (inside self.new.blob) ≡ place (inside self.old.blob) }
         ensures generation { self.new.generation ≡ self.old.generation }
         ensures directory { SameDirectory store.old store.new }
+        ensures settled { OnOk result (Changes store.old store.new (place (inside self.old.blob)) (with_settled sector (edit_of edit.now))) }
     {
+        writes::<blob_memory::Storage, R, blob_memory::Blob>();
+        recorded::<blob_memory::Storage, R>();
         let Some(offset) = sector.checked_mul(SECTOR as u64) else {
             return Err(Error::OffsetOverflow);
         };
         let bytes = encode(alloc, edit, true)?;
         store.set_config(Config::default());
         self.blob
-            .write_from(store, offset, &bytes, WriteOptions::SYNC)
+            .write_from(store, offset, &bytes, WriteOptions::SYNC)?;
+        Ok(())
     }
 
     /// Makes these bytes those of the journal, durably. It must be empty. `Memory` is the only error of a wrapper that draws nothing.
@@ -132,7 +141,10 @@ impl Journal {
         ensures generation { self.new.generation ≡ self.old.generation }
         ensures directory { SameDirectory store.old store.new }
         ensures bytes { OnOk result (BeginsAs (place (inside self.old.blob)) bytes.now store.old store.new) }
+        ensures fixed { OnOk result (FixesBytes (place (inside self.old.blob)) bytes.now store.old store.new) }
     {
+        writes::<blob_memory::Storage, R, blob_memory::Blob>();
+        recorded::<blob_memory::Storage, R>();
         self.blob.write_from(store, 0, bytes, WriteOptions::SYNC)?;
         self.sectors = bytes.len() as u64 / SECTOR as u64;
         Ok(())

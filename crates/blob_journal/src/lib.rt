@@ -6,6 +6,7 @@ pub mod edits;
 pub mod files;
 mod journal;
 pub mod journaled;
+pub mod laws;
 mod recovery;
 pub mod store;
 

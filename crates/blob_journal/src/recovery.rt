@@ -2,6 +2,7 @@
 ghost use Rattle.std.specs.Prelude.{◌≡◌, IfOk, OnOk, OnErr};
 ghost use Rattle.blob_directory.specs.Checkpoints.{FitsJournal};
 ghost use Rattle.blob_directory.specs.Tables.{bound};
+ghost use Rattle.blob_directory.specs.Trees.{Finds};
 
 use crate::journal::Journal;
 use crate::journaled::Journaled;
@@ -16,8 +17,9 @@ use std::alloc::AllocError;
 use std::collections::BTreeMap;
 
 impl<R: Rng + Drop> Journaled<R> {
-    ghost use Rattle.blob_journal.specs.Journals.{FindsNames, GivesNames};
-    ghost use Rattle.blob_journal.specs.Keeping.{KeepsTable, table_in};
+    ghost use Rattle.blob_journal.specs.Currents.{KeepsFiles, Represents};
+    ghost use Rattle.blob_journal.specs.Journals.{FindsNames, GivesNames, store_of};
+    ghost use Rattle.blob_journal.specs.Keeping.{KeepsTable, names_in, table_in};
 
     /// Returns the names that the journal gives and the root reaches, and of each edit that nothing settled whether the
     /// journal has it. Calls still see the names of before. From here on the store draws nothing.
@@ -28,7 +30,9 @@ impl<R: Rng + Drop> Journaled<R> {
     pub fn find_names(&mut self, keeps: Keeps) -> Result<(Tree, Vec<bool>), Error>
         ensures found { IfOk result (λ r. FindsNames self.old keeps (bound r.0.names)) }
         ensures fits { IfOk result (λ r. FitsJournal r.0) }
+        ensures again { IfOk result (λ r. GivesNames self.old → Finds (bound r.0.names) (names_in self.old)) }
         ensures names { KeepsTable self.old self.new }
+        ensures files { KeepsFiles (store_of self.old) (store_of self.new) }
     {
         self.store.set_config(Config::default());
         let generation = self.journal.generation;
@@ -57,7 +61,7 @@ impl<R: Rng + Drop> Journaled<R> {
     /// leaves. Calls see the names of before, and the old journal is there.
     pub fn renew(&mut self, tree: Tree) -> Result<BTreeMap<u64, u64>, Error>
         ensures done { OnOk result (table_in self.new ≡ tree.names) }
-        ensures gives { OnOk result (FitsJournal tree → GivesNames self.new) }
+        ensures gives { OnOk result (FitsJournal tree → Represents (store_of self.old) → GivesNames self.new) }
         ensures refused { OnErr result (KeepsTable self.old self.new) }
     {
         let old = self.journal.generation;
@@ -69,6 +73,8 @@ impl<R: Rng + Drop> Journaled<R> {
         if !found.is_empty() {
             return Err(Error::OffsetOverflow);
         }
+        let name = generation.to_be_bytes();
+        let _ = self.store.admit(JOURNALS, &name);
         journal.begin(&mut self.store, &bytes)?;
         let Tree {
             names,
@@ -78,7 +84,8 @@ impl<R: Rng + Drop> Journaled<R> {
         self.journal = journal;
         self.names = names;
         self.unsettled.clear();
-        let _ = remove(&mut self.store, JOURNALS, &old.to_be_bytes());
+        let old_name = old.to_be_bytes();
+        let _ = remove(&mut self.store, JOURNALS, &old_name);
         Ok(directories)
     }
 }

@@ -4,10 +4,11 @@ ghost use Rattle.blob_model.specs.Directory.{current, is_current};
 ghost use Rattle.blob_model.specs.Places.{Place};
 ghost use Rattle.blob_memory.specs.Store.{directory, durable, live, place};
 ghost use Rattle.blob_faulty.specs.Wrapper.{inner_of, inside};
-ghost use Rattle.blob_journal.specs.Currents.{KeepsBytes, KeepsCurrent, KeepsOthers};
+ghost use Rattle.blob_journal.specs.Currents.{IsGiven, KeepsBytes, KeepsCurrent, KeepsFiles, KeepsOthers, KeepsPending, SamePending};
 
-use blob_base::laws::opens::accepted_opens;
+use blob_base::laws::opens::{accepted_opens, numbers_are_given};
 use blob_base::{Blob, Error, Storage};
+use blob_faulty::laws::names::{opens, removals};
 use rand_core::Rng;
 use std::alloc::Global;
 
@@ -36,8 +37,13 @@ pub(crate) fn open<R: Rng>(
     ensures durable { IfOk result (λ r. durable (inner_of store.new) (place (inside r.0)) ≡ Some (live (inside r.0))) }
     ensures size { IfOk result (λ r. r.1 ≡ length (live (inside r.0))) }
     ensures kept { KeepsCurrent store.old store.new }
+    ensures given { IfOk result (λ r. IsGiven store.new (place (inside r.0))) }
+    ensures files { KeepsFiles store.old store.new }
+    ensures pending { SamePending store.old store.new }
 {
     accepted_opens();
+    numbers_are_given::<blob_memory::Storage>();
+    opens::<blob_memory::Storage, R>();
     let (blob, size) = store.open(partition, name)?;
     Ok((blob, size))
 }
@@ -64,7 +70,10 @@ pub(crate) fn remove<R: Rng>(
 ) -> Result<(), Error>
     ensures current { KeepsOthers partition.now name.now store.old store.new }
     ensures bytes { KeepsBytes partition.now name.now store.old store.new }
+    ensures pending { KeepsPending partition.now name.now store.old store.new }
+    ensures files { KeepsFiles store.old store.new }
 {
+    removals::<blob_memory::Storage, R>();
     store.remove(partition, Some(name))?;
     Ok(())
 }
@@ -78,6 +87,8 @@ pub(crate) fn read_all<R: Rng>(
 ) -> Result<Vec<u8>, Error>
     ensures bytes { IfOk result (λ bytes. size ≡ length (live (inside blob.now)) → bytes.items ≡ live (inside blob.now)) }
     ensures inner { inner_of store.new ≡ inner_of store.old }
+    ensures files { KeepsFiles store.old store.new }
+    ensures pending { SamePending store.old store.new }
 {
     let mut bytes = Vec::new(alloc);
     bytes.resize(size as usize, 0)?;

@@ -1,11 +1,9 @@
-use Rattle.std.proofs.Common.{◌≡◌, ℕ, List, [], ◌∷◌, ◌++◌, Bool, Some, Vec, Global, sym, ap, subst, ◌∙◌}
-use Rattle.std.specs.List.{All}
+use Rattle.std.proofs.Common.{◌≡◌, ℕ, List, ◌∷◌, ◌++◌, sym, ap, subst, ◌∙◌}
 use Rattle.std.specs.Map.Iter.{deref_pair}
 use Rattle.std.proofs.lemmas.Map.Iter.{rest_all, rest_more}
-use Rattle.blob_directory.specs.declared.edit.Binding.{Binding}
 use Rattle.blob_directory.specs.Checkpoints.{bindings_in, settled_sectors}
-use Rattle.blob_directory.specs.Names.{Names, entry}
-use Rattle.blob_directory.specs.Tables.{HasName, bound}
+use Rattle.blob_directory.specs.Names.{Names}
+use Rattle.blob_directory.specs.Tables.{bound}
 use Rattle.blob_directory.specs.Trees.{has_directory}
 use Rattle.blob_directory.proofs.Checkpoints.{AmongKeys, Listed, among_keys, written_all, written_more, written_none}
 use Rattle.blob_directory.proofs.checkpoint.checkpoint.Goals as goal

@@ -1,11 +1,13 @@
-use Rattle.std.proofs.Common.{◌≡◌}
+use Rattle.std.proofs.Common.{◌≡◌, take}
 use Rattle.blob_memory.specs.Store.{directory, place}
 use Rattle.blob_faulty.specs.Wrapper.{inner_of, inside}
+use Rattle.blob_journal.specs.Settling.{Changes, all_settled}
 use Rattle.blob_journal.proofs.edits.settle_marked.Given as goal
 
 abbrev pub invariant-loop-edit : goal.invariant-loop-edit
 invariant-loop-edit g l = record {
-  place : place (inside l.journal.blob) ≡ place (inside l.fn.journal.blob);
+  settled : Changes l.fn.store l.store (place (inside l.fn.journal.blob)) (all_settled (take l.edit-index l.edits));
   generation : l.journal.generation ≡ l.fn.journal.generation;
   directory : directory (inner_of l.store) ≡ directory (inner_of l.fn.store);
+  place : place (inside l.journal.blob) ≡ place (inside l.fn.journal.blob);
 }

@@ -1,8 +1,10 @@
 use Rattle.std.proofs.Common.{ap, ◌∙◌}
 use Rattle.blob_model.specs.Directory.{Directory, is_current}
-use Rattle.blob_memory.specs.Store.{directory, place}
+use Rattle.blob_memory.specs.Store.{directory, live, place}
 use Rattle.blob_faulty.specs.Wrapper.{inner_of, inside}
+use Rattle.blob_model.specs.Files.{after_open}
 use Rattle.blob_journal.proofs.Currents.{named_current, opened_keeps}
+use Rattle.blob_journal.proofs.Standing.{unrecorded}
 use Rattle.blob_journal.proofs.store.open.Goals as goal
 
 pub returns-in_err-blob-clause-kept : goal.returns-in_err-blob-clause-kept
@@ -19,3 +21,24 @@ returns-clause-kept g c = λ o h. opened_keeps _ _ _ _ _ _ _ _ _ _ _ c.in_ok-blo
 
 pub returns-clause-durable : goal.returns-clause-durable
 returns-clause-durable g c = c.accepted_opens.ensures.durable _ _ _ _ _ _ _ _ _ _ _ c.in_ok-blob.ensures.opened
+
+pub returns-in_err-blob-clause-files : goal.returns-in_err-blob-clause-files
+returns-in_err-blob-clause-files g c = λ r. unrecorded c.args.store.now c.open.new.self c.in_err-blob.ensures.err.0 c.in_err-blob.ensures.err.1 c.open.ensures.leaves.records r
+
+pub returns-in_err-blob-clause-pending : goal.returns-in_err-blob-clause-pending
+returns-in_err-blob-clause-pending g c = λ o. c.open.ensures.leaves.records.pending o
+
+pub returns-clause-pending : goal.returns-clause-pending
+returns-clause-pending g c = λ o. c.open.ensures.leaves.records.pending o
+
+pub returns-clause-files : goal.returns-clause-files
+returns-clause-files g c = λ r.
+    let at = place (inside c.in_ok-blob.blob) in
+    let bytes = live (inside c.in_ok-blob.blob) in (
+      after_open r.0 c.args.partition.now c.args.name.now 0 0,
+      c.opens.ensures.accepted c.args.store.now c.open.new.self c.args.partition.now c.args.name.now 0 0 at bytes 0 c.in_ok-blob.ensures.opened c.in_ok-blob.ensures.leaves r.0 r.1,
+    )
+
+pub returns-clause-given : goal.returns-clause-given
+returns-clause-given g c = c.numbers_are_given.ensures.durable (inner_of c.open.new.self) (place (inside c.in_ok-blob.blob)) (live (inside c.in_ok-blob.blob))
+    (c.accepted_opens.ensures.durable _ _ _ _ _ _ _ _ _ _ _ c.in_ok-blob.ensures.opened)

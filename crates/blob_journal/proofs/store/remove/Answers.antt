@@ -1,10 +1,14 @@
-use Rattle.std.proofs.Common.{ap, ◌∙◌}
+use Rattle.std.proofs.Common.{ap, refl, ◌∙◌}
 use Rattle.blob_model.specs.Directory.{Directory, is_current}
 use Rattle.std.proofs.lemmas.Bool.{cond-false}
 use Rattle.blob_model.specs.Durable.{Durable}
 use Rattle.blob_memory.specs.Store.{directory}
 use Rattle.blob_faulty.specs.Wrapper.{inner_of}
+use Rattle.std.proofs.Common.{Some, ◌&&◌, Bool}
+use Rattle.blob_model.specs.Directory.{is_current as current_in}
+use Rattle.blob_model.specs.Files.{after_remove}
 use Rattle.blob_journal.proofs.Currents.{removed_keeps}
+use Rattle.blob_journal.proofs.Standing.{unrecorded}
 use Rattle.blob_journal.proofs.store.remove.Goals as goal
 
 pub returns-in_err-remove-clause-current : goal.returns-in_err-remove-clause-current
@@ -18,3 +22,22 @@ returns-in_err-remove-clause-bytes g c = λ o other. ap (λ (d : Durable). d o) 
 
 pub returns-clause-bytes : goal.returns-clause-bytes
 returns-clause-bytes g c = λ o other. ap (λ (d : Durable). d o) c.in_ok-remove.ensures.durable ∙ cond-false _ _ _ other
+
+pub returns-in_err-remove-clause-pending : goal.returns-in_err-remove-clause-pending
+returns-in_err-remove-clause-pending g c = λ o other. c.in_err-remove.ensures.leaves.kept refl o
+
+pub returns-clause-pending : goal.returns-clause-pending
+returns-clause-pending g c = λ o other.
+    c.in_ok-remove.ensures.leaves.retired refl o
+    ∙ cond-false _ _ _ (ap (λ (b : Bool). b && current_in (directory (inner_of c.args.store.now)) o) other)
+
+pub returns-clause-files : goal.returns-clause-files
+returns-clause-files g c = λ r. (
+  after_remove r.0 c.args.partition.now (Some c.args.name.now),
+  c.removals.ensures.accepted c.args.store.now c.remove.new.self c.args.partition.now (Some c.args.name.now) c.in_ok-remove.ensures.directory c.in_ok-remove.ensures.durable c.in_ok-remove.ensures.leaves r.0 r.1,
+)
+
+pub returns-in_err-remove-clause-files : goal.returns-in_err-remove-clause-files
+returns-in_err-remove-clause-files g c = λ r.
+    let e = c.in_err-remove.ensures in
+    unrecorded c.args.store.now c.remove.new.self e.err.0 e.err.1 (record { pending = λ o. e.leaves.kept refl o; numbers = e.leaves.numbers }) r

@@ -1,4 +1,25 @@
+use Rattle.std.proofs.Common.{sym, subst}
+use Rattle.blob_directory.specs.declared.table.Table.{Table}
+use Rattle.blob_directory.specs.Tables.{bound}
+use Rattle.blob_directory.specs.Trees.{Finds}
+use Rattle.blob_fs.specs.Files.{IsRecovered, names_of, table_of}
 use Rattle.blob_fs.proofs.file_system.FileSystem.crash.Goals as goal
 
 pub returns-clause-found : goal.returns-clause-found
 returns-clause-found g c = c.in_ok-rows.ensures.kept _ _ c.in_ok-edits.ensures.found
+
+pub returns-clause-gives : goal.returns-clause-gives
+returns-clause-gives g c = c.in_ok-edits.ensures.gives c.in_ok-rows.ensures.files
+
+pub returns-clause-recovered : goal.returns-clause-recovered
+returns-clause-recovered g c = record {
+  gives = c.in_ok-edits.ensures.gives c.in_ok-rows.ensures.files;
+  told = _;
+  finds = c.in_ok-edits.ensures.found.finds;
+}
+
+pub returns-clause-again : goal.returns-clause-again
+returns-clause-again g c = λ before e.
+    let again = c.in_ok-edits.ensures.again (c.in_ok-rows.ensures.gives before.gives) in
+    sym (c.found.ensures.again (names_of c.recover.new.self) (names_of c.args.self.now) before.told before.finds
+    (subst (λ (t : Table). Finds (names_of c.recover.new.self) (bound t)) c.in_ok-rows.ensures.names again) e)

@@ -1,4 +1,4 @@
-use Rattle.std.proofs.Common.{Some, ap, refl, ◌∙◌}
+use Rattle.std.proofs.Common.{[], None, Some, ap, refl, true, ◌∙◌}
 use Rattle.std.specs.Prelude.{option_map}
 use Rattle.std.proofs.lemmas.Bool.{cond-true}
 use Rattle.blob_model.specs.Bytes.{overlay}
@@ -7,7 +7,11 @@ use Rattle.blob_model.specs.Places.{Place, same_place}
 use Rattle.blob_model.specs.SamePlace.{same_self}
 use Rattle.blob_memory.specs.Store.{durable, place}
 use Rattle.blob_faulty.specs.Wrapper.{inner_of, inside}
+use Rattle.blob_draws.specs.Recorded.{recorded_write}
+use Rattle.blob_faulty.specs.Wrapper.{config_of, next_write_of, rng_of}
+use Rattle.blob_journal.specs.Currents.{left_at}
 use Rattle.blob_journal.proofs.Overlays.{over_nothing}
+use Rattle.blob_journal.proofs.Standing.{fixed_by, kept_left}
 use Rattle.blob_journal.proofs.journal.Journal.begin.Goals as goal
 
 pub returns-clause-bytes : goal.returns-clause-bytes
@@ -19,3 +23,21 @@ returns-clause-bytes g c =
     ∙ cond-true (same_place at at) (option_map (λ x. overlay x 0 c.args.bytes.now) (before at)) (before at) (same_self at)
     ∙ ap (option_map (λ x. overlay x 0 c.args.bytes.now)) empty
     ∙ ap Some (over_nothing c.args.bytes.now)
+
+pub returns-clause-fixed : goal.returns-clause-fixed
+returns-clause-fixed g c = λ r e.
+    let w = c.in_ok-write_from.ensures in
+    let store = c.args.store.now in
+    let at : Place = place (inside c.args.self.now.blob) in
+    let bytes = c.args.bytes.now in
+    let before : Durable = durable (inner_of store) in
+    let entries = recorded_write (config_of store) (next_write_of store) (g.R.Rng.stream (rng_of store)) true 0 bytes None in
+    record {
+      durable = ap (λ (d : Durable). d at) (w.synced refl)
+          ∙ cond-true (same_place at at) (option_map (λ x. overlay x 0 bytes) (before at)) (before at) (same_self at)
+          ∙ ap (option_map (λ x. overlay x 0 bytes)) e.durable
+          ∙ ap Some (over_nothing bytes);
+      left = λ t. kept_left t bytes entries (left_at store t at) (left_at c.write_from.new.store t at) (c.writes.ensures.whole c.args.self.now.blob store 0 bytes w.allowed)
+          ((fixed_by store at [] e.durable e.pending).left t)
+          (c.recorded.ensures.left store c.write_from.new.store at entries r.0 t e.current w.directory r.1 (w.leaves.recorded refl));
+    }

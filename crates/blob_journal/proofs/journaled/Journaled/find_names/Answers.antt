@@ -10,8 +10,12 @@ use Rattle.blob_faulty.specs.Wrapper.{inner_of, inside}
 use Rattle.blob_directory.specs.Names.{Same}
 use Rattle.blob_directory.specs.Profiles.{names_told}
 use Rattle.blob_directory.specs.Tables.{bound}
+use Rattle.blob_journal.specs.Keeping.{names_in}
 use Rattle.blob_journal.proofs.Currents.{current_of_name}
 use Rattle.blob_journal.proofs.journaled.Journaled.find_names.Goals as goal
+
+some_same : {T : Type 0} {a b : T} → Some a ≡ Some b → a ≡ b
+some_same e = cc
 
 pub returns-clause-found : goal.returns-clause-found
 returns-clause-found g c =
@@ -38,3 +42,23 @@ returns-clause-fits g c =
       places = c.in_ok-tree.ensures.places;
       sectors = λ e to h. c.in_ok-names.ensures.sectors e to (found.within e to h).0;
     }
+
+pub returns-clause-again : goal.returns-clause-again
+returns-clause-again g c = λ gives.
+    let self = c.args.self.now in
+    let at : Place = place (inside self.journal.blob) in
+    let name : List ℕ = to_be_bytes w64 self.journal.generation in
+    let here : current (directory (inner_of self.store)) (codes "j") name ≡ Some at =
+    ap₂ (λ (p n : List ℕ). current (directory (inner_of self.store)) p n) (sym self.partition) (sym self.name) ∙ current_of_name (directory (inner_of self.store)) at self.current in
+    let inner : inner_of c.set_config.new.self ≡ inner_of self.store = ap (λ (s : OverMemory g.row.R.Denot). inner_of s) c.set_config.ensures.set in
+    let found : durable (inner_of c.set_config.new.self) at ≡ Some c.in_ok-bytes.bytes.items =
+    c.in_ok-bytes.ensures.found at (ap (λ (s : memory.Storage). current (directory s) (codes "j") name) inner ∙ here) in
+    let there : at ≡ gives.is.place = some_same (sym here ∙ gives.is.current) in
+    let both : Some c.in_ok-bytes.bytes.items ≡ Some gives.journal = sym found ∙ ap (λ (s : memory.Storage). durable s at) inner ∙ ap (λ (o : Place). durable (inner_of self.store) o) there ∙ gives.is.fixed.durable in
+    let bytes : c.in_ok-bytes.bytes.items ≡ gives.journal = some_same both in
+    let told : Same (bound c.in_ok-names.names) (names_told c.args.keeps c.deref.result.now) = c.in_ok-names.ensures.names in
+    let same : Same (bound c.in_ok-names.names) (names_in self) = λ e. told e ∙ ap (λ l. names_told c.args.keeps l e) (c.deref.ensures.value ∙ bytes) ∙ gives.gives c.args.keeps e in
+    c.in_ok-tree.ensures.finds (names_in self) same
+
+pub returns-clause-files : goal.returns-clause-files
+returns-clause-files g c = λ r. c.open.ensures.files (r.0, c.set_config.ensures.files r.0 r.1)

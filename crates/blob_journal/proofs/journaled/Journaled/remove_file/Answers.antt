@@ -1,12 +1,13 @@
-use Rattle.std.proofs.Common.{◌≡◌, ◌&&◌, List, ℕ, true, false, ap, ap₂, sym, ◌∙◌}
+use Rattle.std.proofs.Common.{◌≡◌, ◌&&◌, List, ℕ, true, false, ap, ap₂, refl, sym, ◌∙◌}
 use Rattle.std.specs.Prelude.{codes}
 use Rattle.std.specs.Int.{w64, to_be_bytes}
 use Rattle.std.specs.Str.{bytes_eq}
 use Rattle.blob_model.specs.Directory.{current, is_current}
 use Rattle.blob_model.specs.Places.{Place}
-use Rattle.blob_memory.specs.Store.{directory}
-use Rattle.blob_faulty.specs.Wrapper.{inner_of}
+use Rattle.blob_memory.specs.Store.{directory, place}
+use Rattle.blob_faulty.specs.Wrapper.{inner_of, inside}
 use Rattle.blob_journal.proofs.Currents.{current_named, current_of_name, named_current}
+use Rattle.blob_journal.proofs.Standing.{fixed_same}
 use Rattle.blob_journal.proofs.journaled.Journaled.remove_file.Goals as goal
 
 pub returns-clause-gives : goal.returns-clause-gives
@@ -25,7 +26,21 @@ returns-clause-gives g c =
       is = record {
         place = at;
         current = ap₂ (λ (p n : List ℕ). current (directory (inner_of c.remove.new.store)) p n) (sym is.0) (sym is.1) ∙ current_of_name (directory (inner_of c.remove.new.store)) at there;
-        durable = c.remove.ensures.bytes at other ∙ before.is.durable;
+        fixed = fixed_same self.store c.remove.new.store at before.journal (c.remove.ensures.bytes at other) (c.remove.ensures.pending at other) before.is.fixed;
       };
       gives = before.gives;
+    }
+
+pub returns-clause-journal : goal.returns-clause-journal
+returns-clause-journal g c =
+    let self = c.args.self.now in
+    let at : Place = place (inside self.journal.blob) in
+    let other : (bytes_eq (codes "f") at.partition && bytes_eq c.to_be_bytes.result at.name) ≡ false =
+    ap (λ (q : List ℕ). bytes_eq (codes "f") q && bytes_eq c.to_be_bytes.result at.name) self.partition in
+    record {
+      place = refl;
+      durable = c.remove.ensures.bytes at other;
+      pending = c.remove.ensures.pending at other;
+      files = c.remove.ensures.files;
+      unsettled = refl;
     }

@@ -1,4 +1,4 @@
-use Rattle.std.proofs.Common.{◌≡◌, ◌+◌, ◌&&◌, ℕ, List, [], Some, true, false, vec_len, ap, ap₂, sym, ◌∙◌, arith, rules}
+use Rattle.std.proofs.Common.{◌≡◌, ◌+◌, ◌&&◌, ℕ, List, [], Some, true, false, vec_len, ap, ap₂, subst, sym, ◌∙◌, arith, rules}
 use Rattle.std.specs.Prelude.{codes}
 use Rattle.std.specs.Str.{bytes_eq}
 use Rattle.std.specs.Int.{w64, to_be_bytes}
@@ -6,9 +6,13 @@ use Rattle.std.proofs.lemmas.Bool.{eqb-true}
 use Rattle.std.proofs.lemmas.List.{nil_from_length}
 use Rattle.blob_model.specs.Directory.{Directory, current, is_current}
 use Rattle.blob_model.specs.Places.{Place}
+use Rattle.blob_model.specs.Files.{admit}
 use Rattle.blob_memory.specs.Store.{directory, durable, place}
-use Rattle.blob_faulty.specs.Wrapper.{inner_of, inside}
+use Rattle.blob_memory.specs.declared.storage.Storage as memory
+use Rattle.blob_faulty.specs.Wrapper.{inner_of, inside, pending_of}
+use Rattle.blob_journal.specs.Currents.{IsEmpty, IsFixed, Represents}
 use Rattle.blob_journal.proofs.Currents.{current_of_name, next_apart}
+use Rattle.blob_journal.proofs.Standing.{fixed_same, retired_at}
 use Rattle.blob_journal.proofs.journaled.Journaled.renew.Goals as goal
 
 pub invariant_of-self-in-Break-branch-3 : goal.invariant_of-self-in-Break-branch-3
@@ -16,6 +20,7 @@ invariant_of-self-in-Break-branch-3 g c = record {
   partition = c.args.self.now.partition;
   name = c.args.self.now.name;
   current = ap (λ (d : Directory). is_current d (place (inside c.args.self.now.journal.blob))) c.begin.ensures.directory
+      ∙ ap (λ (s : memory.Storage). is_current (directory s) (place (inside c.args.self.now.journal.blob))) c.admit.ensures.inner
       ∙ c.open.ensures.kept (place (inside c.args.self.now.journal.blob)) c.args.self.now.current;
 }
 
@@ -26,46 +31,63 @@ invariant_of-self-2 g c =
     let sum : c.in-Some.generation ≡ old + 1 = search rules in
     let name : at.name ≡ to_be_bytes w64 (old + 1) =
     ap (λ (o : Place). o.name) c.begin.ensures.place ∙ c.in_ok-journal.ensures.name ∙ ap (λ (n : ℕ). to_be_bytes w64 n) (c.in_ok-journal.ensures.generation ∙ sum) in
-    let other : (bytes_eq (codes "j") at.partition && bytes_eq c.to_be_bytes.result at.name) ≡ false =
-    ap (λ (n : List ℕ). bytes_eq (codes "j") at.partition && bytes_eq n at.name) c.to_be_bytes.ensures
+    let other : (bytes_eq (codes "j") at.partition && bytes_eq c.to_be_bytes-old_name.result at.name) ≡ false =
+    ap (λ (n : List ℕ). bytes_eq (codes "j") at.partition && bytes_eq n at.name) c.to_be_bytes-old_name.ensures
     ∙ next_apart (codes "j") at old (omega arith) (omega arith) name in
     record {
       partition = ap (λ (o : Place). o.partition) c.begin.ensures.place ∙ c.in_ok-journal.ensures.partition;
       name = ap (λ (o : Place). o.name) c.begin.ensures.place ∙ c.in_ok-journal.ensures.name ∙ ap (λ (n : ℕ). to_be_bytes w64 n) (sym c.begin.ensures.generation);
       current = c.remove.ensures.current at other
-          (ap₂ (λ (d : Directory) (o : Place). is_current d o) c.begin.ensures.directory c.begin.ensures.place ∙ c.in_ok-journal.ensures.current);
+          (ap₂ (λ (d : Directory) (o : Place). is_current d o) c.begin.ensures.directory c.begin.ensures.place
+          ∙ ap (λ (s : memory.Storage). is_current (directory s) (place (inside c.in_ok-journal.journal.blob))) c.admit.ensures.inner
+          ∙ c.in_ok-journal.ensures.current);
     }
 
 pub returns-clause-gives : goal.returns-clause-gives
 returns-clause-gives g c =
     let old = c.args.self.now.journal.generation in
+    let opened = c.open.new.store in
+    let admitted = c.admit.new.self in
     let found = c.in_ok-journal.found in
     let made : Place = place (inside c.in_ok-journal.journal.blob) in
     let at : Place = place (inside c.begin.new.self.blob) in
     let same : at ≡ made = c.begin.ensures.place in
     let sum : c.in-Some.generation ≡ old + 1 = search rules in
     let number : c.begin.new.self.generation ≡ old + 1 = c.begin.ensures.generation ∙ c.in_ok-journal.ensures.generation ∙ sum in
-    let name : at.name ≡ to_be_bytes w64 (old + 1) =
-    ap (λ (o : Place). o.name) same ∙ c.in_ok-journal.ensures.name ∙ ap (λ (n : ℕ). to_be_bytes w64 n) (c.in_ok-journal.ensures.generation ∙ sum) in
+    let called : made.name ≡ to_be_bytes w64 (old + 1) = c.in_ok-journal.ensures.name ∙ ap (λ (n : ℕ). to_be_bytes w64 n) (c.in_ok-journal.ensures.generation ∙ sum) in
+    let name : at.name ≡ to_be_bytes w64 (old + 1) = ap (λ (o : Place). o.name) same ∙ called in
     let partition : at.partition ≡ codes "j" = ap (λ (o : Place). o.partition) same ∙ c.in_ok-journal.ensures.partition in
-    let other : (bytes_eq (codes "j") at.partition && bytes_eq c.to_be_bytes.result at.name) ≡ false =
-    ap (λ (n : List ℕ). bytes_eq (codes "j") at.partition && bytes_eq n at.name) c.to_be_bytes.ensures
+    let other : (bytes_eq (codes "j") at.partition && bytes_eq c.to_be_bytes-old_name.result at.name) ≡ false =
+    ap (λ (n : List ℕ). bytes_eq (codes "j") at.partition && bytes_eq n at.name) c.to_be_bytes-old_name.ensures
     ∙ next_apart (codes "j") at old (omega arith) (omega arith) name in
+    let inner : inner_of admitted ≡ inner_of opened = c.admit.ensures.inner in
+    let here : is_current (directory (inner_of admitted)) made ≡ true = ap (λ (s : memory.Storage). is_current (directory s) made) inner ∙ c.in_ok-journal.ensures.current in
     let there : is_current (directory (inner_of c.remove.new.store)) at ≡ true = c.remove.ensures.current at other
-    (ap₂ (λ (d : Directory) (o : Place). is_current d o) c.begin.ensures.directory c.begin.ensures.place ∙ c.in_ok-journal.ensures.current) in
+    (ap₂ (λ (d : Directory) (o : Place). is_current d o) c.begin.ensures.directory same ∙ here) in
     let empty : c.is_empty.result ≡ true = search rules in
     let none : vec_len found ≡ 0 = eqb-true (vec_len found) 0 (sym c.is_empty.ensures ∙ empty) in
     let nothing : found.items ≡ [] = nil_from_length found.items (sym found.ok.0 ∙ none) in
-    let written : durable (inner_of c.begin.new.store) made ≡ Some c.deref.result.now =
-    c.in_ok-begin.ensures.bytes (c.in_ok-journal.ensures.durable ∙ ap Some nothing) in
-    λ fits.
+    let named : current (directory (inner_of opened)) (codes "j") c.to_be_bytes-name.result ≡ Some made =
+    ap₂ (λ (p n : List ℕ). current (directory (inner_of opened)) p n) (sym c.in_ok-journal.ensures.partition) (c.to_be_bytes-name.ensures ∙ ap (λ (n : ℕ). to_be_bytes w64 n) sum ∙ sym called)
+    ∙ current_of_name (directory (inner_of opened)) made c.in_ok-journal.ensures.current in
+    let before : IsEmpty admitted made = record {
+      current = here;
+      durable = ap (λ (s : memory.Storage). durable s made) inner ∙ c.in_ok-journal.ensures.durable ∙ ap Some nothing;
+      pending = c.admit.ensures.pending made ∙ retired_at (pending_of (λ (o : Place). o) opened) (current (directory (inner_of opened)) (codes "j") c.to_be_bytes-name.result) made named;
+    } in
+    λ fits files.
+    let r : Represents opened = c.open.ensures.files files in
+    let s : Represents admitted = (admit r.0 (codes "j") c.to_be_bytes-name.result, c.admit.ensures.stands r.0 r.1) in
+    let fixed : IsFixed c.begin.new.store made c.deref.result.now = c.in_ok-begin.ensures.fixed s before in
+    let bytes : IsFixed c.begin.new.store at c.in_ok-bytes.bytes.items =
+    subst (λ (x : List ℕ). IsFixed c.begin.new.store at x) c.deref.ensures.value (subst (λ (o : Place). IsFixed c.begin.new.store o c.deref.result.now) (sym same) fixed) in
     record {
       journal = c.in_ok-bytes.bytes.items;
       is = record {
         place = at;
         current = ap₂ (λ (p n : List ℕ). current (directory (inner_of c.remove.new.store)) p n) (sym partition) (ap (λ (k : ℕ). to_be_bytes w64 k) number ∙ sym name)
             ∙ current_of_name (directory (inner_of c.remove.new.store)) at there;
-        durable = c.remove.ensures.bytes at other ∙ ap (λ (o : Place). durable (inner_of c.begin.new.store) o) same ∙ written ∙ ap Some c.deref.ensures.value;
+        fixed = fixed_same c.begin.new.store c.remove.new.store at c.in_ok-bytes.bytes.items (c.remove.ensures.bytes at other) (c.remove.ensures.pending at other) bytes;
       };
       gives = c.in_ok-bytes.ensures fits;
     }

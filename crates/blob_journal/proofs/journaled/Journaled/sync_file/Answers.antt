@@ -1,7 +1,15 @@
 use Rattle.std.proofs.Common.{ap, ◌∙◌}
 use Rattle.blob_model.specs.Directory.{Directory, is_current}
-use Rattle.blob_memory.specs.Store.{place}
-use Rattle.blob_faulty.specs.Wrapper.{inside}
+use Rattle.std.proofs.Common.{◌≡◌, ◌&&◌, ◌==◌, List, ℕ, ap₂, false, refl, subst, sym}
+use Rattle.std.specs.Prelude.{codes}
+use Rattle.std.specs.Str.{bytes_eq}
+use Rattle.std.proofs.lemmas.Bool.{cond-false}
+use Rattle.blob_model.specs.Durable.{Durable}
+use Rattle.blob_model.specs.Files.{publish}
+use Rattle.blob_model.specs.Places.{Place, same_place}
+use Rattle.blob_model.specs.Stands.{StandsFor}
+use Rattle.blob_memory.specs.Store.{durable, live, place}
+use Rattle.blob_faulty.specs.Wrapper.{inner_of, inside, next_marker_of, next_write_of, pending_of}
 use Rattle.blob_journal.proofs.journaled.Journaled.sync_file.Goals as goal
 
 pub invariant_of-self : goal.invariant_of-self
@@ -10,3 +18,48 @@ invariant_of-self g c = record {
   name = c.args.self.now.name;
   current = ap (λ (d : Directory). is_current d (place (inside c.args.self.now.journal.blob))) c.sync.ensures.directory ∙ c.args.self.now.current;
 }
+
+pub returns-in_err-sync-clause-files : goal.returns-in_err-sync-clause-files
+returns-in_err-sync-clause-files g c = λ r. (r.0, c.in_err-sync.ensures.leaves.same_files refl r.0 r.1)
+
+pub returns-clause-files : goal.returns-clause-files
+returns-clause-files g c = λ r.
+    let new = c.sync.new.store in
+    let files = publish r.0 (place (inside c.args.file.now.blob)) (live (inside c.args.file.now.blob)) in (
+      files,
+      subst (λ (d : Directory). StandsFor d (durable (inner_of new)) (pending_of (λ (o : Place). o) new) (next_write_of new) (next_marker_of new) files) (sym c.sync.ensures.directory)
+          (c.in_ok-sync.ensures.leaves.published refl r.0 r.1),
+    )
+
+-- the blob of a file isn't that of the journal
+apart : (a b : Place) → a.partition ≡ codes "f" → b.partition ≡ codes "j" → same_place a b ≡ false
+apart a b f j = ap₂ (λ (p q : List ℕ). bytes_eq p q && (bytes_eq a.name b.name && (a.number == b.number && a.start == b.start))) f j
+
+pub returns-in_err-sync-clause-journal : goal.returns-in_err-sync-clause-journal
+returns-in_err-sync-clause-journal g c =
+    let at : Place = place (inside c.args.self.now.journal.blob) in
+    record {
+      place = refl;
+      durable = ap (λ (d : Durable). d at) c.in_err-sync.ensures.err;
+      pending = (c.in_err-sync.ensures.leaves.unrecorded refl).pending at;
+      files = λ r. (r.0, c.in_err-sync.ensures.leaves.same_files refl r.0 r.1);
+      unsettled = refl;
+    }
+
+pub returns-clause-journal : goal.returns-clause-journal
+returns-clause-journal g c =
+    let at : Place = place (inside c.args.self.now.journal.blob) in
+    let file : Place = place (inside c.args.file.now.blob) in
+    let other : same_place file at ≡ false = apart file at c.args.file.now.partition c.args.self.now.partition in
+    let new = c.sync.new.store in
+    record {
+      place = refl;
+      durable = ap (λ (d : Durable). d at) c.in_ok-sync.ensures.synced ∙ cond-false _ _ _ other;
+      pending = c.in_ok-sync.ensures.leaves.pending refl at ∙ cond-false _ _ _ other;
+      files = λ r. (
+        publish r.0 file (live (inside c.args.file.now.blob)),
+        subst (λ (d : Directory). StandsFor d (durable (inner_of new)) (pending_of (λ (o : Place). o) new) (next_write_of new) (next_marker_of new) (publish r.0 file (live (inside c.args.file.now.blob)))) (sym c.sync.ensures.directory)
+            (c.in_ok-sync.ensures.leaves.published refl r.0 r.1),
+      );
+      unsettled = refl;
+    }

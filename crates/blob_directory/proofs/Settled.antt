@@ -1,0 +1,74 @@
+-- A settled edit counts, and later edits of other entries don't change what it made of its own.
+use Rattle.std.proofs.Common.{◌≡◌, ℕ, Bool, true, false, ◌||◌, not, List, [], ◌∷◌, ◌++◌, Some, None, refl, sym, ap, ◌∙◌, ⊎_elim}
+use Rattle.std.specs.Str.{bytes_eq}
+use Rattle.std.proofs.lemmas.Bool.{cases_Bool, cond-false, cond-true, or_cases, or_parts, both_ways}
+use Rattle.blob_directory.specs.declared.profile.Keeps.{Keeps}
+use Rattle.blob_directory.specs.Names.{Edit, Names, all_edited, changed, edited}
+use Rattle.blob_directory.specs.Profiles.{edits_of, is_prefix, kept_edits}
+use Rattle.blob_directory.specs.Sectors.{Found}
+use Rattle.blob_directory.specs.Settled.{IsBeside, SettledIsFound, changes_entry}
+
+-- the edits that count, in two parts
+kept_parts : (keeps : Keeps) (lost : Bool) (before rest : List Found)
+    → (later : Bool) × (kept_edits keeps lost (before ++ rest) ≡ kept_edits keeps lost before ++ kept_edits keeps later rest)
+kept_parts keeps lost [] rest = (lost, refl)
+kept_parts keeps lost (None ∷ before) rest = kept_parts keeps (lost || is_prefix keeps) before rest
+kept_parts keeps lost (Some (edit, settled) ∷ before) rest =
+    let h = kept_parts keeps lost before rest in
+    let counts : Bool = settled || not lost in
+    let more : List Edit = kept_edits keeps lost (before ++ rest) in
+    let front : List Edit = kept_edits keeps lost before in
+    let back : List Edit = kept_edits keeps h.0 rest in (
+      h.0,
+      ⊎_elim
+          (λ y. cond-true counts (edit ∷ more) more y ∙ ap (λ l. edit ∷ l) h.1 ∙ ap (λ l. l ++ back) (sym (cond-true counts (edit ∷ front) front y)))
+          (λ n. cond-false counts (edit ∷ more) more n ∙ h.1 ∙ ap (λ l. l ++ back) (sym (cond-false counts (edit ∷ front) front n)))
+          (cases_Bool counts),
+    )
+
+all_parts : (names : Names) (front back : List Edit) → all_edited names (front ++ back) ≡ all_edited (all_edited names front) back
+all_parts names [] back = refl
+all_parts names (edit ∷ front) back = all_parts (edited names edit) front back
+
+-- an edit of other entries
+edit_beside : (names : Names) (edit : Edit) (e : List ℕ) → changes_entry e edit ≡ false → edited names edit e ≡ names e
+edit_beside names [] e other = refl
+edit_beside names (c ∷ edit) e other =
+    let parts = or_parts (bytes_eq c.0 e) (changes_entry e edit) other in
+    edit_beside (changed names c) edit e parts.1 ∙ cond-false (bytes_eq c.0 e) c.1 (names e) parts.0
+
+-- an edit of this entry, whatever it was bound to before
+edit_here : (a b : Names) (edit : Edit) (e : List ℕ) → changes_entry e edit ≡ true → edited a edit e ≡ edited b edit e
+edit_here a b [] e here = absurd (both_ways false refl here)
+edit_here a b (c ∷ edit) e here = ⊎_elim
+    (λ more. edit_here (changed a c) (changed b c) edit e more)
+    (λ none.
+    let now : bytes_eq c.0 e ≡ true = ⊎_elim (λ x. x) (λ x. absurd (both_ways (changes_entry e edit) none x)) (or_cases (bytes_eq c.0 e) (changes_entry e edit) here) in
+    edit_beside (changed a c) edit e none ∙ cond-true (bytes_eq c.0 e) c.1 (a e) now
+    ∙ sym (edit_beside (changed b c) edit e none ∙ cond-true (bytes_eq c.0 e) c.1 (b e) now))
+    (cases_Bool (changes_entry e edit))
+
+-- edits behind it
+behind_beside : (keeps : Keeps) (lost : Bool) (found : List Found) (names : Names) (e : List ℕ) → IsBeside e found → all_edited names (kept_edits keeps lost found) e ≡ names e
+behind_beside keeps lost [] names e beside = refl
+behind_beside keeps lost (None ∷ found) names e beside = behind_beside keeps (lost || is_prefix keeps) found names e beside
+behind_beside keeps lost (Some (edit, settled) ∷ found) names e (other, beside) =
+    let counts : Bool = settled || not lost in
+    let more : List Edit = kept_edits keeps lost found in
+    ⊎_elim
+    (λ y. ap (λ l. all_edited names l e) (cond-true counts (edit ∷ more) more y) ∙ behind_beside keeps lost found (edited names edit) e beside ∙ edit_beside names edit e other)
+    (λ n. ap (λ l. all_edited names l e) (cond-false counts (edit ∷ more) more n) ∙ behind_beside keeps lost found names e beside)
+    (cases_Bool counts)
+
+pub settled_is_found : SettledIsFound
+settled_is_found keeps journal edit e last =
+    let none : Names = λ _. None in
+    let rest : List Found = Some (edit, true) ∷ last.behind in
+    let parts = kept_parts keeps false last.before rest in
+    let front : List Edit = kept_edits keeps false last.before in
+    let back : List Edit = kept_edits keeps parts.0 last.behind in
+    let edits : edits_of keeps journal ≡ front ++ edit ∷ back = ap (kept_edits keeps false) last.sectors ∙ parts.1 in
+    ap (λ l. all_edited none l e) edits
+    ∙ ap (λ (n : Names). n e) (all_parts none front (edit ∷ back))
+    ∙ behind_beside keeps parts.0 last.behind (edited (all_edited none front) edit) e last.beside
+    ∙ edit_here (all_edited none front) none edit e last.changes

@@ -1,0 +1,30 @@
+-- A name that a settled edit changes, and no later one.
+use Rattle.std.specs.Prelude.{◌≡◌, ℕ, ◌/◌, Bool, true, false, ◌||◌, List, [], ◌∷◌, ◌++◌, length, Some, None}
+use Rattle.std.specs.Str.{bytes_eq}
+use Rattle.blob_directory.specs.declared.profile.Keeps.{Keeps}
+use Rattle.blob_directory.specs.Names.{Edit, edited}
+use Rattle.blob_directory.specs.Profiles.{found_in_all, names_told}
+use Rattle.blob_directory.specs.Sectors.{Found}
+
+-- some change of the edit is of this entry
+abbrev pub changes_entry : List ℕ → Edit → Bool
+changes_entry e [] = false
+changes_entry e (c ∷ edit) = bytes_eq c.0 e || changes_entry e edit
+
+-- no edit that was found changes this entry
+abbrev pub IsBeside : List ℕ → List Found → Type 0
+IsBeside e [] = Unit {0}
+IsBeside e (None ∷ found) = IsBeside e found
+IsBeside e (Some (edit, settled) ∷ found) = (changes_entry e edit ≡ false) × IsBeside e found
+
+-- a sector of the journal has this edit, settled; it changes the entry, and no edit behind it does
+pub record IsLastSettled (journal : List ℕ) (edit : Edit) (e : List ℕ) : Type 0 where
+  pub before : List Found
+  pub behind : List Found
+  pub sectors : found_in_all (length journal / 1024) journal ≡ before ++ Some (edit, true) ∷ behind
+  pub changes : changes_entry e edit ≡ true
+  pub beside : IsBeside e behind
+
+-- then the journal gives the entry what that edit makes of it, whatever was lost
+abbrev pub SettledIsFound : Type 0
+SettledIsFound = (keeps : Keeps) (journal : List ℕ) (edit : Edit) (e : List ℕ) → IsLastSettled journal edit e → names_told keeps journal e ≡ edited (λ _. None) edit e

@@ -1,0 +1,79 @@
+-- Which edits a sync settles, of those that nothing settled: the rows of a profile.
+use Rattle.std.specs.Prelude.{◌≡◌, ◌⊎◌, ◌↔◌, ℕ, ◌<◌, ◌≤◌, ◌||◌, Bool, true, false, List, Option, Some, None, IsTrue, map, nat_eq}
+use Rattle.std.specs.List.{Contains}
+use Rattle.blob_directory.specs.declared.profile.Settles.{Settles}
+use Rattle.blob_directory.specs.declared.profile.Settles.TheVariants.{Own, Names, UpToLast, All}
+use Rattle.blob_directory.specs.declared.unsettled.About.{About}
+use Rattle.blob_directory.specs.declared.unsettled.Synced.{Synced}
+use Rattle.blob_directory.specs.declared.unsettled.Synced.TheVariants.{File, Directory}
+use Rattle.blob_directory.specs.declared.unsettled.Unsettled.{Unsettled}
+
+abbrev pub is_number : Option ℕ → ℕ → Bool
+is_number None n = false
+is_number (Some m) n = nat_eq m n
+
+-- an edit of a name of this inode
+abbrev pub is_of : ℕ → About → Bool
+is_of inode about = nat_eq about.inode inode || is_number about.other inode
+
+-- an edit of a name in this directory
+abbrev pub is_in : ℕ → About → Bool
+is_in directory about = nat_eq about.directory directory || is_number about.other_directory directory
+
+-- one or the other
+abbrev pub touches : ℕ → About → Bool
+touches number about = is_of number about || is_in number about
+
+-- an edit of a name of the inode is in the directory
+pub record IsAbove (edits : List Unsettled) (inode directory : ℕ) : Type 0 where
+  pub edit : Unsettled
+  pub there : Contains edits edit
+  pub of_inode : is_of inode edit.about ≡ true
+  pub in_directory : is_in directory edit.about ≡ true
+
+-- the inode itself and, upward, each directory in which an edit changes a name of one of these
+pub data Upward (edits : List Unsettled) (inode : ℕ) : ℕ → Type 0 where
+  Itself : Upward edits inode inode
+  Above : (i d : ℕ) → Upward edits inode i → IsAbove edits i d → Upward edits inode d
+
+-- an edit of a name of one of these
+pub record IsUpward (edits : List Unsettled) (inode : ℕ) (edit : Unsettled) : Type 0 where
+  pub above : ℕ
+  pub upward : Upward edits inode above
+  pub of_above : is_of above edit.about ≡ true
+
+-- some edit is of a name of the inode, or in the directory
+pub record HasEdit (edits : List Unsettled) (number : ℕ) : Type 0 where
+  pub edit : Unsettled
+  pub there : Contains edits edit
+  pub touches : touches number edit.about ≡ true
+
+-- such an edit is this one or comes after it
+pub record IsUpToLast (edits : List Unsettled) (number : ℕ) (edit : Unsettled) : Type 0 where
+  pub last : HasEdit edits number
+  pub up_to : edit.number ≤ last.edit.number
+
+-- a sync of a file or of a directory settles this edit
+abbrev pub SyncSettles : Settles → Synced → List Unsettled → Unsettled → Type 0
+SyncSettles Own (File inode grown changed) edits edit = ⊥
+SyncSettles Own (Directory d) edits edit = is_in d edit.about ≡ true
+SyncSettles Names (File inode grown changed) edits edit = IsUpward edits inode edit
+SyncSettles Names (Directory d) edits edit = IsUpward edits d edit ⊎ (is_in d edit.about ≡ true)
+SyncSettles UpToLast (File inode grown changed) edits edit = IsUpToLast edits inode edit ⊎ (edit.number < grown)
+SyncSettles UpToLast (Directory d) edits edit = IsUpToLast edits d edit
+SyncSettles All (File inode grown changed) edits edit = (changed ≡ true) ⊎ HasEdit edits inode
+SyncSettles All (Directory d) edits edit = Unit {0}
+
+-- an edit, marked as wanted or not
+abbrev pub marked : (Unsettled → Bool) → Unsettled → Unsettled
+marked wants edit = record edit { is_wanted = wants edit }
+
+-- the test passes exactly those that the sync settles
+abbrev pub Wants : Settles → Synced → List Unsettled → (Unsettled → Bool) → Type 0
+Wants settles synced edits wants = (edit : Unsettled) → Contains edits edit → IsTrue (wants edit) ↔ SyncSettles settles synced edits edit
+
+-- the same edits, of which exactly those are marked that the sync settles
+pub record Marks (settles : Settles) (synced : Synced) (edits marks : List Unsettled) : Type 0 where
+  pub wants : Unsettled → Bool
+  pub exactly : Wants settles synced edits wants
+  pub is : marks ≡ map (marked wants) edits

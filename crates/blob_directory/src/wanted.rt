@@ -1,0 +1,177 @@
+//! Which edits a sync settles, as a test.
+ghost use Rattle.std.specs.Prelude.{◌≡◌, ℕ, IfOk, OnOk};
+ghost use Rattle.std.specs.List.{Contains};
+ghost use Rattle.blob_directory.specs.Syncs.{Upward, Wants};
+ghost use Rattle.blob_directory.specs.Wanted.{HasAbove, HasDirectories, HasToo, IsLast, is_of_any, is_up_to, wants};
+ghost use Rattle.blob_directory.specs.declared.unsettled.Unsettled.{Unsettled};
+
+use crate::profile::Settles;
+use crate::unsettled::{About, Synced, Unsettled};
+use std::alloc::{AllocError, Global};
+
+/// The edits that a sync settles.
+#[derive(Drop)]
+pub(crate) enum Wanted {
+    None,
+    All,
+    /// Those in a directory.
+    In(u64),
+    /// Those of names of these inodes.
+    Of(Vec<u64>),
+    /// Those of names of these inodes, and those in a directory.
+    OfOrIn(Vec<u64>, u64),
+    /// Those up to a number, and those below another.
+    UpTo(Option<u64>, u64),
+}
+
+fn is_of_any(inodes: &[u64], about: &About) -> bool
+    ensures { result ≡ is_of_any inodes.now about.now }
+{
+    for inode in inodes {
+        if about.is_of(*inode) {
+            return true;
+        }
+    }
+    false
+}
+
+fn is_up_to(last: Option<u64>, number: u64) -> bool
+    ensures { result ≡ is_up_to last number }
+{
+    match last {
+        None => false,
+        Some(last) => number <= last,
+    }
+}
+
+impl Wanted {
+    /// Returns whether the sync settles an edit.
+    pub(crate) fn has(&self, edit: &Unsettled) -> bool
+        ensures { result ≡ wants self.now edit.now }
+    {
+        let about = &edit.about;
+        match self {
+            Wanted::None => false,
+            Wanted::All => true,
+            Wanted::In(directory) => about.is_in(*directory),
+            Wanted::Of(inodes) => is_of_any(inodes, about),
+            Wanted::OfOrIn(inodes, directory) => {
+                is_of_any(inodes, about) || about.is_in(*directory)
+            }
+            Wanted::UpTo(last, below) => is_up_to(*last, edit.number) || edit.number < *below,
+        }
+    }
+}
+
+/// Appends a number unless it is there. Fails only if memory runs out.
+fn add(numbers: &mut Vec<u64>, number: u64) -> Result<(), AllocError>
+    ensures { OnOk result (HasToo numbers.old.items number numbers.new.items) }
+{
+    for other in numbers.iter() {
+        if *other == number {
+            return Ok(());
+        }
+    }
+    numbers.push(number)?;
+    Ok(())
+}
+
+/// Appends the directories of an edit. Fails only if memory runs out.
+fn add_directories(numbers: &mut Vec<u64>, about: &About) -> Result<(), AllocError>
+    ensures { OnOk result (HasDirectories about.now numbers.old.items numbers.new.items) }
+{
+    add(numbers, about.directory)?;
+    match about.other_directory {
+        None => Ok(()),
+        Some(other) => add(numbers, other),
+    }
+}
+
+/// Appends the directories in which these edits change names of an inode. Fails only if memory runs out.
+fn add_above(numbers: &mut Vec<u64>, edits: &[Unsettled], inode: u64) -> Result<(), AllocError>
+    ensures { OnOk result (HasAbove edits.now inode numbers.old.items numbers.new.items) }
+{
+    for edit in edits {
+        if edit.about.is_of(inode) {
+            add_directories(numbers, &edit.about)?;
+        }
+    }
+    Ok(())
+}
+
+/// Returns an inode and, upward, the directories in which these edits change its names. Fails only if memory runs out.
+fn upward(alloc: Global, edits: &[Unsettled], inode: u64) -> Result<Vec<u64>, AllocError>
+    ensures only { IfOk result (λ found. (i : ℕ) → Contains found.items i → Upward edits.now inode i) }
+    ensures all { IfOk result (λ found. (i : ℕ) → Upward edits.now inode i → Contains found.items i) }
+{
+    let mut found = Vec::new(alloc);
+    found.push(inode)?;
+    // each number is there once, so memory has run out before the last turn
+    for at in 0..u64::MAX {
+        let at = at as usize;
+        if at >= found.len() {
+            return Ok(found);
+        }
+        let inode = found[at];
+        add_above(&mut found, edits, inode)?;
+    }
+    Err(AllocError)
+}
+
+/// Returns the number of the last edit of an inode, or in a directory. `None` if there is none.
+fn last_of(edits: &[Unsettled], number: u64) -> Option<u64>
+    ensures { IsLast edits.now number result }
+{
+    let mut last = None;
+    for edit in edits {
+        if edit.about.touches(number) && !is_up_to(last, edit.number) {
+            last = Some(edit.number);
+        }
+    }
+    last
+}
+
+/// Returns all edits or none.
+fn all_if(is_all: bool) -> Wanted
+    ensures { (edit : Unsettled) → wants result edit ≡ is_all }
+{
+    if is_all { Wanted::All } else { Wanted::None }
+}
+
+/// Returns which edits a sync settles. Fails only if memory runs out.
+pub(crate) fn choose(
+    alloc: Global,
+    edits: &[Unsettled],
+    settles: Settles,
+    synced: Synced,
+) -> Result<Wanted, AllocError>
+    ensures { IfOk result (λ wanted. Wants settles synced edits.now (wants wanted)) }
+{
+    match (settles, synced) {
+        (Settles::Own, Synced::File { .. }) => Ok(Wanted::None),
+        (Settles::Own, Synced::Directory(directory)) => Ok(Wanted::In(directory)),
+        (Settles::Names, Synced::File { inode, .. }) => {
+            let inodes = upward(alloc, edits, inode)?;
+            Ok(Wanted::Of(inodes))
+        }
+        (Settles::Names, Synced::Directory(directory)) => {
+            let inodes = upward(alloc, edits, directory)?;
+            Ok(Wanted::OfOrIn(inodes, directory))
+        }
+        (Settles::UpToLast, Synced::File { inode, grown, .. }) => {
+            Ok(Wanted::UpTo(last_of(edits, inode), grown))
+        }
+        (Settles::UpToLast, Synced::Directory(directory)) => {
+            Ok(Wanted::UpTo(last_of(edits, directory), 0))
+        }
+        (
+            Settles::All,
+            Synced::File {
+                is_changed,
+                inode,
+                ..
+            },
+        ) => Ok(all_if(is_changed || last_of(edits, inode).is_some())),
+        (Settles::All, Synced::Directory(_)) => Ok(Wanted::All),
+    }
+}

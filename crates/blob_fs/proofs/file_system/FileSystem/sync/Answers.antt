@@ -1,0 +1,23 @@
+use Rattle.std.proofs.Common.{◌≡◌, ℕ, Some, ap, sym, subst, ◌∙◌}
+use Rattle.std.specs.BTreeMap.{BTreeMap, get}
+use Rattle.std.specs.Ordering.{nat_cmp}
+use Rattle.blob_fs.specs.declared.file_system.Options.{Options}
+use Rattle.blob_fs.specs.Files.{SettlesEdits, descriptor_number}
+use Rattle.blob_fs.proofs.file_system.FileSystem.sync.Goals as goal
+
+pub returns-in-Ok-clause-settled : goal.returns-in-Ok-clause-settled
+returns-in-Ok-clause-settled g c = λ honest.
+    let fs = c.args.self.now in
+    let one = c.begin_call.new.self in
+    let two = c.sync_bytes.new.self in
+    let three = c.settle_by.new.self in
+    let same = c.begin_call.ensures.files in
+    let kept = c.settling.ensures.twice fs.store one.store two.store c.in_ok-begin_call.ensures.journal c.in_ok-synced.ensures.journal in
+    record {
+      inode = c.in_ok-inode.inode;
+      opened = ap (λ (m : BTreeMap ℕ ℕ). get nat_cmp m (descriptor_number c.args.file)) (sym same.opens) ∙ c.in_ok-inode.ensures;
+      kind = c.in_ok-synced.synced;
+      is = c.in_ok-synced.ensures.file;
+      settled = subst (λ (o : Options). SettlesEdits o.profile.settles c.in_ok-synced.synced fs three) same.options
+          (c.settling.ensures.after one.options.profile.settles c.in_ok-synced.synced fs.store two.store three.store kept c.in-Ok.ensures.settled);
+    }

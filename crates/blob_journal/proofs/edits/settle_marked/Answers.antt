@@ -1,0 +1,38 @@
+use Rattle.std.proofs.Common.{◌+◌, ap, sym, subst, take, ◌∙◌}
+use Rattle.blob_model.specs.Places.{Place}
+use Rattle.blob_memory.specs.Store.{directory, place}
+use Rattle.blob_faulty.specs.Keeps.{OverMemory}
+use Rattle.blob_faulty.specs.Wrapper.{inner_of, inside}
+use Rattle.blob_journal.specs.declared.journal.Journal.{Journal}
+use Rattle.blob_journal.specs.Settling.{Changes, all_settled}
+use Rattle.blob_journal.proofs.Settling.{marked_more, unmarked_more}
+use Rattle.blob_journal.proofs.edits.settle_marked.Goals.{then-edit+in_ok-settle, else-edit}
+use Rattle.blob_journal.proofs.edits.settle_marked.Goals as goal
+
+pub loop-edit-preserved : goal.loop-edit-preserved
+loop-edit-preserved g c =
+    let edits = c.args.edits.now in
+    let k = c.loop-edit.edit-index in
+    let item = c.edit-item.result in
+    let before = c.args.store.now in
+    let at : Place = place (inside c.args.journal.now.blob) in
+    let i = c.loop-edit.invariant in
+    elim c.if-edit.branch [
+      | then-edit+in_ok-settle w ↦
+          let s = w.in_ok-settle.ensures in
+          record {
+            settled = subst (λ (x : OverMemory g.row.R.Denot). Changes before x at (all_settled (take (k + 1) edits))) (sym w.store-is)
+                (marked_more edits k item c.loop-edit-test.true c.edit-item.is before c.loop-edit.store w.settle.new.store at (place (inside c.loop-edit.journal.blob)) i.place i.directory w.if-edit.true i.settled s.settled);
+            generation = ap (λ (j : Journal). j.generation) w.journal-is ∙ s.generation ∙ i.generation;
+            directory = ap (λ (x : OverMemory g.row.R.Denot). directory (inner_of x)) w.store-is ∙ s.directory ∙ i.directory;
+            place = ap (λ (j : Journal). place (inside j.blob)) w.journal-is ∙ s.place ∙ i.place;
+          }
+      | else-edit w ↦
+          record {
+            settled = subst (λ (x : OverMemory g.row.R.Denot). Changes before x at (all_settled (take (k + 1) edits))) (sym w.store-is)
+                (unmarked_more edits k item c.loop-edit-test.true c.edit-item.is before c.loop-edit.store at w.if-edit.false i.settled);
+            generation = ap (λ (j : Journal). j.generation) w.journal-is ∙ i.generation;
+            directory = ap (λ (x : OverMemory g.row.R.Denot). directory (inner_of x)) w.store-is ∙ i.directory;
+            place = ap (λ (j : Journal). place (inside j.blob)) w.journal-is ∙ i.place;
+          }
+    ]
