@@ -13,7 +13,7 @@ use Rattle.blob_states.specs.CrashStates.{LeftState, has_lines, lines_in, lines_
 same_bytes : (a b : List ℕ) → bytes_eq a b ≡ true → a ≡ b
 same_bytes a b h = (bytes_eq-Decides a b).0 h
 
--- The state is there afterwards, and those that were there stay.
+-- The state exists afterwards, and the earlier ones stay.
 
 pub has_now : (states : List LeftState) (state : LeftState) → Contains (lines_in (with_state states state)) state.lines
 has_now states state = by (has_lines states state.lines) refl
@@ -37,7 +37,7 @@ all_with P states state all one = by (has_lines states state.lines)
     by true = all
     by false = All-push P states state all one
 
--- none is there twice
+-- no two are equal
 pub once_with : (states : List LeftState) (state : LeftState) → AllPairs (λ a b. a ≢ b) (lines_in states) → AllPairs (λ a b. a ≢ b) (lines_in (with_state states state))
 once_with states state once = by (has_lines states state.lines) refl
   where

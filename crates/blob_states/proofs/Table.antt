@@ -17,7 +17,7 @@ is_at text key = bytes_eq text (string_bytes key)
 abbrev pub state_in : String Global × Vec ℕ Global → LeftState
 state_in entry = left_by entry.1.items (string_bytes entry.0)
 
--- its lines are there, or not
+-- whether it has the lines
 pub has_key : (text : List ℕ) (es : Entries) → list_any (is_at text) (keys_of es) ≡ has_lines (map state_in es) text
 has_key text [] = refl
 has_key text (e ∷ es) = grind (arith, has_key text es)

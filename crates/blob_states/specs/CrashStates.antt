@@ -51,7 +51,7 @@ lines_in states = map lines_of states
 abbrev pub has_lines : List LeftState → List ℕ → Bool
 has_lines states lines = list_any (bytes_eq lines) (lines_in states)
 
--- a state is left out if one with the same lines is there
+-- a state is left out if an earlier one has the same lines
 abbrev pub with_state : List LeftState → LeftState → List LeftState
 with_state states state = if has_lines states state.lines then states else states ++ state ∷ []
 
@@ -59,7 +59,7 @@ with_state states state = if has_lines states state.lines then states else state
 pub record AreLeft (v : State) (names : List Name) (is_complete : Bool) (count : ℕ) (states : List LeftState) : Type 0 where
   -- each is left by its words
   pub sound : All (IsLeft v names) states
-  -- none is there twice
+  -- no two are equal
   pub once : AllPairs (λ a b. a ≢ b) (lines_in states)
   -- each crash, by whatever 64-bit words, leaves one of them
   pub complete : is_complete ≡ true → (s : Stream) → HasU64Words s → Contains (lines_in states) (lines_left v names s)

@@ -5,7 +5,7 @@ ghost use Rattle.blob_states.specs.CrashStates.{left_by, states_in, with_state};
 use indexmap::IndexMap;
 use std::alloc::AllocError;
 
-/// Adds a state by its lines, with words that lead to it, unless it is there.
+/// Adds a state by its lines, with words that lead to it, unless it exists.
 pub(crate) fn add(
     states: &mut IndexMap<String, Vec<u64>>,
     lines: String,

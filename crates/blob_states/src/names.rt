@@ -53,7 +53,7 @@ fn add_opened(names: &mut Vec<(String, Vec<u8>)>, call: &Call) -> Result<(), Err
     }
 }
 
-/// Adds a name, unless it is there.
+/// Adds a name, unless it exists.
 fn add(names: &mut Vec<(String, Vec<u8>)>, partition: &str, name: &[u8]) -> Result<(), Error>
     ensures added { OnOk result (Contains (names_of names.new.items) (partition.now, name.now)) }
     ensures kept { OnOk result (KeepsNames (names_of names.old.items) (names_of names.new.items)) }
