@@ -1,22 +1,21 @@
 //! A script of files over a reader and a writer.
 use crate::answers::answer;
-use crate::line::{Line, read_line, without_comment};
-use blob_file_sessions::KeptFiles;
-use blob_file_sessions::preamble::start;
+use crate::call::Call;
+use crate::line::{read_line, without_comment};
+use blob_file_sessions::{FileReader, KeptFiles};
 use blob_lab::script::RefusedLine;
 use blob_lab::scripts::Ahead;
 use blob_lab::{Ending, Output};
 use blob_script::script::read_through;
-use blob_sessions::RefusedPreamble;
-use blob_sessions::ran::{DONE, NO_MEMORY};
+use blob_sessions::ran::DONE;
 use memchr::memchr;
 use std::alloc::{AllocError, AllocFailed, Global};
 use std::io::{ErrorKind, Write};
 
-/// A run of a script: the words and the seed so far, and its files once a call or a setting has come.
+/// A run of a script: the reader of the lines before its files, and its files once a call or a setting has come.
 pub(crate) struct Run {
     alloc: Global,
-    preamble: Vec<u8>,
+    reader: FileReader,
     files: Option<KeptFiles>,
     /// The line of the last reply.
     pub(crate) reply: String,
@@ -27,7 +26,7 @@ impl Drop for Run {
     fn drop(self) {
         let Run {
             alloc: _,
-            preamble: _,
+            reader: _,
             files: _,
             reply: _,
         } = self;
@@ -67,40 +66,40 @@ impl Run {
     pub(crate) fn new(alloc: Global) -> Run {
         Run {
             alloc,
-            preamble: Vec::new(alloc),
+            reader: FileReader::new(alloc),
             files: None,
             reply: String::new(alloc),
         }
     }
 
-    /// Begins the files with the words and the seed so far, unless a line has done that, and inserts further words.
+    /// Begins the files with what was read, unless that is done.
     fn begin(&mut self) -> Result<(), Stop> {
-        if self.files.is_some() {
-            return Ok(());
+        if self.files.is_none() {
+            self.files = Some(self.reader.begin(self.alloc)?);
         }
-        match start(self.alloc, &self.preamble) {
-            Ok(files) => {
-                self.files = Some(files);
-                Ok(())
-            }
-            Err(RefusedPreamble::BadLine(_)) => Err(Stop::BadCall),
-            Err(RefusedPreamble::NoMemory) => Err(Stop::NoMemory),
-        }
+        Ok(())
     }
 
-    /// Adds a line with words or the seed.
-    fn add(&mut self, line: &str) -> Result<(), Stop> {
-        if self.files.is_some() {
-            return Err(Stop::BadCall);
+    /// Reads a line that is no call. Returns whether it is a setting, which begins the files.
+    fn read(&mut self, line: &str) -> Result<bool, Stop> {
+        if let Some(files) = &mut self.files {
+            return Ok(files.read_setting(line.as_bytes())?);
         }
-        self.preamble.extend_from_slice(line.as_bytes())?;
-        self.preamble.push(b'\n')?;
-        // A second seed is refused at its line.
-        match start(self.alloc, &self.preamble) {
-            Ok(_) => Ok(()),
-            Err(RefusedPreamble::BadLine(_)) => Err(Stop::BadCall),
-            Err(RefusedPreamble::NoMemory) => Err(Stop::NoMemory),
+        let is_setting = self.reader.read(self.alloc, line.as_bytes())?;
+        if is_setting {
+            self.begin()?;
         }
+        Ok(is_setting)
+    }
+
+    /// Makes a call. Its reply is in `reply`, without a line feed.
+    fn make(&mut self, call: &Call) -> Result<(), Stop> {
+        self.begin()?;
+        let Some(files) = &mut self.files else {
+            return Err(Stop::NoMemory);
+        };
+        answer(self.alloc, files, call, &mut self.reply)?;
+        Ok(())
     }
 
     /// Does what a line says. Returns whether there is a reply, in `reply`, with its line feed.
@@ -108,26 +107,16 @@ impl Run {
         let Ok(text) = std::str::from_utf8(line) else {
             return Err(Stop::BadCall);
         };
-        let read = read_line(self.alloc, text)?;
-        match &read {
-            Line::Blank => return Ok(false),
-            Line::Generator => {
-                self.add(without_comment(text))?;
-                return Ok(false);
-            }
-            Line::Set(_) | Line::Call(_) => self.begin()?,
-        }
+        let line = without_comment(text);
         self.reply.clear();
-        let Some(files) = &mut self.files else {
-            return Err(Stop::NoMemory);
-        };
-        match &read {
-            Line::Call(call) => answer(self.alloc, files, call, &mut self.reply)?,
-            _ => match files.configure(without_comment(text).as_bytes()) {
-                DONE => self.reply.push_str("ok")?,
-                NO_MEMORY => return Err(Stop::NoMemory),
-                _ => return Err(Stop::BadCall),
-            },
+        match &read_line(self.alloc, line)? {
+            Some(call) => self.make(call)?,
+            None => {
+                if !self.read(line)? {
+                    return Ok(false);
+                }
+                self.reply.push_str("ok")?;
+            }
         }
         self.reply.push('\n')?;
         Ok(true)
