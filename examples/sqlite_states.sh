@@ -10,6 +10,7 @@ set -eu
 
 level=${1:-extra}
 profile=${2:-posix}
+case $level$profile in *[!a-z0-9]*) echo "usage: sqlite_states.sh [LEVEL [PROFILE]]" >&2 && exit 2 ;; esac
 cd "$(dirname -- "$0")/.."
 work=$(mktemp -d)
 trap 'rm -rf "$work"' EXIT

@@ -57,6 +57,7 @@ if has_python; then
     leaves sync 0
     leaves sync-posix-create-rename 0
     leaves sync-posix 1
+    expect 'a record that cannot be written' 2 "$crash" --record "$work/none/script" sync
 else
     skip 'there is no Python 3.8 or later'
 fi

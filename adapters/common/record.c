@@ -193,15 +193,15 @@ static void put_call(const struct blobcrash_file_call *call, const char *path, c
     if (shape == FIRST_NUMBER_NAME) put_number(call->first);
     if (shape != NOTHING && shape != PATH && shape != PATHS) put_number(call->number);
     if (shape == NUMBER_FIRST) put_number(call->first);
-    if (path && shape >= PATH) put_name(path);
+    if (shape >= PATH) put_name(path ? path : "");
     if (shape == NAMES) put_number(call->first);
-    if (shape == NAMES || shape == PATHS) put_name(to);
+    if (shape == NAMES || shape == PATHS) put_name(to ? to : "");
     if (call->kind == BLOBCRASH_F_RENAME) put_text(taken[call->first]);
     if (call->kind == BLOBCRASH_F_RENAME_AT) put_text(taken[call->last]);
 }
 
 void record_call(const struct blobcrash_file_call *call, const char *path, const char *to, uint32_t status) {
-    if (only_looks(call->kind)) return;
+    if (only_looks(call->kind) || status == BLOBCRASH_BAD_CALL) return;
     if (!begin_line(128 + 4 * ((path ? strlen(path) : 0) + (to ? strlen(to) : 0)), status)) return;
     if (call->kind >= sizeof lines / sizeof *lines || !lines[call->kind].word) {
         stop_before(ENOSYS);

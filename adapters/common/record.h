@@ -12,10 +12,6 @@
 
 #ifdef __cplusplus
 extern "C" {
-#ifdef __cplusplus
-}
-#endif
-
 #endif
 
 /* Whether the next call is to be noted. If nothing is recorded then, nothing can be recorded later. */

@@ -3,6 +3,7 @@
 #include "env.h"
 #include "log.h"
 #include "mode.h"
+#include "record.h"
 
 #include <leveldb/db.h>
 #include <leveldb/write_batch.h>
@@ -68,15 +69,10 @@ int damage(const std::string& what) {
 
 }  // namespace
 
-int recorded_run(const char* script, const char* name) {
-    Mode mode;
-    if (!mode_read(name, &mode)) {
-        fprintf(stderr, "crash: no mode: %s\n", name);
-        return 2;
-    }
+// Makes the run on a new disk, which is recorded until its end. Returns whether no call failed.
+static bool run(const Mode& mode) {
     char preamble[WORDS_PREAMBLE];
     words_preamble(&mode.disk, 1, preamble);
-    setenv("BLOBCRASH_RECORD", script, 1);
     adapters::CrashFiles files(adapters::library_disk(preamble));
     files.make_directory("/d");
     files.settle();
@@ -86,8 +82,20 @@ int recorded_run(const char* script, const char* name) {
     files.set(writes);
     if (mode.disk.lies) files.set("syncs lie");
     CrashEnv env(&files, mode.extra);
-    bool is_written = write_batches(&files, &env, mode, 1, KEYS + 1) && write_batches(&files, &env, mode, KEYS + 1, LAST_BATCH + 1);
-    return is_written ? 0 : 2;
+    return write_batches(&files, &env, mode, 1, KEYS + 1) && write_batches(&files, &env, mode, KEYS + 1, LAST_BATCH + 1);
+}
+
+int recorded_run(const char* script, const char* name) {
+    Mode mode;
+    if (!mode_read(name, &mode)) {
+        fprintf(stderr, "crash: no mode: %s\n", name);
+        return 2;
+    }
+    setenv("BLOBCRASH_RECORD", script, 1);
+    // A run that couldn't be recorded leaves an older script, which nobody should check.
+    bool is_whole = run(mode) && record_end() == 0 && !record_notes;
+    if (!is_whole) remove(script);
+    return is_whole ? 0 : 2;
 }
 
 int recorded_check(const char* folder, const char* acknowledged) {

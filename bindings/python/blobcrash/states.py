@@ -159,8 +159,12 @@ class CrashStates:
             else:
                 _, partition, name, data = printed.split()
                 states[-1][1].append((partition.encode(), unhex(name), unhex(data)))
+        # The program stops after a million outcomes of a crash.
+        if not counts.endswith(" states, all of them") and not counts.endswith(" state, all of them"):
+            self.complete = False
+        before = crash.words_before()
         for taken, blobs in states:
-            yield crash.script(taken), tuple(sorted(blobs))
+            yield crash.script([*before, *taken]), tuple(sorted(blobs))
         self.outcomes += int(counts.split()[3]) - len(states)
 
     def _recorded_words(self) -> List[int]:
@@ -244,16 +248,16 @@ class _Crash:
             self._room *= 4
         if _stem(taken) not in self._known:
             self._known[_stem(taken)] = taken
-            yield self._script([*self._words[: used or 0], *taken]), content
+            yield self.script([*self._words[: used or 0], *taken]), content
         return taken
 
-    def script(self, taken: List[int]) -> str:
-        """The script that ends with a crash by these words."""
+    def words_before(self) -> List[int]:
+        """The words that the calls before the crash take."""
         session, used = self._of._replayed(self._words, self._line)
         session.close()
-        return self._script([*self._words[: used or 0], *taken])
+        return self._words[: used or 0]
 
-    def _script(self, words: List[int]) -> str:
+    def script(self, words: List[int]) -> str:
         lines = [*self._of._parts.images, *([f"words {_shown(words)}"] if words else []), *self._of._lines[: self._line], "crash"]
         return "".join(f"{line}\n" for line in lines)
 
