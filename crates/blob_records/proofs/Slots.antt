@@ -64,3 +64,10 @@ read_short len x i n bytes items there read long front rest = sym (is_record len
     (λ lt. sym (front j lt ∙ ap (λ (l : List ℕ). get_or l j 0) read ∙ get_or-take n (drop (i * len) x) j 0 lt ∙ get_or-drop (i * len) x j 0))
     (λ ge. get_or_past x (i * len + j) 0 (omega (arith, there, ge, low)) ∙ sym (rest j ge low))
     (cases_lt j n)))
+
+-- bytes that are read from the end on, or from a later place, are none
+pub taken : (x : List ℕ) (n offset from len : ℕ) → from ≡ min offset (length x) → n ≡ min (length x - from) len → take n (drop from x) ≡ take n (drop offset x)
+taken x n offset from len begins reads = ⊎_elim
+    (λ lt. let same : from ≡ offset = omega (arith, begins, lt) in ap (λ (o : ℕ). take n (drop o x)) same)
+    (λ ge. let none : n ≡ 0 = omega (arith, begins, reads, ge) in ap (λ (k : ℕ). take k (drop from x)) none ∙ sym (ap (λ (k : ℕ). take k (drop offset x)) none))
+    (cases_lt offset (length x))

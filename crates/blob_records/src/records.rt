@@ -2,7 +2,7 @@
 ghost use Rattle.std.specs.Prelude.{◌≡◌, ◌≢◌, ◌↔◌, ℕ, IsTrue, List, OnOk, OnErr, IfOk, length};
 ghost use Rattle.blob_header.specs.Refusals.{IsMemory, error_of};
 ghost use Rattle.blob_faulty.specs.Wrapper.{config_of};
-ghost use Rattle.blob_records.specs.Answers.{MayPut, MaySync};
+ghost use Rattle.blob_records.specs.Answers.{MayGet, MayPut, MayRecover, MaySync};
 ghost use Rattle.blob_records.specs.Records.{AreOpen, AreSlots, FindsNoMore, FindsRead, FindsReadFrom, FindsRecords, PutsRecord, SameRecords, StillPasses, WritesSlotsWhole, len_of, place_of, record_at};
 
 use blob_base::laws::opens::{accepted_opens, numbers_are_given};
@@ -113,12 +113,14 @@ impl Records {
         self.blob.sync(store)
     }
 
-    /// Returns the record at an index.
+    /// Returns the record at an index: the bytes of its slot, with zeros after the end of the blob.
     ///
     /// # Errors
     ///
-    /// `OffsetOverflow` if the slot's end doesn't fit in 64 bits, `Injected` if the draw of the read is true, and `Memory`.
+    /// `OffsetOverflow` if the slot's start doesn't fit in 64 bits; then `Memory`; then `Injected` if the draw of the read is
+    /// true, and `OffsetOverflow` if the physical end of the read doesn't fit.
     pub fn get<R: Rng>(&self, store: &mut Store<R>, index: u64) -> Result<Vec<u8>, Error>
+        ensures answer { AreOpen self.now store.old → MayGet R.stream self.now store.old index (error_of result) }
         ensures read { IfOk result (λ bytes. AreOpen self.now store.old → bytes.items ≡ record_at self.now index) }
         ensures found { FindsNoMore store.old store.new }
         ensures config { config_of store.new ≡ config_of store.old }
@@ -127,10 +129,12 @@ impl Records {
         let Some(offset) = index.checked_mul(self.len) else {
             return Err(Error::OffsetOverflow);
         };
-        let there = self.blob.size().saturating_sub(offset).min(self.len);
+        let size = self.blob.size();
+        let from = offset.min(size);
+        let there = (size - from).min(self.len);
         let mut bytes = Vec::with_capacity(self.alloc, self.len as usize)?;
         bytes.resize(there as usize, 0)?;
-        self.blob.read_into(store, offset, bytes.as_mut_slice())?;
+        self.blob.read_into(store, from, bytes.as_mut_slice())?;
         bytes.resize(self.len as usize, 0)?;
         Ok(bytes)
     }
@@ -140,7 +144,9 @@ impl Records {
     ///
     /// # Errors
     ///
-    /// Those of the wrapper's open and sync. What may be found is unchanged.
+    /// `Injected` if the draw of the open is true; then `PartitionNameInvalid`, `BlobCorrupt`, `BlobVersionMismatch`,
+    /// `GenerationsExhausted`, or `Memory`; then `Injected` if the draw of the sync is true, or `Memory`. What may be found is
+    /// unchanged.
     pub fn recover<R: Rng>(
         alloc: Global,
         store: &mut Store<R>,
@@ -148,6 +154,7 @@ impl Records {
         name: &[u8],
         len: u64,
     ) -> Result<Records, Error>
+        ensures answer { MayRecover R.stream store.old partition.now name.now (error_of result) }
         ensures found { IfOk result (λ r. FindsRecords store.old partition.now name.now r store.new) }
         ensures synced { IfOk result (λ r. FindsReadFrom store.old r store.new) }
         ensures len { IfOk result (λ r. len_of r ≡ len) }

@@ -20,7 +20,8 @@ pub struct Faults<R> {
     pub rng: R,
     /// The rates of its faults, and the mode of its writes.
     pub config: Config,
-    /// After how many calls its power fails, for each session. It doesn't fail in later sessions.
+    /// After how many calls its power fails, for each session, and for each open that is tried again. It doesn't fail in
+    /// later ones.
     pub calls: Vec<u64>,
 }
 
@@ -33,7 +34,8 @@ pub type File<R> = Power<BlobDisk<R>>;
 /// The first open finds no rows. Each later one finds the database of the open before it with the acknowledged
 /// transactions applied, in order. The one that failed may be applied too, whole. No other transaction is.
 ///
-/// `is_mixing` lets the database commit by one sync, since a crash leaves each byte of a write old or new.
+/// `is_mixing` lets the database commit by one sync, since a crash leaves each byte of a write old or new. A failed open
+/// after a crash is tried again up to `retries` times, as by `sql_sessions::crash_and_open`.
 ///
 /// Errors: that of an open, which ends the sessions, and `OutOfMemory`.
 pub fn sessions_over_blobs<R: Rng + Drop>(
@@ -42,6 +44,7 @@ pub fn sessions_over_blobs<R: Rng + Drop>(
     db: Faults<R>,
     is_mixing: bool,
     options: Options,
+    retries: usize,
     sessions: &[Vec<String>],
 ) -> Result<(Vec<Session>, Connection<FileStore<File<R>>>), Error>
     requires log { IsNever (partial_resizes log.config.resize_rate) }
@@ -59,5 +62,5 @@ pub fn sessions_over_blobs<R: Rng + Drop>(
         log: Power::new(log_disk, log.calls),
         db: Power::new(db_disk, db.calls),
     };
-    sessions_survive(alloc, files, options, sessions)
+    sessions_survive(alloc, files, options, retries, sessions)
 }

@@ -6,6 +6,8 @@
 #![tactic(auto)]
 
 pub mod crashes;
+mod files;
+mod retries;
 pub mod sessions;
 pub mod transactions;
 

@@ -6,6 +6,7 @@ ghost use Rattle.sqlite.specs.Files.{file_state};
 ghost use Rattle.sqlite.specs.Tree.{Trees};
 ghost use Rattle.sql_sessions.specs.Runs.{SessionMakes, text_bytes};
 ghost use Rattle.sql_sessions.specs.Ends.{LeadTo};
+ghost use Rattle.sql_sessions.specs.Left.{RetriesHonestly};
 
 use crate::crashes::crash_and_open;
 use crate::transactions::transact;
@@ -56,16 +57,19 @@ fn run_all<S: Alter>(conn: &mut Connection<S>, texts: &[String]) -> Session
 /// Each open finds the database of the open before it with the acknowledged transactions applied, in order. The one that
 /// failed may be applied too, whole. No other transaction is.
 ///
+/// A failed open after a crash is tried again up to `retries` times, as by `crash_and_open`.
+///
 /// Errors: that of an open, which ends the sessions, and `OutOfMemory`.
 pub fn sessions_survive<D: Crash + Drop>(
     alloc: Global,
     files: Files<D>,
     options: Options,
+    retries: usize,
     sessions: &[Vec<String>],
 ) -> Result<(Vec<Session>, Connection<FileStore<D>>), Error>
     requires log { IsTrue (D.Disk.is_usable files.log) }
     requires db { IsTrue (D.Disk.is_usable files.db) }
-    ensures survive { IfOk result (λ r. HasCleanDisk (file_state r.1) → LeadTo files r.0.items sessions.now r.1) }
+    ensures survive { RetriesHonestly D.Disk retries → IfOk result (λ r. HasCleanDisk (file_state r.1) → LeadTo files r.0.items sessions.now r.1) }
 {
     let mut conn = match Connection::open_files(alloc, files, options) {
         Ok(conn) => conn,
@@ -77,7 +81,7 @@ pub fn sessions_survive<D: Crash + Drop>(
         if done.push(session).is_err() {
             return Err(Error::SqliteFailure(ErrorCode::OutOfMemory));
         }
-        conn = match crash_and_open(alloc, conn, options) {
+        conn = match crash_and_open(alloc, conn, options, retries) {
             Ok(again) => again,
             Err((error, _)) => return Err(error),
         };

@@ -1,4 +1,4 @@
-use Rattle.std.proofs.Common.{◌≡◌, ◌∙◌, ◌<◌, ℕ, List, [], length, ap, ap₂, subst, arith, inl, inr}
+use Rattle.std.proofs.Common.{◌≡◌, ◌∙◌, ◌<◌, ℕ, List, [], length, refl, ap, ap₂, subst, arith, inl, inr}
 use Rattle.std.proofs.Math.Logic.{∥∥₁_map}
 use Rattle.std.proofs.lemmas.Result.{IfOk-weaker}
 use Rattle.sqlite_pool.proofs.StateLemmas.{clean_is}
@@ -23,5 +23,5 @@ returns g c =
       survive = IfOk-weaker c.sessions_survive.result _ (λ r. LeadFromNothing r.0.items c.args.sessions.now r.1)
           (λ r lead. ∥∥₁_map (lead (no_doubt _ (clean_is r.1.store.pool)))
           (λ l. (l.0, no_rows _ l.0 db l.1, l.2)))
-          c.sessions_survive.ensures.survive;
+          (c.sessions_survive.ensures.survive (inr (λ disk. refl)));
     }

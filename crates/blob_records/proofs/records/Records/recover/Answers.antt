@@ -1,5 +1,8 @@
-use Rattle.std.proofs.Common.{◌≡◌, ⊎_elim, ℕ, ◌<◌, true, List, length, Some, inl, refl, sym, ◌∙◌, ap, ap₂, subst}
+use Rattle.std.proofs.Common.{rules, arith, Option, ◌≡◌, ⊎_elim, ℕ, ◌<◌, true, List, length, Some, inl, refl, sym, ◌∙◌, ap, ap₂, subst}
 use Rattle.std.proofs.lemmas.Bool.{cases_Bool}
+use Rattle.std.proofs.lemmas.Grind.{common_steps}
+use Rattle.blob_header.specs.Refusals.{Refusal, error_of}
+use Rattle.blob_records.specs.Answers.{MayRecover}
 use Rattle.blob_model.specs.Directory.{current}
 use Rattle.blob_model.specs.Files.{after_open}
 use Rattle.blob_model.specs.Places.{Place, same_place}
@@ -8,6 +11,7 @@ use Rattle.blob_faulty.specs.Leaves.{LeavesOnly, Test}
 use Rattle.blob_faulty.specs.Wrapper.{inner_of, inside}
 use Rattle.blob_memory.specs.Store.{directory, durable, live, place}
 use Rattle.blob_records.specs.Records.{FindsOnly, record_in}
+use Rattle.blob_records.proofs.Answering.{recovers}
 use Rattle.blob_records.proofs.records.Records.recover.Goals as goal
 
 pub returns-in_err-sync-clause-kept : goal.returns-in_err-sync-clause-kept
@@ -94,3 +98,33 @@ returns-clause-synced g c = λ files stands i test reads.
       read = reads;
       size = s.leaves.size ∙ (c.in_ok-blob.ensures.kept_size).0 ∙ c.in_ok-blob.ensures.size ∙ ap (λ (x : List ℕ). length x) (sym s.live);
     }
+
+pub returns-in_err-sync-clause-answer : goal.returns-in_err-sync-clause-answer
+returns-in_err-sync-clause-answer g c =
+    let b = c.in_ok-blob.blob in
+    let at = place (inside b) in
+    let before = inner_of c.args.store.now in
+    let mid = inner_of c.open.new.self in
+    let p = c.args.partition.now in
+    let n = c.args.name.now in
+    let opened = c.in_ok-blob.ensures.opened in
+    let named = c.accepted_opens.ensures.named (directory before) (directory mid) (durable before) (durable mid) p n 0 0 at (live (inside b)) 0 opened in
+    let now = c.accepted_opens.ensures.current (directory before) (directory mid) (durable before) (durable mid) p n 0 0 at (live (inside b)) 0 opened in
+    let same : error_of c.sync.result ≡ error_of c.from_residual-in_err-sync.result = first_of (search rules, cc, grind (arith, common_steps)) in
+    subst (λ (answer : Option Refusal). MayRecover g.R.Rng.stream c.args.store.now p n answer) same
+    (recovers g.R.Rng.stream c.args.store.now c.open.new.self p n at (error_of c.sync.result) (ap₂ (λ (q : List ℕ) (m : List ℕ). current (directory mid) q m) named.partition named.name ∙ now)
+    c.in_ok-blob.ensures.allowed c.in_ok-blob.ensures.leaves.drawn c.in_ok-blob.ensures.leaves.records.numbers.config c.sync.ensures.allowed)
+
+pub returns-clause-answer : goal.returns-clause-answer
+returns-clause-answer g c =
+    let b = c.in_ok-blob.blob in
+    let at = place (inside b) in
+    let before = inner_of c.args.store.now in
+    let mid = inner_of c.open.new.self in
+    let p = c.args.partition.now in
+    let n = c.args.name.now in
+    let opened = c.in_ok-blob.ensures.opened in
+    let named = c.accepted_opens.ensures.named (directory before) (directory mid) (durable before) (durable mid) p n 0 0 at (live (inside b)) 0 opened in
+    let now = c.accepted_opens.ensures.current (directory before) (directory mid) (durable before) (durable mid) p n 0 0 at (live (inside b)) 0 opened in
+    recovers g.R.Rng.stream c.args.store.now c.open.new.self p n at _ (ap₂ (λ (q : List ℕ) (m : List ℕ). current (directory mid) q m) named.partition named.name ∙ now)
+    c.in_ok-blob.ensures.allowed c.in_ok-blob.ensures.leaves.drawn c.in_ok-blob.ensures.leaves.records.numbers.config c.in_ok-sync.ensures.allowed
