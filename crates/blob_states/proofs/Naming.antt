@@ -29,7 +29,7 @@ Covers names d = (p n : List ℕ) → d.file p n ≢ None → Contains names (p,
 same : (a b : List ℕ) → bytes_eq a b ≡ true → a ≡ b
 same a b h = (bytes_eq-Decides a b).0 h
 
--- a file is set whose name is there
+-- a file is set, and the list has its name
 set_covers : (names : List Name) (d : Directory) (p n : List ℕ) (file : Option File) → Contains names (p, n) → Covers names d
     → (q m : List ℕ) → with_file d.file p n file q m ≢ None → Contains names (q, m)
 set_covers names d p n file here covers q m some = by (bytes_eq p q) refl (bytes_eq n m) refl some

@@ -1,5 +1,5 @@
 -- The states that a crash leaves, by all its words.
-use Rattle.std.specs.Prelude.{◌≡◌, ◌≢◌, ◌≤◌, ℕ, Bool, true, List, [], ◌∷◌, ◌++◌, length, map, Option, Some, None, IfSome, if◌then◌else◌, String, Vec, string_bytes}
+use Rattle.std.specs.Prelude.{◌≡◌, ◌≢◌, ◌≤◌, ℕ, Bool, true, List, [], ◌∷◌, ◌++◌, length, map, take, Option, Some, None, IfSome, if◌then◌else◌, String, Vec, string_bytes}
 use Rattle.std.specs.Global.{Global}
 use Rattle.std.specs.List.{All, AllPairs, Contains, list_any}
 use Rattle.std.specs.Str.{bytes_eq}
@@ -55,6 +55,10 @@ has_lines states lines = list_any (bytes_eq lines) (lines_in states)
 abbrev pub with_state : List LeftState → LeftState → List LeftState
 with_state states state = if has_lines states state.lines then states else states ++ state ∷ []
 
+-- the crash along a path leaves one of the states
+abbrev pub IsFound : State → List Name → List LeftState → List Bool → Type 0
+IsFound v names states path = Contains (lines_in states) (lines_left v names (only_words (words_of path)))
+
 -- These are the states that crashes leave. `count` is how many outcomes of the draws were tried.
 pub record AreLeft (v : State) (names : List Name) (is_complete : Bool) (count : ℕ) (states : List LeftState) : Type 0 where
   -- each is left by its words
@@ -68,6 +72,8 @@ pub record AreLeft (v : State) (names : List Name) (is_complete : Bool) (count :
   pub decides : Decides (crash_draws v) tree
   pub most : count ≤ length (leaves tree)
   pub all : is_complete ≡ true → count ≡ length (leaves tree)
+  -- each that was tried leaves one of the states
+  pub tried : All (IsFound v names states) (take count (leaves tree))
 
 -- the same with names that have each file: so a state has all that is durable
 pub record AreAllLeft (v : State) (is_complete : Bool) (count : ℕ) (states : List LeftState) : Type 0 where
