@@ -123,6 +123,11 @@ enum blobcrash_debt_kind {
     BLOBCRASH_DEBT_KEEPS = 10            /* partition, name */
 };
 
+/* The kind of a choice that is a draw of the store: true in the first branch, false in the second. Other kinds are the caller's. */
+enum blobcrash_choice_kind {
+    BLOBCRASH_DRAW = 0
+};
+
 /* A laboratory, or none: a store with its open handles and started syncs. */
 struct blobcrash_session {
     void *at;
@@ -212,6 +217,38 @@ struct blobcrash_debt_reply {
     /* The number of an admitted open, or of a release's token. */
     size_t number;
     size_t predecessor;
+};
+
+/* A choice of a run: which branch it takes, from 0 on, and among how many. */
+struct blobcrash_choice {
+    uint32_t kind;
+    uint64_t branch;
+    uint64_t among;
+};
+
+/*
+ * How far a traversal of the tree of choices of deterministic runs is. All zeros are the first run of the whole tree. A run follows a
+ * path, and then takes the first branch of each choice. The choices of the path, and those that the run has made, are the first ones of
+ * a list that the caller keeps; each call is given the same one, which may grow.
+ */
+struct blobcrash_explorer {
+    /* How many choices of the path are kept. They name the subtree that is visited. */
+    size_t root;
+    /* How many choices the path has. */
+    size_t len;
+    /* How many choices the run has made. */
+    size_t taken;
+    /* How many words the run was given, and how many of them were taken by draws that are counted. */
+    size_t given;
+    size_t drawn;
+    /* Whether the path has another choice than the run has made. */
+    bool differs;
+};
+
+/* Which branch a choice takes. */
+struct blobcrash_branch {
+    uint32_t status;
+    uint64_t branch;
 };
 
 /*
@@ -373,6 +410,35 @@ struct blobcrash_ran blobcrash_create_header(uint16_t layout, uint16_t version, 
  * layout 0 and for a layout that doesn't exist.
  */
 bool blobcrash_interrupted_creation(uint16_t layout, const uint8_t *raw, size_t len);
+
+/* Begins the run of the path, with this many words. */
+void blobcrash_explorer_begin(struct blobcrash_explorer *explorer, size_t given);
+
+/*
+ * Makes the next choice of the run: that of the path, or after its end the first branch. If the path has a choice of another kind or
+ * among another number, the explorer differs from then on.
+ *
+ * DONE; NO_ROOM if the list is full, and BAD_CALL if `among` is 0, which change nothing.
+ */
+struct blobcrash_branch blobcrash_explorer_choose(struct blobcrash_explorer *explorer, struct blobcrash_choice *choices,
+                                                  size_t capacity, uint32_t kind, uint64_t among);
+
+/*
+ * Makes the draws of the calls up to here choices of the run, where `left` words are left (blobcrash_words_left).
+ *
+ * DONE; NO_ROOM if the list is too short for them, which changes nothing.
+ */
+uint32_t blobcrash_explorer_count(struct blobcrash_explorer *explorer, struct blobcrash_choice *choices, size_t capacity,
+                                  size_t left);
+
+/* Ends the run. Returns whether it made the choices of the path, and no fewer: then all choices that it made are the path. */
+bool blobcrash_explorer_end(struct blobcrash_explorer *explorer);
+
+/*
+ * Makes the path that of the next leaf below the root, depth first, the branches in order. Returns false if this was the last leaf, and
+ * also if the list is shorter than the path, which changes nothing.
+ */
+bool blobcrash_explorer_next(struct blobcrash_explorer *explorer, struct blobcrash_choice *choices, size_t capacity);
 
 /* Closes a session and frees its store. A closed one stays closed. */
 void blobcrash_close(struct blobcrash_session *session);

@@ -43,7 +43,7 @@ static void outcomes(size_t len) {
         if (status == BLOBCRASH_EXPLORE_RUN) {
             char words[1024] = "";
             seen[kept]++;
-            tell(blobcrash_words_of(&paths, words, sizeof words) == strlen(words) && paths.len == (kept < len ? kept + 1 : len), words);
+            tell(blobcrash_words_of(&paths, words, sizeof words) == strlen(words) && paths.explorer.len == (kept < len ? kept + 1 : len), words);
         } else {
             tell(status == BLOBCRASH_EXPLORE_AGAIN && again++ < 3, "a run is made again for more words");
         }
@@ -60,13 +60,13 @@ static void refusals(void) {
     tell(blobcrash_next_run(&paths, &session, "seed 7\n") == BLOBCRASH_EXPLORE_RUN, "a seed is a line of a preamble");
     tell(blobcrash_end_run(&paths, &session) == BLOBCRASH_EXPLORE_BAD_SETTINGS, "a seed");
     tell(blobcrash_next_run(&paths, &session, "") == BLOBCRASH_EXPLORE_RUN, "no settings");
-    tell(blobcrash_end_run(&paths, &session) == BLOBCRASH_EXPLORE_RUN && paths.len == 0, "no draws");
+    tell(blobcrash_end_run(&paths, &session) == BLOBCRASH_EXPLORE_RUN && paths.explorer.len == 0, "no draws");
     tell(blobcrash_next_run(&paths, &session, "") == BLOBCRASH_EXPLORE_END && paths.runs == 1, "one run without draws");
     blobcrash_free_paths(&paths);
     /* A run that draws less than before on its path. */
     tell(blobcrash_next_run(&paths, &session, "config write 0 1 1 2 prefix\n") == BLOBCRASH_EXPLORE_RUN, "a first run");
     torn(&session, 4);
-    tell(blobcrash_end_run(&paths, &session) == BLOBCRASH_EXPLORE_RUN && paths.len == 4, "four draws");
+    tell(blobcrash_end_run(&paths, &session) == BLOBCRASH_EXPLORE_RUN && paths.explorer.len == 4, "four draws");
     tell(blobcrash_next_run(&paths, &session, "config write 0 1 1 2 prefix\n") == BLOBCRASH_EXPLORE_RUN, "a second run");
     torn(&session, 2);
     tell(blobcrash_end_run(&paths, &session) == BLOBCRASH_EXPLORE_OTHER_DRAWS, "other draws");

@@ -2,7 +2,7 @@
  * Every outcome of a run, from C: a separate header, over blobcrash.h and the standard library.
  *
  * Each draw of a rate between 0 and 1 takes one word: 0 makes it true, the greatest one false. So the outcomes of a deterministic run form
- * a binary tree. Its paths are visited depth first, true before false:
+ * a binary tree. The library visits its paths (blobcrash_explorer_next), depth first, true before false:
  *
  *     struct blobcrash_paths paths = {0};
  *     struct blobcrash_session session = {0};
@@ -54,13 +54,13 @@ enum { BLOBCRASH_CALLS_PER_RUN = 10000 };
 /* The status of a call that isn't made because the power is off. No other status has this value. */
 enum { BLOBCRASH_POWER_LOSS = 255 };
 
-/* The choices of a path. The lowest bit is set in the second branch of each, so that the power stays on before it fails. */
-enum { BLOBCRASH_TRUE = 0, BLOBCRASH_FALSE = 1, BLOBCRASH_POWER_STAYS = 2, BLOBCRASH_POWER_FAILS = 3 };
+/* The kind of a choice that is no draw: whether the power stays on, which comes first, or fails. */
+enum { BLOBCRASH_POWER = 1 };
 
 /* The path of a run. Set all of it to zeros at first. */
 struct blobcrash_paths {
-    uint8_t *path;          /* its choices */
-    size_t len;
+    struct blobcrash_explorer explorer; /* how far it is */
+    struct blobcrash_choice *choices;   /* the choices of the path, and those that were made */
     size_t room;            /* how many zeros are given after the path, and then as many of the greatest word */
     uint64_t runs;          /* how many runs counted */
     bool has_ended;         /* the run of the path counts, and the next one takes the next path */
@@ -68,16 +68,12 @@ struct blobcrash_paths {
     unsigned power_losses;  /* at most how often the power fails in a run. Set it before the first run */
     uint64_t calls_per_run; /* how many explored calls, and how many choices, a run has at most. If it is 0, 10,000 */
     FILE *script;           /* gets the lines of explored calls, or is NULL */
+    size_t capacity;        /* of `choices` */
     /* Of the run that is under way: */
-    size_t capacity;        /* of `path` */
-    size_t taken;           /* how many choices were made */
-    size_t given;           /* how many words were given */
-    size_t drawn;           /* how many of them were taken */
     unsigned losses;        /* how often the power failed */
     bool is_off;            /* the power is off */
     bool has_crashed;       /* and the store has crashed since */
     bool has_truncated;     /* of files: an open has truncated one since the last crash */
-    bool differs;           /* a choice is of another kind than that of the path */
     bool has_no_memory;
     bool is_running;
     bool is_long;           /* it has too many calls */
@@ -93,17 +89,18 @@ static inline uint64_t blobcrash_most_calls(const struct blobcrash_paths *paths)
 /* The words of a path as a line of a script, for a failure: `words 0 max`. Returns its length without the final zero, which `text`
  * gets if both fit. */
 static inline size_t blobcrash_words_of(const struct blobcrash_paths *paths, char *text, size_t text_room) {
+    const struct blobcrash_choice *choices = paths->choices;
     size_t len = 5;
-    for (size_t i = 0; i < paths->len; i++) {
-        if (paths->path[i] <= BLOBCRASH_FALSE) len += paths->path[i] ? 4 : 2;
+    for (size_t i = 0; i < paths->explorer.len; i++) {
+        if (choices[i].kind == BLOBCRASH_DRAW) len += choices[i].branch == 0 ? 2 : 4;
     }
     if (len < text_room) {
         char *end = text + 5;
         memcpy(text, "words", 5);
-        for (size_t i = 0; i < paths->len; i++) {
-            if (paths->path[i] > BLOBCRASH_FALSE) continue;
-            size_t count = paths->path[i] ? 4 : 2;
-            memcpy(end, paths->path[i] ? " max" : " 0", count);
+        for (size_t i = 0; i < paths->explorer.len; i++) {
+            if (choices[i].kind != BLOBCRASH_DRAW) continue;
+            size_t count = choices[i].branch == 0 ? 2 : 4;
+            memcpy(end, choices[i].branch == 0 ? " 0" : " max", count);
             end += count;
         }
         *end = 0;
@@ -111,13 +108,24 @@ static inline size_t blobcrash_words_of(const struct blobcrash_paths *paths, cha
     return len;
 }
 
+/* Reserves capacity for more choices, and for one after them. `false` if there is no memory. */
+static inline bool blobcrash_add_room(struct blobcrash_paths *paths, size_t more) {
+    size_t wanted = paths->explorer.taken + more, capacity = 2 * paths->capacity + 64;
+    if (wanted < paths->capacity) return true;
+    if (capacity <= wanted) capacity = wanted + 1;
+    struct blobcrash_choice *choices = realloc(paths->choices, capacity * sizeof *choices);
+    if (choices == NULL) return false;
+    paths->choices = choices;
+    paths->capacity = capacity;
+    return true;
+}
+
 /* Goes on to the path of the next run, or begins with the first one. Returns its preamble: its words, and then the settings. RUN, END or
  * NO_MEMORY. */
 static inline int blobcrash_next_path(struct blobcrash_paths *paths, const char *settings, char **preamble, size_t *preamble_len) {
+    if (!blobcrash_add_room(paths, 0)) return BLOBCRASH_EXPLORE_NO_MEMORY;
     if (paths->has_ended) {
-        while (paths->len > 0 && (paths->path[paths->len - 1] & 1) != 0) paths->len--;
-        paths->is_over = paths->len == 0;
-        if (!paths->is_over) paths->path[paths->len - 1] |= 1;
+        paths->is_over = !blobcrash_explorer_next(&paths->explorer, paths->choices, paths->capacity);
         paths->has_ended = false;
     }
     if (paths->is_over) return BLOBCRASH_EXPLORE_END;
@@ -145,14 +153,14 @@ static inline int blobcrash_begin_run(struct blobcrash_paths *paths, uint32_t op
     free(preamble);
     if (opened == BLOBCRASH_NO_MEMORY) return BLOBCRASH_EXPLORE_NO_MEMORY;
     if (opened != BLOBCRASH_DONE) return BLOBCRASH_EXPLORE_BAD_SETTINGS;
-    paths->taken = paths->drawn = 0;
     paths->losses = 0;
     paths->is_off = paths->has_crashed = paths->has_truncated = false;
-    paths->differs = paths->has_no_memory = paths->is_long = false;
+    paths->has_no_memory = paths->is_long = false;
     paths->is_running = true;
     paths->calls = 0;
-    paths->given = 2 * paths->room;
-    for (size_t i = 0; i < paths->len; i++) paths->given += paths->path[i] <= BLOBCRASH_FALSE;
+    size_t given = 2 * paths->room;
+    for (size_t i = 0; i < paths->explorer.len; i++) given += paths->choices[i].kind == BLOBCRASH_DRAW;
+    blobcrash_explorer_begin(&paths->explorer, given);
     return BLOBCRASH_EXPLORE_RUN;
 }
 
@@ -166,33 +174,22 @@ static inline int blobcrash_next_run(struct blobcrash_paths *paths, struct blobc
     return blobcrash_begin_run(paths, blobcrash_open(session, (const uint8_t *)preamble, len).status, preamble, settings);
 }
 
-/* Makes the next choice, of the kind of `first`, and returns it: that of the path, or after its end `first`. */
-static inline uint8_t blobcrash_choose(struct blobcrash_paths *paths, uint8_t first) {
-    if (paths->taken < paths->len) {
-        uint8_t choice = paths->path[paths->taken++];
-        paths->differs |= choice >> 1 != first >> 1;
-        return choice;
-    }
-    if (paths->taken == paths->capacity) {
-        size_t capacity = 2 * paths->capacity + 64;
-        uint8_t *path = realloc(paths->path, capacity);
-        paths->has_no_memory |= path == NULL;
-        if (path == NULL) return first;
-        paths->path = path;
-        paths->capacity = capacity;
-    }
-    paths->path[paths->taken++] = first;
-    return first;
+/* Makes the next choice of a kind, and returns its branch: that of the path, or after its end the first one. */
+static inline uint64_t blobcrash_choose(struct blobcrash_paths *paths, uint32_t kind, uint64_t among) {
+    bool has_room = blobcrash_add_room(paths, 1);
+    paths->has_no_memory |= !has_room;
+    return has_room ? blobcrash_explorer_choose(&paths->explorer, paths->choices, paths->capacity, kind, among).branch : 0;
 }
 
-/* Adds the draws of the calls up to here to the path, where `left` counts the words that are left. */
+/* Makes the draws of the calls up to here choices, where `left` counts the words that are left. */
 static inline void blobcrash_count_words(struct blobcrash_paths *paths, struct blobcrash_ran left) {
-    if (left.status == BLOBCRASH_DONE && left.len <= paths->given) {
-        for (; paths->drawn < paths->given - left.len; paths->drawn++) blobcrash_choose(paths, BLOBCRASH_TRUE);
-    }
+    if (left.status != BLOBCRASH_DONE || left.len > paths->explorer.given) return;
+    bool has_room = blobcrash_add_room(paths, paths->explorer.given - left.len);
+    paths->has_no_memory |= !has_room;
+    if (has_room) blobcrash_explorer_count(&paths->explorer, paths->choices, paths->capacity, left.len);
 }
 
-/* Adds the draws of the calls up to here to the path. Returns how many words are left. */
+/* As blobcrash_count_words. Returns how many words are left. */
 static inline struct blobcrash_ran blobcrash_count_draws(struct blobcrash_paths *paths, struct blobcrash_session *session) {
     struct blobcrash_ran left = blobcrash_words_left(session);
     blobcrash_count_words(paths, left);
@@ -209,15 +206,14 @@ static inline int blobcrash_finish_run(struct blobcrash_paths *paths, struct blo
     }
     if (paths->is_long) return BLOBCRASH_EXPLORE_TOO_LONG;
     if (left.len < paths->room) {
-        if (paths->given - paths->room > most) return BLOBCRASH_EXPLORE_TOO_LONG;
+        if (paths->explorer.given - paths->room > most) return BLOBCRASH_EXPLORE_TOO_LONG;
         paths->room *= 2;
         return BLOBCRASH_EXPLORE_AGAIN;
     }
-    if (left.len > paths->given) return BLOBCRASH_EXPLORE_BAD_SETTINGS;
-    if (paths->taken > most) return BLOBCRASH_EXPLORE_TOO_LONG;
+    if (left.len > paths->explorer.given) return BLOBCRASH_EXPLORE_BAD_SETTINGS;
+    if (paths->explorer.taken > most) return BLOBCRASH_EXPLORE_TOO_LONG;
     if (paths->has_no_memory) return BLOBCRASH_EXPLORE_NO_MEMORY;
-    if (paths->differs || paths->taken < paths->len) return BLOBCRASH_EXPLORE_OTHER_DRAWS;
-    paths->len = paths->taken;
+    if (!blobcrash_explorer_end(&paths->explorer)) return BLOBCRASH_EXPLORE_OTHER_DRAWS;
     paths->runs++;
     paths->has_ended = true;
     return BLOBCRASH_EXPLORE_RUN;
@@ -241,7 +237,7 @@ static inline void blobcrash_repeat_run(struct blobcrash_paths *paths, FILE *scr
 
 /* Frees the memory of the path. */
 static inline void blobcrash_free_paths(struct blobcrash_paths *paths) {
-    free(paths->path);
+    free(paths->choices);
     *paths = (struct blobcrash_paths){0};
 }
 

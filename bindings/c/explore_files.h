@@ -59,7 +59,7 @@ static inline bool blobcrash_files_power_fails(struct blobcrash_paths *paths, st
 static inline bool blobcrash_file_call_changes(const struct blobcrash_paths *paths, uint32_t kind) {
     switch (kind) {
     case BLOBCRASH_F_OPEN: case BLOBCRASH_F_LIST: case BLOBCRASH_F_FIND: case BLOBCRASH_F_LIST_AT: case BLOBCRASH_F_FIND_AT:
-    case BLOBCRASH_F_OPEN_INODE: case BLOBCRASH_F_SIZE: case BLOBCRASH_F_INODE_OF: case BLOBCRASH_F_SETTLE:
+    case BLOBCRASH_F_OPEN_INODE: case BLOBCRASH_F_SIZE: case BLOBCRASH_F_INODE_OF: case BLOBCRASH_F_SETTLE: case BLOBCRASH_F_TREE:
         return false;
     case BLOBCRASH_F_CLOSE:
         return paths->has_truncated;
@@ -95,11 +95,11 @@ static inline const char *blobcrash_file_word(uint32_t kind) {
     static const char *const at[] = {"create_at", "link_at", "unlink_at", "rename_at", "mkdir_at", "rmdir_at", "listdir_at",
                                      "fsync_directory_at", "find_at", "open_inode", "open_inode_truncated"};
     static const char *const by[] = {"close", "truncate", "size", "fsync", "fdatasync", "inode_of"};
-    static const char *const whole[] = {"sync", "settle", "crash"};
+    static const char *const whole[] = {"sync", "settle", "crash", "tree"};
     if (kind <= BLOBCRASH_F_FIND) return words[kind];
     if (kind >= BLOBCRASH_F_CREATE_AT && kind <= BLOBCRASH_F_OPEN_INODE_TRUNCATED) return at[kind - BLOBCRASH_F_CREATE_AT];
     if (kind >= BLOBCRASH_F_CLOSE && kind <= BLOBCRASH_F_INODE_OF) return by[kind - BLOBCRASH_F_CLOSE];
-    if (kind >= BLOBCRASH_F_SYNC_ALL && kind <= BLOBCRASH_F_CRASH) return whole[kind - BLOBCRASH_F_SYNC_ALL];
+    if (kind >= BLOBCRASH_F_SYNC_ALL && kind <= BLOBCRASH_F_TREE) return whole[kind - BLOBCRASH_F_SYNC_ALL];
     return "unknown";
 }
 

@@ -37,7 +37,7 @@ static inline bool blobcrash_may_fail(const struct blobcrash_paths *paths, bool 
 
 /* Chooses whether the power fails now, after the draws were counted. */
 static inline bool blobcrash_fails_now(struct blobcrash_paths *paths) {
-    if (blobcrash_choose(paths, BLOBCRASH_POWER_STAYS) == BLOBCRASH_POWER_STAYS) return false;
+    if (blobcrash_choose(paths, BLOBCRASH_POWER, 2) == 0) return false;
     paths->losses++;
     paths->is_off = true;
     if (paths->script != NULL) fputs("# power loss\n", paths->script);

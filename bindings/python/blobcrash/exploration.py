@@ -32,8 +32,9 @@ from .follow import ExploredStore, MoreWords, NotDeterministic, Run, refuse_size
 from .grammar import MAX, image_line, number, setting_tokens
 from .layers import Library, line_of
 from .met import Met
-from .paths import Choice, next_path, path_of, rest_from, text_of
+from .paths import Choice, path_of, text_of
 from .power import PowerLoss
+from .traversal import Traversal
 
 Body = Callable[..., Any]
 # How many words a run is given at first after those of its path. If it takes more, it is made again.
@@ -218,16 +219,15 @@ class _Visitor:
 
     def visit(self, path: List[Choice], most: int) -> List[str]:
         """Visits the leaves below a path, depth first, and returns the subtrees that the limits left."""
-        root = len(path)
+        along = Traversal(path)
         before: Optional[Run] = None
-        at: Optional[List[Choice]] = path
-        while at is not None:
+        while True:
             if self.runs >= most or (self.runs and time.monotonic() >= self._times.last):
-                return rest_from(at, root)
+                return along.rest()
             try:
-                run = self._made(at)
+                run = self._made(along)
             except _Late:
-                return rest_from(at, root)
+                return along.rest()
             except NotDeterministic as error:
                 if before is None and path:
                     why = "it is the path of another body, or this one isn't deterministic"
@@ -236,18 +236,19 @@ class _Visitor:
             if before is not None:
                 _compare(before, run)
             before = run
-            at = next_path(run.taken, root)
-        return []
+            if not along.advance():
+                return []
 
-    def _made(self, path: List[Choice]) -> Run:
+    def _made(self, along: Traversal) -> Run:
         """Makes one run, with as many words as it takes."""
-        run, store, outcome, error = self._attempt(path, self._times.end if self.runs else self._times.first_end)
+        run, store, outcome, error = self._attempt(along, self._times.end if self.runs else self._times.first_end)
+        is_whole = along.end()
         if run.bounds.is_met:
             self.met += 1
             return run
         self.runs += 1
-        if len(run.taken) < len(path):
-            raise NotDeterministic.by(f"it made {len(run.taken)} choices where it had made {len(path)}") from error
+        if not is_whole:
+            raise NotDeterministic.by(f"it made {along.made} choices where it had made {run.planned}") from error
         if error is not None:
             self._confirm(run, error)
             raise Failed(text_of(run.taken), store.script, reason_of(error), self.runs) from error
@@ -255,12 +256,12 @@ class _Visitor:
             self._tally(outcome)
         return run
 
-    def _attempt(self, path: List[Choice], until: float = float("inf")) -> Tuple[Run, Any, Any, Optional[BaseException]]:
+    def _attempt(self, along: Traversal, until: float = float("inf")) -> Tuple[Run, Any, Any, Optional[BaseException]]:
         """Calls the body, again with more words if it takes all of them. Returns what it returned or raised."""
         tree = self._tree
         while True:
             bounds = Bounds(tree.calls_per_run, until)
-            run = Run(path, self._room, tree.power_losses, tree.seed, bounds, self._states)
+            run = Run(along, self._room, tree.power_losses, tree.seed, bounds, self._states)
             store = tree.store(run)
             outcome: Any = None
             error: Optional[BaseException] = None
@@ -288,7 +289,7 @@ class _Visitor:
 
     def _confirm(self, run: Run, error: BaseException) -> None:
         """Makes a run that failed again, which has to fail again."""
-        again, _, _, raised = self._attempt(run.taken)
+        again, _, _, raised = self._attempt(Traversal(run.taken))
         if raised is None or again.calls != run.calls:
             failed = f"a run raised {reason_of(error)}"
             raise NotDeterministic.by(f"{failed}, and made again it {'made other calls' if raised else 'did not'}") from error
@@ -302,7 +303,7 @@ class _Visitor:
 
 def _compare(before: Run, run: Run) -> None:
     """Raises `NotDeterministic` if two runs differ before the choice at which their paths part."""
-    at = len(run.path) - 1
+    at = run.planned - 1
     calls = min(before.made[at], run.made[at])
     for where, (was, now) in enumerate(zip(before.calls[:calls], run.calls[:calls])):
         if was != now:

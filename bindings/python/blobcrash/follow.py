@@ -8,8 +8,9 @@ from .bounds import BoundedStore, Bounds
 from .grammar import MAX, number_of_branches, setting_tokens
 from .layers import Library
 from .met import Met, State, blobs_of, durable_blobs, frozen, place, settings_of
-from .paths import CHOICE, DRAW, POWER, TRUE, WORDS, Choice
+from .paths import CHOICE, DRAW, POWER, WORDS, Choice
 from .power import Supply
+from .traversal import Traversal
 
 
 class NotDeterministic(RuntimeError):
@@ -50,39 +51,40 @@ class Run:
 
     def __init__(
         self,
-        path: List[Choice],
+        along: Traversal,
         room: int,
         losses: int,
         seed: Optional[int] = None,
         bounds: Optional[Bounds] = None,
         met: Optional[Met] = None,
     ) -> None:
-        self.path = path
+        self._along = along
+        self.planned = along.planned
         self.bounds = bounds or Bounds()
         self.met = {} if met is None else met
-        self.words = [WORDS[branch] for kind, branch, _ in path if kind == DRAW] + [0] * room + [MAX]
-        self.taken: List[Choice] = []
+        self.words = [*_words_of(along.path), *[0] * room, MAX]
         self.made: List[int] = []
         self.calls: List[Any] = []
         self.seed = seed
         self.losses = losses
         self.is_short = False
         self.error: Optional[NotDeterministic] = None
-        self._drawn = 0
+        self._left = len(self.words)
+        along.begin(self._left)
+
+    @property
+    def taken(self) -> List[Choice]:
+        """The choices of the run so far."""
+        return self._along.taken
 
     def choose(self, kind: str, of: int) -> int:
         """The branch of the next choice."""
-        at = len(self.taken)
-        choice = (kind, 0, of)
-        if at < len(self.path):
-            choice = self.path[at]
-            if choice[0] != kind or choice[2] != of:
-                self.error = NotDeterministic.by(f"choice {at} of the path was {_named(choice)}, and is {_named((kind, 0, of))}")
-                raise self.error
-        self.taken.append(choice)
+        branch = self._along.choose(kind, of)
+        if self._along.differs:
+            raise self._differs(kind, of)
         self.made.append(len(self.calls))
-        self.bounds.check(len(self.taken))
-        return choice[1]
+        self.bounds.check(self._along.made)
+        return branch
 
     def fails(self) -> bool:
         """Whether the power goes off at a call."""
@@ -96,8 +98,10 @@ class Run:
 
         Within the path the run is one of those that go on from here. All of them are made, in this search or in others.
         """
-        if len(self.taken) >= len(self.path) and self.met.setdefault(state, tuple(self.taken)) != tuple(self.taken):
-            self.bounds.end_met()
+        if self._along.made >= self.planned:
+            taken = tuple(self.taken)
+            if self.met.setdefault(state, taken) != taken:
+                self.bounds.end_met()
 
     def count(self, left: int) -> None:
         """Counts the draws of a call, after which `left` words are left."""
@@ -105,24 +109,30 @@ class Run:
             self.is_short = True
             self.bounds.check(len(self.words))
             raise MoreWords
-        drawn = len(self.words) - left
-        new = drawn - self._drawn
-        if not new:
+        if left == self._left:
             return
-        self._drawn = drawn
-        if len(self.taken) >= len(self.path):
-            self.taken += [TRUE] * new
-            self.made += [len(self.calls)] * new
-            self.bounds.check(len(self.taken))
-            return
-        for _ in range(new):
-            self.choose(DRAW, 2)
+        self._left = left
+        before = self._along.made
+        self._along.count(left)
+        if self._along.differs:
+            raise self._differs(DRAW, 2)
+        self.made += [len(self.calls)] * (self._along.made - before)
+        self.bounds.check(self._along.made)
 
     def draws(self) -> List[int]:
         """The words of the draws that were made. If the run is short, all that it was given."""
-        if self.is_short:
-            return self.words
-        return [WORDS[branch] for kind, branch, _ in self.taken if kind == DRAW]
+        return self.words if self.is_short else _words_of(self.taken)
+
+    def _differs(self, kind: str, of: int) -> NotDeterministic:
+        """The error of choices of another kind than the path has."""
+        path = self._along.path
+        at = next(at for at in range(len(self.made), len(path)) if path[at][0] != kind or path[at][2] != of)
+        self.error = NotDeterministic.by(f"choice {at} of the path was {_named(path[at])}, and is {_named((kind, 0, of))}")
+        return self.error
+
+
+def _words_of(choices: List[Choice]) -> List[int]:
+    return [WORDS[branch] for kind, branch, _ in choices if kind == DRAW]
 
 
 def _named(choice: Choice) -> str:

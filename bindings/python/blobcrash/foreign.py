@@ -31,6 +31,18 @@ class ScriptRan(ctypes.Structure):
     _fields_ = [("status", ctypes.c_uint32), ("len", ctypes.c_size_t), ("line", ctypes.c_uint64)]
 
 
+class Choice(ctypes.Structure):
+    _fields_ = [("kind", ctypes.c_uint32), ("branch", ctypes.c_uint64), ("among", ctypes.c_uint64)]
+
+
+class Explorer(ctypes.Structure):
+    _fields_ = [*((name, ctypes.c_size_t) for name in ("root", "len", "taken", "given", "drawn")), ("differs", ctypes.c_bool)]
+
+
+class Branch(ctypes.Structure):
+    _fields_ = [("status", ctypes.c_uint32), ("branch", ctypes.c_uint64)]
+
+
 _functions: Optional[ctypes.CDLL] = None
 
 

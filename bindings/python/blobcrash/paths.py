@@ -11,13 +11,15 @@ It names the subtree that begins where it ends. As a text it has a token for eac
 from __future__ import annotations
 
 import re
-from typing import List, Optional, Tuple
+from typing import List, Tuple
 
 from .grammar import MAX
 
 Choice = Tuple[str, int, int]
 
 DRAW, CHOICE, POWER = "a draw", "choose", "a power loss"
+# By the numbers that they have in the library.
+KINDS = (DRAW, POWER, CHOICE)
 TRUE = (DRAW, 0, 2)
 # The words that make a draw true and false, whatever its rate.
 WORDS = (0, MAX)
@@ -59,21 +61,3 @@ def path_of(text: str) -> List[Choice]:
         else:
             raise ValueError(f"{token!r} is no choice of a path: `0`, `max`, `on`, `off` or a branch as `2/5`")
     return path
-
-
-def next_path(taken: List[Choice], root: int) -> Optional[List[Choice]]:
-    """The path to the next leaf after the one at the end of `taken`, depth first, in the subtree that its first `root` choices name."""
-    for at in range(len(taken) - 1, root - 1, -1):
-        kind, branch, of = taken[at]
-        if branch + 1 < of:
-            return [*taken[:at], (kind, branch + 1, of)]
-    return None
-
-
-def rest_from(path: List[Choice], root: int) -> List[str]:
-    """The rest of the subtree that the first `root` choices name, from the subtree of `path` on, as subtrees in order."""
-    rest = [text_of(path)]
-    for at in range(len(path) - 1, root - 1, -1):
-        kind, branch, of = path[at]
-        rest += [text_of([*path[:at], (kind, other, of)]) for other in range(branch + 1, of)]
-    return rest

@@ -29,6 +29,7 @@ from .layers import Library
 from .paths import CHOICE, DRAW, POWER, WORDS, Choice, path_of, text_of
 from .power import PowerLoss
 from .store import Store
+from .traversal import Traversal
 
 # How many lists of random draws are tried with smaller choices.
 _DRAWS = 6
@@ -113,26 +114,31 @@ class Replay(Run):
     """A run by given choices."""
 
     def __init__(self, choices: Choices, room: int, bounds: Optional[Bounds] = None) -> None:
-        super().__init__([], 0, len(choices.losses), bounds=bounds)
+        super().__init__(Traversal(), 0, len(choices.losses), bounds=bounds)
+        self._chosen: List[Choice] = []
         self.words = [*choices.draws, *[MAX] * (room + 1)]
         self._picks = iter(choices.picks)
         self._gaps = iter(choices.losses)
         self._gap = next(self._gaps, 0)
         self._taken_words = 0
 
+    @property
+    def taken(self) -> List[Choice]:
+        return self._chosen
+
     def pick(self, of: int) -> int:
         return min(next(self._picks, 0), of - 1)
 
     def choose(self, kind: str, of: int) -> int:
         branch = self.pick(of)
-        self.taken.append((kind, branch, of))
+        self._chosen.append((kind, branch, of))
         return branch
 
     def fails(self) -> bool:
         if self.losses == 0:
             return False
         is_off = self._gap == 0
-        self.taken.append((POWER, int(is_off), 2))
+        self._chosen.append((POWER, int(is_off), 2))
         self._gap = next(self._gaps, 0) if is_off else self._gap - 1
         self.losses -= is_off
         return is_off
@@ -142,7 +148,7 @@ class Replay(Run):
             self.is_short = True
             raise MoreWords
         drawn = len(self.words) - left
-        self.taken += [(DRAW, WORDS.index(word) if word in WORDS else word, 2) for word in self.words[self._taken_words : drawn]]
+        self._chosen += [(DRAW, WORDS.index(word) if word in WORDS else word, 2) for word in self.words[self._taken_words : drawn]]
         self._taken_words = drawn
 
     def draws(self) -> List[int]:

@@ -1,5 +1,6 @@
 //! Every outcome of a small run.
-use crate::choices::{BOUND_IT, Choice, Choices, advance};
+use crate::choices::{BOUND_IT, Choices};
+use crate::paths::Path;
 use crate::{Builder, Error, Explorable, Run};
 use std::collections::BTreeMap;
 use std::fmt;
@@ -213,14 +214,14 @@ impl<B: Explorable> Exploration<B> {
         &self,
         mut body: impl FnMut(&Run<B::Opened>) -> Result<T, E>,
     ) -> Result<Explored<T>, ExploreError<E>> {
-        let (mut path, mut words) = (Vec::new(), WORDS);
+        let (mut path, mut words) = (Path::default(), WORDS);
         let mut visited = Explored {
             runs: 0,
             outcomes: BTreeMap::new(),
             is_complete: false,
         };
         while visited.runs < self.limit {
-            let run = self.begin(path.clone(), words, visited.runs + 1)?;
+            let run = self.begin(path, words, visited.runs + 1)?;
             let result = catch_unwind(AssertUnwindSafe(|| body(&run)));
             if run.choices(Choices::end) {
                 let (run, script, most) = (visited.runs + 1, run.script(), self.calls);
@@ -229,9 +230,10 @@ impl<B: Explorable> Exploration<B> {
             let result = result.unwrap_or_else(|panic| resume_unwind(panic));
             if run.choices(|choices| choices.is_short()) {
                 words *= 2;
+                path = run.choices(|choices| std::mem::take(&mut choices.path));
                 continue;
             }
-            if run.choices(|choices| choices.leaves_path()) {
+            if run.choices(|choices| !choices.path.end()) {
                 return Err(ExploreError::NotDeterministic);
             }
             visited.runs += 1;
@@ -242,8 +244,8 @@ impl<B: Explorable> Exploration<B> {
                     return Err(ExploreError::Failed { error, run, script });
                 }
             }
-            path = run.choices(|choices| std::mem::take(&mut choices.taken));
-            if !advance(&mut path) {
+            path = run.choices(|choices| std::mem::take(&mut choices.path));
+            if !path.advance() {
                 visited.is_complete = true;
                 break;
             }
@@ -251,7 +253,7 @@ impl<B: Explorable> Exploration<B> {
         Ok(visited)
     }
 
-    fn begin(&self, path: Vec<Choice>, words: usize, number: u64) -> Result<Run<B::Opened>, Error> {
+    fn begin(&self, path: Path, words: usize, number: u64) -> Result<Run<B::Opened>, Error> {
         let choices = Choices::new(path, self.losses, self.calls);
         let opened = self.builder.explored(choices, words)?;
         Ok(Run::new(opened, number))

@@ -1,4 +1,4 @@
-//! The library as it is declared in `bindings/c/blobcrash.h`: its statuses, structs and functions. `library` alone calls them.
+//! The library as it is declared in `bindings/c/blobcrash.h`: its statuses, structs and functions. `library` and `paths` alone call them.
 use crate::debt_calls::{DebtReply, RawDebtCall};
 use std::ffi::c_void;
 
@@ -94,6 +94,37 @@ pub(crate) struct KeptRun {
     pub(crate) len: usize,
 }
 
+/// A choice of a run: which branch it takes, and among how many.
+#[repr(C)]
+#[derive(Clone, Copy, Debug, Default)]
+pub(crate) struct Choice {
+    pub(crate) kind: u32,
+    pub(crate) branch: u64,
+    pub(crate) among: u64,
+}
+
+/// How far a traversal of a tree of choices is. All zeros are the first run of the whole tree.
+#[repr(C)]
+#[derive(Debug, Default)]
+pub(crate) struct Explorer {
+    pub(crate) root: usize,
+    /// How many choices the path has, and how many the run has made.
+    pub(crate) len: usize,
+    pub(crate) taken: usize,
+    /// How many words the run was given, and how many of them its counted draws have taken.
+    pub(crate) given: usize,
+    pub(crate) drawn: usize,
+    /// Whether the path has another choice than the run has made.
+    pub(crate) differs: bool,
+}
+
+/// Which branch a choice takes.
+#[repr(C)]
+pub(crate) struct Branch {
+    pub(crate) status: u32,
+    pub(crate) branch: u64,
+}
+
 /// Which header regions are accepted.
 #[repr(C)]
 pub(crate) struct Accepts {
@@ -174,6 +205,26 @@ unsafe extern "C" {
         name: *const u8,
         name_len: usize,
     ) -> DebtReply;
+    pub(crate) fn blobcrash_explorer_begin(explorer: *mut Explorer, given: usize);
+    pub(crate) fn blobcrash_explorer_choose(
+        explorer: *mut Explorer,
+        choices: *mut Choice,
+        capacity: usize,
+        kind: u32,
+        among: u64,
+    ) -> Branch;
+    pub(crate) fn blobcrash_explorer_count(
+        explorer: *mut Explorer,
+        choices: *mut Choice,
+        capacity: usize,
+        left: usize,
+    ) -> u32;
+    pub(crate) fn blobcrash_explorer_end(explorer: *mut Explorer) -> bool;
+    pub(crate) fn blobcrash_explorer_next(
+        explorer: *mut Explorer,
+        choices: *mut Choice,
+        capacity: usize,
+    ) -> bool;
     pub(crate) fn blobcrash_close(session: *mut RawSession);
     pub(crate) fn blobcrash_parse_header(
         raw: *const u8,

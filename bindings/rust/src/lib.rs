@@ -54,6 +54,7 @@ pub mod header;
 mod library;
 mod limits;
 mod opens;
+mod paths;
 mod pending;
 mod power;
 mod run;

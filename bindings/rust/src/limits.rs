@@ -1,6 +1,7 @@
 //! What may stop the calls of a run: its power, and the choices of an exploration. Stores and files have the same.
 use crate::Error;
-use crate::choices::{Choices, Kind, too_long};
+use crate::choices::{Choices, too_long};
+use crate::paths::Kind;
 use crate::power::{Effect, Power};
 
 /// A session of the library that draws words and records its calls.

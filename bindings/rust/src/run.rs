@@ -1,5 +1,5 @@
 //! One run of an exploration, or of a seed.
-use crate::choices::{Choice, Choices, Kind};
+use crate::choices::Choices;
 use crate::limits::Limited;
 use crate::{Error, Store};
 use std::ops::Deref;
@@ -90,7 +90,7 @@ impl<S: Limited> Run<S> {
     #[must_use]
     pub fn script(&self) -> String {
         let all = self.opened.record();
-        let words = self.choices(|choices| (!choices.is_short()).then(|| words_of(&choices.taken)));
+        let words = self.choices(|choices| (!choices.is_short()).then(|| drawn_line(choices)));
         match words {
             // The first line of the record has the words that were given.
             Some(words) => words + all.split_once('\n').map_or("", |(_, calls)| calls),
@@ -107,16 +107,16 @@ impl<S: Limited> Run<S> {
     }
 }
 
-/// Returns the line with the words of a path's draws. It is empty if there are none.
-fn words_of(taken: &[Choice]) -> String {
-    let draws = taken.iter().filter(|choice| choice.kind == Kind::Draw);
-    let words: Vec<&str> = draws
-        .map(|draw| if draw.branch == 0 { "0" } else { "max" })
-        .collect();
+/// Returns the line with the words of a run's draws. It is empty if there are none.
+fn drawn_line(choices: &Choices) -> String {
+    let words = choices.path.drawn();
     if words.is_empty() {
         return String::new();
     }
-    format!("words {}\n", words.join(" "))
+    let texts = words
+        .iter()
+        .map(|word| if *word == 0 { "0" } else { "max" });
+    format!("words {}\n", texts.collect::<Vec<_>>().join(" "))
 }
 
 /// If a body panics, its script is printed.

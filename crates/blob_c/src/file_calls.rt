@@ -3,10 +3,11 @@ ghost use Rattle.std.specs.Prelude.{◌≡◌, ◌⊎◌, None, IsSome, IfSome};
 ghost use Rattle.blob_fs.specs.Files.{names_of};
 ghost use Rattle.blob_directory.specs.Names.{Same};
 ghost use Rattle.blob_file_sessions.specs.Calls.{TellsFileWords};
-ghost use Rattle.blob_file_sessions.specs.Exports.{AnswersCall, CopiesEntryFrom, InsertsFileWords, MakesSetting, ReadsFiles, Transfers};
+ghost use Rattle.blob_file_sessions.specs.Exports.{AnswersCall, CopiesDurableFrom, CopiesEntryFrom, CopiesPathFrom, InsertsFileWords, MakesSetting, ReadsFiles, Transfers};
 ghost use Rattle.blob_file_sessions.specs.Held.{files_of, fs_of};
 ghost use Rattle.blob_file_sessions.specs.LastParts.{FindsRow, TellsEdit, TellsPlace};
 ghost use Rattle.blob_file_sessions.specs.Replies.{no_reply};
+ghost use Rattle.blob_file_sessions.specs.Trees.{TellsPath};
 ghost use Rattle.blob_sessions.specs.Parts.{no_run};
 ghost use Rattle.blob_sessions.specs.Sessions.{stopped};
 
@@ -147,6 +148,66 @@ pub extern "C" fn blobcrash_files_name(
     let reply = kept.name(index, into);
     files.put(kept);
     reply
+}
+
+/// Copies the path with an index of the last call, a tree, to the start of `into`. Returns what it is bound to, and its length in
+/// `size`. Changes no more.
+///
+/// `NO_ROOM` with the length; `OTHER_REPLY` if the last call has no path with this index; `CLOSED`.
+#[unsafe(no_mangle)]
+pub extern "C" fn blobcrash_files_path(
+    alloc: Global,
+    files: &mut Files,
+    index: usize,
+    into: &mut [u8],
+) -> FileReply
+    ensures { CopiesPathFrom files.old files.new index result into.old into.new }
+{
+    let Some(kept) = files.take(alloc) else {
+        return FileReply::stopped(CLOSED);
+    };
+    let reply = kept.path(index, into);
+    files.put(kept);
+    reply
+}
+
+/// Returns what the path with an index of the last call, a tree, is bound to, and a file's size in bytes. Changes nothing.
+///
+/// `OTHER_REPLY` if the last call has no path with this index; `CLOSED`.
+#[unsafe(no_mangle)]
+pub extern "C" fn blobcrash_files_path_found(
+    alloc: Global,
+    files: &mut Files,
+    index: usize,
+) -> FileReply
+    ensures { ReadsFiles files.old files.new (λ k. TellsPath k.last index result) (result ≡ no_reply CLOSED) }
+{
+    let Some(kept) = files.take(alloc) else {
+        return FileReply::stopped(CLOSED);
+    };
+    let reply = kept.path_found(index);
+    files.put(kept);
+    reply
+}
+
+/// Copies the durable bytes of a file, by its inode, to the start of `into`. Returns in `len` how many. Changes no more.
+///
+/// `NO_ROOM` with the length; `NOT_FOUND` if no file has this number, the layer's `MEMORY`, and `CLOSED`, with the length 0.
+#[unsafe(no_mangle)]
+pub extern "C" fn blobcrash_files_durable(
+    alloc: Global,
+    files: &mut Files,
+    inode: u64,
+    into: &mut [u8],
+) -> Ran
+    ensures { CopiesDurableFrom files.old files.new inode result into.old into.new }
+{
+    let Some(kept) = files.take(alloc) else {
+        return Ran::stopped(CLOSED);
+    };
+    let ran = kept.durable(inode, into);
+    files.put(kept);
+    ran
 }
 
 /// Finds the first run of kept bytes at or after the index `from`, in a row of the last call, a crash. Changes nothing.

@@ -4,6 +4,7 @@
 #![tactic(auto)]
 
 pub mod explain_calls;
+pub mod explorer_calls;
 pub mod file_calls;
 pub mod header_calls;
 

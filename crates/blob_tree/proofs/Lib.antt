@@ -1,1 +1,4 @@
+pub mod Asking
+pub mod ChoiceVisits
+pub mod Turning
 pub mod Visits

@@ -1,2 +1,4 @@
+pub mod ChoiceTrees
+pub mod Traversals
 pub mod Trees
 pub mod WordsLeft

@@ -1,0 +1,117 @@
+"""The traversal of a tree of choices, by the library: which branch a run takes, and which path is next."""
+
+from __future__ import annotations
+
+import ctypes
+from typing import Any, List
+
+from .errors import LibraryMissing
+from .foreign import NO_ROOM, Branch, Choice, Explorer, library, loaded
+from .paths import KINDS, text_of
+from .paths import Choice as Chosen
+
+
+class Traversal:
+    """A path, below which the leaves of a tree are visited, and the choices of the run that follows it."""
+
+    def __init__(self, path: List[Chosen] = ()) -> None:
+        self._functions = _functions()
+        self._explorer = Explorer(root=len(path), len=len(path))
+        self._at = ctypes.byref(self._explorer)
+        self._hold(max(64, 2 * len(path)))
+        for choice, (kind, branch, among) in zip(self._choices, path):
+            choice.kind, choice.branch, choice.among = KINDS.index(kind), branch, among
+
+    @property
+    def planned(self) -> int:
+        """How many choices the path has."""
+        return self._explorer.len
+
+    @property
+    def made(self) -> int:
+        """How many choices the run has made."""
+        return self._explorer.taken
+
+    @property
+    def differs(self) -> bool:
+        """Whether the path has another choice than the run has made."""
+        return self._explorer.differs
+
+    @property
+    def path(self) -> List[Chosen]:
+        """The choices of the path."""
+        return self._first(self._explorer.len)
+
+    @property
+    def taken(self) -> List[Chosen]:
+        """The choices of the run."""
+        return self._first(self._explorer.taken)
+
+    def begin(self, given: int) -> None:
+        """Begins the run of the path, with this many words."""
+        self._functions.blobcrash_explorer_begin(self._at, given)
+
+    def choose(self, kind: str, among: int) -> int:
+        """Makes the next choice of the run, and returns its branch."""
+        while True:
+            chosen = self._functions.blobcrash_explorer_choose(self._at, self._choices, self._capacity, KINDS.index(kind), among)
+            if chosen.status != NO_ROOM:
+                return chosen.branch
+            self._hold(2 * self._capacity)
+
+    def count(self, left: int) -> None:
+        """Makes the draws up to here choices of the run, where `left` words are left."""
+        while self._functions.blobcrash_explorer_count(self._at, self._choices, self._capacity, left) == NO_ROOM:
+            self._hold(2 * self._capacity)
+
+    def end(self) -> bool:
+        """Ends the run. Returns whether it made the choices of the path, and no fewer."""
+        return self._functions.blobcrash_explorer_end(self._at)
+
+    def advance(self) -> bool:
+        """Makes the path that of the next leaf. Returns `False` for the last one."""
+        return self._functions.blobcrash_explorer_next(self._at, self._choices, self._capacity)
+
+    def rest(self) -> List[str]:
+        """The subtrees that are left, from that of the path on, as texts."""
+        other = Traversal(self.path)
+        other._explorer.root = self._explorer.root
+        tokens = [text_of([choice]) for choice in self.path]
+        texts = [" ".join(tokens)]
+        while other.advance():
+            # The choices before the last one are the path's own, so their texts are made once.
+            last = other._choices[other.planned - 1]
+            texts.append(" ".join([*tokens[: other.planned - 1], text_of([_chosen(last)])]))
+        return texts
+
+    def _first(self, count: int) -> List[Chosen]:
+        return [_chosen(choice) for choice in self._choices[:count]]
+
+    def _hold(self, capacity: int) -> None:
+        """Takes a longer list, with the same choices."""
+        choices = (Choice * capacity)()
+        held = getattr(self, "_choices", None)
+        if held is not None:
+            ctypes.memmove(choices, held, ctypes.sizeof(held))
+        self._choices, self._capacity = choices, capacity
+
+
+def _chosen(choice: Choice) -> Chosen:
+    return KINDS[choice.kind], choice.branch, choice.among
+
+
+def _functions() -> Any:
+    functions = loaded()
+    if not hasattr(functions, "blobcrash_explorer_next"):
+        raise LibraryMissing(f"{library()} has no blobcrash_explorer_next: build it with `sh bindings/build.sh`")
+    explorer, choices, size = ctypes.POINTER(Explorer), ctypes.POINTER(Choice), ctypes.c_size_t
+    functions.blobcrash_explorer_begin.restype = None
+    functions.blobcrash_explorer_begin.argtypes = [explorer, size]
+    functions.blobcrash_explorer_choose.restype = Branch
+    functions.blobcrash_explorer_choose.argtypes = [explorer, choices, size, ctypes.c_uint32, ctypes.c_uint64]
+    functions.blobcrash_explorer_count.restype = ctypes.c_uint32
+    functions.blobcrash_explorer_count.argtypes = [explorer, choices, size, size]
+    functions.blobcrash_explorer_end.restype = functions.blobcrash_explorer_next.restype = ctypes.c_bool
+    functions.blobcrash_explorer_end.argtypes = [explorer]
+    functions.blobcrash_explorer_next.argtypes = [explorer, choices, size]
+    return functions

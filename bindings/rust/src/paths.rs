@@ -1,0 +1,147 @@
+//! The path of explored runs. The library knows which branch is next; no other file calls these functions of it.
+use crate::foreign::{
+    Choice, Explorer, blobcrash_explorer_begin, blobcrash_explorer_choose,
+    blobcrash_explorer_count, blobcrash_explorer_end, blobcrash_explorer_next,
+};
+
+/// What a choice decides.
+#[derive(Clone, Copy, Debug, PartialEq, Eq)]
+#[repr(u32)]
+pub(crate) enum Kind {
+    /// Whether a draw of the store is true. The first branch is true.
+    Draw = 0,
+    /// Whether the power fails at a call. In the first branch it stays on.
+    Power = 1,
+    /// A `Run::choose`.
+    Branch = 2,
+}
+
+/// A traversal of the tree of choices, with the list to which the library writes them.
+#[derive(Debug, Default)]
+pub(crate) struct Path {
+    explorer: Explorer,
+    choices: Vec<Choice>,
+}
+
+impl Path {
+    /// Begins the run of the path, with this many words.
+    pub(crate) fn begin(&mut self, given: usize) {
+        // SAFETY: the explorer is borrowed for the call.
+        unsafe { blobcrash_explorer_begin(&mut self.explorer, given) }
+    }
+
+    /// Makes the next choice of the run, and returns its branch.
+    pub(crate) fn choose(&mut self, kind: Kind, among: usize) -> usize {
+        self.reserve(1);
+        let (explorer, capacity) = (&mut self.explorer, self.choices.len());
+        let (at, kind, among) = (self.choices.as_mut_ptr(), kind as u32, among as u64);
+        // SAFETY: the explorer and the list are borrowed for the call, and don't overlap.
+        let chosen = unsafe { blobcrash_explorer_choose(explorer, at, capacity, kind, among) };
+        chosen.branch as usize
+    }
+
+    /// Makes the draws up to here choices of the run, where `left` words are left.
+    pub(crate) fn count(&mut self, left: usize) {
+        self.reserve(self.explorer.given.saturating_sub(left));
+        let (at, capacity) = (self.choices.as_mut_ptr(), self.choices.len());
+        // SAFETY: as for `choose`.
+        unsafe { blobcrash_explorer_count(&mut self.explorer, at, capacity, left) };
+    }
+
+    /// Ends the run. Returns whether it made the choices of the path, and no fewer.
+    pub(crate) fn end(&mut self) -> bool {
+        // SAFETY: the explorer is borrowed for the call.
+        unsafe { blobcrash_explorer_end(&mut self.explorer) }
+    }
+
+    /// Makes the path that of the next leaf. Returns `false` for the last leaf.
+    pub(crate) fn advance(&mut self) -> bool {
+        let (at, capacity) = (self.choices.as_mut_ptr(), self.choices.len());
+        // SAFETY: as for `choose`.
+        unsafe { blobcrash_explorer_next(&mut self.explorer, at, capacity) }
+    }
+
+    /// Returns how many choices the run has made.
+    pub(crate) fn made(&self) -> usize {
+        self.explorer.taken
+    }
+
+    /// Returns the words of the draws on the path.
+    pub(crate) fn words(&self) -> Vec<u64> {
+        words_of(&self.choices[..self.explorer.len])
+    }
+
+    /// Returns the words of the draws that the run has made.
+    pub(crate) fn drawn(&self) -> Vec<u64> {
+        words_of(&self.choices[..self.explorer.taken])
+    }
+
+    /// Reserves capacity for more choices.
+    fn reserve(&mut self, more: usize) {
+        let wanted = self.explorer.taken + more;
+        if self.choices.len() < wanted {
+            self.choices.resize(2 * wanted, Choice::default());
+        }
+    }
+}
+
+/// Returns the words that make draws have their outcomes.
+fn words_of(choices: &[Choice]) -> Vec<u64> {
+    let draws = choices
+        .iter()
+        .filter(|choice| choice.kind == Kind::Draw as u32);
+    draws
+        .map(|draw| if draw.branch == 0 { 0 } else { u64::MAX })
+        .collect()
+}
+
+#[cfg(test)]
+mod tests {
+    use super::{Kind, Path};
+    use crate::foreign::tests::header;
+
+    #[test]
+    fn a_draw_has_the_number_of_the_header() {
+        assert_eq!(header().get("DRAW"), Some(&(Kind::Draw as u32)));
+    }
+
+    /// The branches of a run that makes three choices, if the first one is no draw.
+    fn run(path: &mut Path) -> [usize; 3] {
+        path.begin(0);
+        let first = path.choose(Kind::Branch, 3);
+        [
+            first,
+            path.choose(Kind::Power, 2),
+            path.choose(Kind::Branch, 1 + first),
+        ]
+    }
+
+    /// Each leaf of a tree is visited once, in order.
+    #[test]
+    fn all_leaves() {
+        let (mut path, mut seen) = (Path::default(), Vec::new());
+        loop {
+            seen.push(run(&mut path));
+            assert!(path.end());
+            if !path.advance() {
+                break;
+            }
+        }
+        let wanted = (0..3).flat_map(|a| (0..2).flat_map(move |b| (0..=a).map(move |c| [a, b, c])));
+        assert_eq!(seen, wanted.collect::<Vec<_>>());
+    }
+
+    /// A run that makes other choices, or fewer, doesn't end on its path.
+    #[test]
+    fn other_choices() {
+        let mut path = Path::default();
+        run(&mut path);
+        assert!(path.end() && path.advance());
+        path.begin(0);
+        path.choose(Kind::Branch, 3);
+        assert!(!path.end());
+        path.choose(Kind::Power, 3);
+        path.choose(Kind::Power, 2);
+        assert!(!path.end());
+    }
+}
