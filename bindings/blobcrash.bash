@@ -13,7 +13,8 @@ _blobcrash() {
         states:--at | states:--limit) ;;
         states:*) words='--at --limit --help' ;;
         explain:explain) words='--help' ;;
-        files:files) words='explore --help' ;;
+        files:files) words='explain explore --help' ;;
+        files:explain) ;;
         files:--limit) ;;
         files:*) words='--limit --last' ;;
         mount:--profile | crash_run:--profile) words='ext4 xfs btrfs posix' ;;

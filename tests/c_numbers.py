@@ -18,9 +18,17 @@ CRATES = os.path.join(TOP, "crates")
 # The source files of a crate that have numbers, each with what precedes their names in the header.
 SESSIONS = {"ran.rt": "", "refusals.rt": "E_", "kinds.rt": "", "headers.rt": "H_", "debts.rt": "DEBT_"}
 FILES = {"kinds.rt": "F_", "refusals.rt": "F_"}
+TREES = {"choice.rt": ""}
 # Names that the header has otherwise.
 OTHERWISE = {"E_BLOB_CLOSED": "E_CLOSED", "DEBT_CLOSE_OPEN": "DEBT_CLOSE"}
-STRUCTS = {"blobcrash_session": foreign.Session, "blobcrash_ran": foreign.Ran, "blobcrash_script_ran": foreign.ScriptRan}
+STRUCTS = {
+    "blobcrash_session": foreign.Session,
+    "blobcrash_ran": foreign.Ran,
+    "blobcrash_script_ran": foreign.ScriptRan,
+    "blobcrash_choice": foreign.Choice,
+    "blobcrash_explorer": foreign.Explorer,
+    "blobcrash_branch": foreign.Branch,
+}
 
 
 def numbers_of(header):
@@ -93,11 +101,13 @@ def own_layouts():
 def main():
     checks = [(f"{name} is {value}", numbers_of("blobcrash.h").get(name) == value) for name, value in named().items()]
     checks.append(("nine numbers are compared", len(checks) == 9))
-    for crate, sources, header in (
-        ("blob_sessions", SESSIONS, "blobcrash.h"),
-        ("blob_file_sessions", FILES, "blobcrash_files.h"),
+    for crates, header in (
+        ({"blob_sessions": SESSIONS, "blob_tree": TREES}, "blobcrash.h"),
+        ({"blob_file_sessions": FILES}, "blobcrash_files.h"),
     ):
-        numbers = numbers_in(crate, sources)
+        numbers = {}
+        for crate, sources in crates.items():
+            numbers.update(numbers_in(crate, sources))
         checks.append((f"the numbers of {header}", len(numbers) > 40 and numbers == numbers_of(header)))
     checks.append(("the functions", len(exported()) > 30 and exported() == declared()))
     checks.append(("the structs", own_layouts() == layouts()))

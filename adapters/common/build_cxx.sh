@@ -34,7 +34,7 @@ for source in "$common"/*.c; do
     # shellcheck disable=SC2086
     "${CC:-cc}" -std=c11 -D_XOPEN_SOURCE=700 -O2 -g -Wall -Wextra -Werror "-I$top/bindings/c" ${CFLAGS:-} -c -o "$work/$(basename "$source").o" "$source"
 done
-# Most of the time goes into the headers of the database, so the files are compiled at -O1, several at once.
+# Most of the time goes into the headers of the database, so the files are compiled at -O1, several side by side.
 # shellcheck disable=SC2016
 printf '%s\0' "$here"/*.cc "$common"/*.cc | top=$top common=$common work=$work xargs -0 -n 1 -P "$(nproc)" sh -c \
     '${CXX:-c++} -std=c++17 -O1 -Wall -Wextra -Werror "-I$top/bindings/c" "-I$common" ${CXXFLAGS:-} -c -o "$work/$(basename "$1").o" "$1"' sh

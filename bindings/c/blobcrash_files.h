@@ -70,7 +70,8 @@ enum blobcrash_file_kind {
     /* The whole file system. */
     BLOBCRASH_F_SYNC_ALL = 48,
     BLOBCRASH_F_SETTLE = 49,    /* makes all durable, without a draw: the state before a test */
-    BLOBCRASH_F_CRASH = 50      /* returns in `size` for how many writes it drew, in `number` how many edits were unsettled */
+    BLOBCRASH_F_CRASH = 50,     /* returns in `size` for how many writes it drew, in `number` how many edits were unsettled */
+    BLOBCRASH_F_TREE = 51       /* makes no draw. Returns in `size` how many paths the root reaches; blobcrash_files_path copies one */
 };
 
 /* A file system, or none. Of all zeros it is closed. Its fields belong to the library. */
@@ -144,6 +145,32 @@ struct blobcrash_ran blobcrash_files_read(struct blobcrash_files *files, uint64_
  * DONE; NO_ROOM with the length in `size`; OTHER_REPLY if the last call has no such name; CLOSED. None changes anything else.
  */
 struct blobcrash_file_reply blobcrash_files_name(struct blobcrash_files *files, size_t index, uint8_t *into, size_t capacity);
+
+/*
+ * Copies the path with an index, from 0 on, to the start of `into`: names, each after a slash. The last call is a TREE; a directory comes
+ * before what is in it, and names are sorted by their bytes. `kind` and `number` of the reply are those of FIND, `size` is the length of
+ * the path.
+ *
+ * DONE; NO_ROOM with the length in `size`; OTHER_REPLY if the last call has no such path; CLOSED. None changes anything else.
+ */
+struct blobcrash_file_reply blobcrash_files_path(struct blobcrash_files *files, size_t index, uint8_t *into, size_t capacity);
+
+/*
+ * Returns what the path with an index is bound to, as FIND does: in `number` an inode, in `kind` 0 for a file or 1 for a directory, and
+ * in `size` a file's size in bytes, all as they were at the last call, a TREE.
+ *
+ * DONE; OTHER_REPLY if the last call has no such path; CLOSED. None changes anything.
+ */
+struct blobcrash_file_reply blobcrash_files_path_found(struct blobcrash_files *files, size_t index);
+
+/*
+ * Copies the durable bytes of a file, by its inode, to the start of `into`, and returns how many in `len`. They are those of its last sync
+ * and of failed writes since; a crash applies to them what it keeps of later calls. Makes no draw.
+ *
+ * DONE; NO_ROOM with the number of bytes in `len`; F_NOT_FOUND if no file has this number, E_MEMORY and CLOSED, with the length 0. None
+ * changes anything else, and the last call stays.
+ */
+struct blobcrash_ran blobcrash_files_durable(struct blobcrash_files *files, uint64_t inode, uint8_t *into, size_t capacity);
 
 /*
  * Returns the first run of kept bytes at or after the index `from` of one write. The last call is a CRASH, and `row` counts the writes

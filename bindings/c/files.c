@@ -27,6 +27,12 @@ static bool is_refused(void) {
 void *__wrap_malloc(size_t size) { return is_refused() ? NULL : __real_malloc(size); }
 void *__wrap_realloc(void *old, size_t size) { return is_refused() ? NULL : __real_realloc(old, size); }
 
+/* Whether the durable bytes of an inode are copied with this status and this length. */
+static bool durable_is(uint64_t inode, uint8_t *into, size_t capacity, uint32_t status, size_t len) {
+    struct blobcrash_ran ran = blobcrash_files_durable(&files, inode, into, capacity);
+    return ran.status == status && ran.len == len;
+}
+
 static void closed_files(void) {
     uint8_t into[4] = "...";
     const uint64_t word = 1;
@@ -41,6 +47,9 @@ static void closed_files(void) {
         CHECK(blobcrash_files_kept_run(&files, 0, 0).status == BLOBCRASH_CLOSED);
         CHECK(refuses(blobcrash_files_kept_place(&files, 0), BLOBCRASH_CLOSED));
         CHECK(blobcrash_files_kept_edit(&files, 0).status == BLOBCRASH_CLOSED);
+        CHECK(refuses(blobcrash_files_path(&files, 0, into, 3), BLOBCRASH_CLOSED) && memcmp(into, "...", 4) == 0);
+        CHECK(refuses(blobcrash_files_path_found(&files, 0), BLOBCRASH_CLOSED));
+        CHECK(durable_is(2, into, 3, BLOBCRASH_CLOSED, 0) && memcmp(into, "...", 4) == 0);
         CHECK(blobcrash_files_words_left(&files).status == BLOBCRASH_CLOSED);
         CHECK(blobcrash_files_push_words(&files, &word, 1) == BLOBCRASH_CLOSED);
         if (round == 0) begin("");
@@ -170,7 +179,7 @@ static void refusals(void) {
         {BLOBCRASH_F_RENAME, "/d", "/d/e", 2, BLOBCRASH_F_LOOP}, {BLOBCRASH_F_RENAME, "/d/e", "/d", 2, BLOBCRASH_F_LOOP},
         {BLOBCRASH_F_RENAME, "/a", "/b", 3, BLOBCRASH_BAD_CALL}, {BLOBCRASH_F_RENAME, "/a", "/b", UINT64_MAX, BLOBCRASH_BAD_CALL},
         {11, "/a", "", 0, BLOBCRASH_BAD_CALL}, {15, "/a", "", 0, BLOBCRASH_BAD_CALL}, {27, "a", "", 0, BLOBCRASH_BAD_CALL},
-        {38, "", "", 0, BLOBCRASH_BAD_CALL}, {51, "", "", 0, BLOBCRASH_BAD_CALL}, {UINT32_MAX, "", "", 0, BLOBCRASH_BAD_CALL},
+        {38, "", "", 0, BLOBCRASH_BAD_CALL}, {52, "", "", 0, BLOBCRASH_BAD_CALL}, {UINT32_MAX, "", "", 0, BLOBCRASH_BAD_CALL},
     };
     for (size_t i = 0; i < sizeof rows / sizeof *rows; i++) {
         struct blobcrash_file_reply reply = ask(rows[i].kind, 0, rows[i].path, rows[i].to, rows[i].first, 0);
@@ -224,6 +233,41 @@ static void hostile_arguments(void) {
     CHECK(is(by(BLOBCRASH_F_SIZE, 0), 0, 0, 0) && write_at(0, 0, "") == BLOBCRASH_DONE && is(by(BLOBCRASH_F_SIZE, 0), 0, 0, 0));
     CHECK(blobcrash_files_read(&files, 0, 0, into, 0).status == BLOBCRASH_DONE &&
           blobcrash_files_kept_edit(&files, 0).status == BLOBCRASH_OTHER_REPLY);
+}
+
+/* Whether the last call, a TREE, has this path with an index, and what it is bound to. */
+static bool has_path(size_t index, const char *path, uint32_t kind, uint64_t inode, uint64_t size) {
+    uint8_t into[32];
+    memset(into, '.', sizeof into);
+    size_t len = strlen(path);
+    return is(blobcrash_files_path(&files, index, into, len), kind, inode, len) && memcmp(into, path, len) == 0 && into[len] == '.' &&
+           is(blobcrash_files_path_found(&files, index), kind, inode, size);
+}
+
+static void trees(void) {
+    uint8_t into[8] = ".......";
+    begin("words max 0 0 max\nconfig write 1 2 1 2 prefix\n");
+    CHECK(is(by(BLOBCRASH_F_TREE, 0), 0, 0, 0) && refuses(blobcrash_files_path_found(&files, 0), BLOBCRASH_OTHER_REPLY));
+    CHECK(is(on(BLOBCRASH_F_CREATE, "/b"), 0, 0, 0) && is(on(BLOBCRASH_F_MAKE_DIRECTORY, "/a"), 0, 0, 0));
+    CHECK(pair(BLOBCRASH_F_LINK, "/b", "/a/c", 0) == BLOBCRASH_DONE && write_at(0, 0, "abc") == BLOBCRASH_DONE);
+    CHECK(refuses(blobcrash_files_path(&files, 0, into, 8), BLOBCRASH_OTHER_REPLY));
+    CHECK(is(by(BLOBCRASH_F_TREE, 99), 0, 0, 3));
+    CHECK(has_path(0, "/a", 1, 3, 0) && has_path(1, "/a/c", 0, 2, 3) && has_path(2, "/b", 0, 2, 3));
+    struct blobcrash_file_reply room = blobcrash_files_path(&files, 1, into, 3);
+    CHECK(room.status == BLOBCRASH_NO_ROOM && room.size == 4 && room.number == 2 && memcmp(into, ".......", 8) == 0);
+    CHECK(refuses(blobcrash_files_path(&files, 3, into, 8), BLOBCRASH_OTHER_REPLY) &&
+          refuses(blobcrash_files_path_found(&files, SIZE_MAX), BLOBCRASH_OTHER_REPLY));
+    CHECK(refuses(blobcrash_files_name(&files, 0, into, 8), BLOBCRASH_OTHER_REPLY) && is(by(BLOBCRASH_F_LIST_AT, 3), 0, 0, 1) &&
+          refuses(blobcrash_files_path(&files, 0, into, 8), BLOBCRASH_OTHER_REPLY));
+    /* Nothing is durable before a sync. After it a failed write keeps a byte, and what it kept is durable too. */
+    CHECK(durable_is(2, into, 8, BLOBCRASH_DONE, 0) && is(by(BLOBCRASH_F_SYNC, 0), 0, 0, 0));
+    CHECK(durable_is(2, into, 8, BLOBCRASH_DONE, 3) && memcmp(into, "abc....", 8) == 0 && write_at(0, 1, "xy") == BLOBCRASH_E_INJECTED);
+    CHECK(durable_is(2, into, 2, BLOBCRASH_NO_ROOM, 3) && durable_is(2, into, 3, BLOBCRASH_DONE, 3) && memcmp(into, "axc....", 8) == 0);
+    CHECK(durable_is(1, into, 8, BLOBCRASH_F_NOT_FOUND, 0) && durable_is(3, into, 8, BLOBCRASH_F_NOT_FOUND, 0) &&
+          durable_is(UINT64_MAX, into, 8, BLOBCRASH_F_NOT_FOUND, 0) && memcmp(into, "axc....", 8) == 0);
+    CHECK(ends(BLOBCRASH_F_UNLINK, "/b") == BLOBCRASH_DONE && ends(BLOBCRASH_F_UNLINK, "/a/c") == BLOBCRASH_DONE);
+    CHECK(durable_is(2, into, 8, BLOBCRASH_DONE, 3) && is(by(BLOBCRASH_F_CLOSE, 0), 0, 0, 0) &&
+          durable_is(2, into, 8, BLOBCRASH_F_NOT_FOUND, 0));
 }
 
 static bool is_run(struct blobcrash_kept_run run, size_t bytes, size_t start, size_t len) {
@@ -341,6 +385,7 @@ int main(void) {
     kinds_by_numbers();
     refusals();
     hostile_arguments();
+    trees();
     crashes();
     refused_memory();
     too_many_links();

@@ -48,7 +48,7 @@ edit_here a b (c ∷ edit) e here = ⊎_elim
     ∙ sym (edit_beside (changed b c) edit e none ∙ cond-true (bytes_eq c.0 e) c.1 (b e) now))
     (cases_Bool (changes_entry e edit))
 
--- edits behind it
+-- edits after it
 behind_beside : (keeps : Keeps) (lost : Bool) (found : List Found) (names : Names) (e : List ℕ) → IsBeside e found → all_edited names (kept_edits keeps lost found) e ≡ names e
 behind_beside keeps lost [] names e beside = refl
 behind_beside keeps lost (None ∷ found) names e beside = behind_beside keeps (lost || is_prefix keeps) found names e beside
@@ -63,12 +63,12 @@ behind_beside keeps lost (Some (edit, settled) ∷ found) names e (other, beside
 pub settled_is_found : SettledIsFound
 settled_is_found keeps journal edit e last =
     let none : Names = λ _. None in
-    let rest : List Found = Some (edit, true) ∷ last.behind in
+    let rest : List Found = Some (edit, true) ∷ last.after in
     let parts = kept_parts keeps false last.before rest in
     let front : List Edit = kept_edits keeps false last.before in
-    let back : List Edit = kept_edits keeps parts.0 last.behind in
+    let back : List Edit = kept_edits keeps parts.0 last.after in
     let edits : edits_of keeps journal ≡ front ++ edit ∷ back = ap (kept_edits keeps false) last.sectors ∙ parts.1 in
     ap (λ l. all_edited none l e) edits
     ∙ ap (λ (n : Names). n e) (all_parts none front (edit ∷ back))
-    ∙ behind_beside keeps parts.0 last.behind (edited (all_edited none front) edit) e last.beside
+    ∙ behind_beside keeps parts.0 last.after (edited (all_edited none front) edit) e last.beside
     ∙ edit_here (all_edited none front) none edit e last.changes

@@ -10,7 +10,7 @@ abbrev pub found_in_all : ℕ → List ℕ → List Found
 found_in_all zero bytes = []
 found_in_all (suc n) bytes = found_in (take 1024 bytes) ∷ found_in_all n (drop 1024 bytes)
 
--- with `Prefix` a crash keeps no unsettled edit behind a lost one
+-- with `Prefix` a crash keeps no unsettled edit after a lost one
 abbrev pub is_prefix : Keeps → Bool
 is_prefix Any = false
 is_prefix Prefix = true

@@ -17,14 +17,15 @@ IsBeside e [] = Unit {0}
 IsBeside e (None ∷ found) = IsBeside e found
 IsBeside e (Some (edit, settled) ∷ found) = (changes_entry e edit ≡ false) × IsBeside e found
 
--- a sector of the journal has this edit, settled; it changes the entry, and no edit behind it does
+-- a sector of the journal has this edit, settled; it changes the entry, and no later edit does
 pub record IsLastSettled (journal : List ℕ) (edit : Edit) (e : List ℕ) : Type 0 where
   pub before : List Found
-  pub behind : List Found
-  pub sectors : found_in_all (length journal / 1024) journal ≡ before ++ Some (edit, true) ∷ behind
+  pub after : List Found
+  pub sectors : found_in_all (length journal / 1024) journal ≡ before ++ Some (edit, true) ∷ after
   pub changes : changes_entry e edit ≡ true
-  pub beside : IsBeside e behind
+  pub beside : IsBeside e after
 
--- then the journal gives the entry what that edit makes of it, whatever was lost
+-- then the journal gives the entry the value that this edit sets, whatever was lost
 abbrev pub SettledIsFound : Type 0
-SettledIsFound = (keeps : Keeps) (journal : List ℕ) (edit : Edit) (e : List ℕ) → IsLastSettled journal edit e → names_told keeps journal e ≡ edited (λ _. None) edit e
+SettledIsFound = (keeps : Keeps) (journal : List ℕ) (edit : Edit) (e : List ℕ) → IsLastSettled journal edit e
+    → names_told keeps journal e ≡ edited (λ _. None) edit e

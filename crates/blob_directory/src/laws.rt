@@ -18,8 +18,8 @@ pub fn found()
     ensures again { FindsAgain }
 {}
 
-/// If a sector of a journal has a settled edit of an entry, and no sector behind it has an edit of that entry, the journal gives
-/// the entry what that edit makes of it: by every profile, whatever other sectors were lost.
+/// If a sector of a journal has a settled edit of an entry, and no later sector has an edit of that entry, the journal gives
+/// the entry the value that this edit sets: by every profile, whatever other sectors were lost.
 pub fn settled()
     ensures { SettledIsFound }
 {}

@@ -1,4 +1,4 @@
-//! Paths: names behind slashes.
+//! Paths: names after slashes.
 ghost use Rattle.std.specs.Prelude.{◌<◌, ◌≤◌, length, IfSome};
 
 /// The longest name, in bytes.

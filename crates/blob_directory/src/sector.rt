@@ -102,7 +102,7 @@ fn binding_told(kind: u8, inode: u64) -> Option<Binding>
 #[tactic(auto, unfolding(crate::specs::Sectors::number_told))]
 fn take_number(bytes: &[u8]) -> Option<(u64, &[u8])>
     ensures number { MatchOption result (length bytes.now < 8) (λ told. told.0 ≡ number_told bytes.now) }
-    ensures behind { IfSome result (λ told. told.1.now ≡ drop 8 bytes.now) }
+    ensures rest { IfSome result (λ told. told.1.now ≡ drop 8 bytes.now) }
     ensures length { IfSome result (λ told. length told.1.now + 8 ≡ length bytes.now) }
 {
     let (number, rest) = bytes.split_first_chunk::<8>()?;
@@ -114,7 +114,7 @@ fn take_number(bytes: &[u8]) -> Option<(u64, &[u8])>
 fn take_change(alloc: Global, bytes: &[u8]) -> Result<Option<(Change, &[u8])>, AllocError>
     ensures none { IfOk result (λ told. MatchOption told (has_change bytes.now ≡ false) (λ _. has_change bytes.now ≡ true)) }
     ensures change { IfOk result (λ told. IfSome told (λ t. change_of t.0 ≡ change_told bytes.now)) }
-    ensures behind { IfOk result (λ told. IfSome told (λ t. t.1.now ≡ drop (17 + number_told bytes.now) bytes.now)) }
+    ensures rest { IfOk result (λ told. IfSome told (λ t. t.1.now ≡ drop (17 + number_told bytes.now) bytes.now)) }
 {
     let Some((size, rest)) = take_number(bytes) else {
         return Ok(None);

@@ -63,7 +63,7 @@ impl Wanted {
     }
 }
 
-/// Appends a number unless it is there. Fails only if memory runs out.
+/// Appends a number unless the list has it. Fails only if memory runs out.
 fn add(numbers: &mut Vec<u64>, number: u64) -> Result<(), AllocError>
     ensures { OnOk result (HasToo numbers.old.items number numbers.new.items) }
 {
@@ -106,7 +106,7 @@ fn upward(alloc: Global, edits: &[Unsettled], inode: u64) -> Result<Vec<u64>, Al
 {
     let mut found = Vec::new(alloc);
     found.push(inode)?;
-    // each number is there once, so memory has run out before the last turn
+    // the list has each number once, so memory has run out before the last turn
     for at in 0..u64::MAX {
         let at = at as usize;
         if at >= found.len() {

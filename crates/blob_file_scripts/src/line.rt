@@ -1,21 +1,8 @@
-//! One line of a script of files.
+//! The call of a line of a script of files.
 use crate::call::{Call, read_call};
-use blob_file_sessions::FileSetting;
-use blob_file_sessions::setting::{FileLine, read_file_line};
 use blob_lab::script::RefusedLine;
 use blob_script::script::token::Tokens;
 use std::alloc::Global;
-
-/// The meaning of a line.
-#[derive(Drop)]
-pub enum Line {
-    /// An empty line or a comment.
-    Blank,
-    /// More words for the generator, or its seed. Only before the first call.
-    Generator,
-    Set(FileSetting),
-    Call(Call),
-}
 
 /// Returns the line without the comment at its end: a token that begins with a number sign, and what follows it.
 pub fn without_comment(line: &str) -> &str {
@@ -25,30 +12,21 @@ pub fn without_comment(line: &str) -> &str {
     }
 }
 
-/// Parses a line, without its line feed. The caller checks whether words and a seed are allowed there.
+/// Parses the call of a line, without its line feed and its comment. Returns `None` if its first word is none of a call.
 ///
 /// # Errors
 ///
-/// `BadCall` if it is no line of a script of files, `NoMemory`.
-pub fn read_line(alloc: Global, text: &str) -> Result<Line, RefusedLine> {
-    let line = without_comment(text);
+/// `BadCall` if the tokens after the word aren't those of the call, `NoMemory`.
+pub fn read_line(alloc: Global, line: &str) -> Result<Option<Call>, RefusedLine> {
     let mut tokens = Tokens::new(line);
     let Some(word) = tokens.next() else {
-        return Ok(Line::Blank);
+        return Ok(None);
     };
     let Some(call) = read_call(alloc, word, &mut tokens)? else {
-        return other_line(alloc, line);
+        return Ok(None);
     };
     match tokens.next() {
-        None => Ok(Line::Call(call)),
+        None => Ok(Some(call)),
         Some(_) => Err(RefusedLine::BadCall),
     }
-}
-
-fn other_line(alloc: Global, line: &str) -> Result<Line, RefusedLine> {
-    Ok(match &read_file_line(alloc, line.as_bytes())? {
-        FileLine::Blank => Line::Blank,
-        FileLine::Words(_) | FileLine::Seed(_) => Line::Generator,
-        FileLine::Set(setting) => Line::Set(*setting),
-    })
 }

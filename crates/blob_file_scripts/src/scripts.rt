@@ -1,25 +1,32 @@
 //! A script of files over a reader and a writer.
 use crate::answers::answer;
-use crate::line::{Line, read_line, without_comment};
-use blob_file_sessions::KeptFiles;
-use blob_file_sessions::preamble::start;
+use crate::call::Call;
+use crate::line::{read_line, without_comment};
+use crate::remarks::push_remarks;
+use crate::watch::Watch;
+use blob_file_sessions::{FileReader, KeptFiles};
 use blob_lab::script::RefusedLine;
 use blob_lab::scripts::Ahead;
 use blob_lab::{Ending, Output};
 use blob_script::script::read_through;
-use blob_sessions::RefusedPreamble;
-use blob_sessions::ran::{DONE, NO_MEMORY};
+use blob_sessions::ran::DONE;
 use memchr::memchr;
 use std::alloc::{AllocError, AllocFailed, Global};
 use std::io::{ErrorKind, Write};
 
-/// A run of a script: the words and the seed so far, and its files once a call or a setting has come.
+/// A run of a script: the reader of the lines before its files, and its files once a call or a setting has come.
 pub(crate) struct Run {
     alloc: Global,
-    preamble: Vec<u8>,
+    reader: FileReader,
     files: Option<KeptFiles>,
+    /// How many lines were taken.
+    lines: u64,
     /// The line of the last reply.
     pub(crate) reply: String,
+    /// What the remarks need, if the run is explained.
+    watch: Option<Watch>,
+    /// The remarks after the last reply.
+    remarks: Vec<u8>,
 }
 
 /// Ends what it holds.
@@ -27,9 +34,12 @@ impl Drop for Run {
     fn drop(self) {
         let Run {
             alloc: _,
-            preamble: _,
+            reader: _,
             files: _,
+            lines: _,
             reply: _,
+            watch: _,
+            remarks: _,
         } = self;
     }
 }
@@ -67,67 +77,76 @@ impl Run {
     pub(crate) fn new(alloc: Global) -> Run {
         Run {
             alloc,
-            preamble: Vec::new(alloc),
+            reader: FileReader::new(alloc),
             files: None,
+            lines: 0,
             reply: String::new(alloc),
+            watch: None,
+            remarks: Vec::new(alloc),
         }
     }
 
-    /// Begins the files with the words and the seed so far, unless a line has done that, and inserts further words.
+    /// Begins a run that is explained.
+    fn explained(alloc: Global) -> Run {
+        let mut run = Run::new(alloc);
+        run.watch = Some(Watch::new(alloc));
+        run
+    }
+
+    /// Begins the files with what was read, unless that is done.
     fn begin(&mut self) -> Result<(), Stop> {
-        if self.files.is_some() {
-            return Ok(());
+        if self.files.is_none() {
+            self.files = Some(self.reader.begin(self.alloc)?);
         }
-        match start(self.alloc, &self.preamble) {
-            Ok(files) => {
-                self.files = Some(files);
-                Ok(())
-            }
-            Err(RefusedPreamble::BadLine(_)) => Err(Stop::BadCall),
-            Err(RefusedPreamble::NoMemory) => Err(Stop::NoMemory),
-        }
+        Ok(())
     }
 
-    /// Adds a line with words or the seed.
-    fn add(&mut self, line: &str) -> Result<(), Stop> {
-        if self.files.is_some() {
-            return Err(Stop::BadCall);
+    /// Reads a line that is no call. Returns whether it is a setting, which begins the files.
+    fn read(&mut self, line: &str) -> Result<bool, Stop> {
+        if let Some(files) = &mut self.files {
+            return Ok(files.read_setting(line.as_bytes())?);
         }
-        self.preamble.extend_from_slice(line.as_bytes())?;
-        self.preamble.push(b'\n')?;
-        // A second seed is refused at its line.
-        match start(self.alloc, &self.preamble) {
-            Ok(_) => Ok(()),
-            Err(RefusedPreamble::BadLine(_)) => Err(Stop::BadCall),
-            Err(RefusedPreamble::NoMemory) => Err(Stop::NoMemory),
+        let is_setting = self.reader.read(self.alloc, line.as_bytes())?;
+        if is_setting {
+            self.begin()?;
         }
+        Ok(is_setting)
+    }
+
+    /// Makes a call. Its reply is in `reply`, without a line feed.
+    fn make(&mut self, call: &Call) -> Result<(), Stop> {
+        self.begin()?;
+        let Some(files) = &mut self.files else {
+            return Err(Stop::NoMemory);
+        };
+        if let Some(watch) = &mut self.watch {
+            watch.before(files, call)?;
+        }
+        answer(self.alloc, files, call, &mut self.reply)?;
+        if let Some(watch) = &mut self.watch {
+            let text = watch.after(self.lines, files, call, &self.reply)?;
+            push_remarks(&text, &mut self.remarks)?;
+        }
+        Ok(())
     }
 
     /// Does what a line says. Returns whether there is a reply, in `reply`, with its line feed.
     pub(crate) fn take(&mut self, line: &[u8]) -> Result<bool, Stop> {
+        self.lines = self.lines.saturating_add(1);
         let Ok(text) = std::str::from_utf8(line) else {
             return Err(Stop::BadCall);
         };
-        let read = read_line(self.alloc, text)?;
-        match &read {
-            Line::Blank => return Ok(false),
-            Line::Generator => {
-                self.add(without_comment(text))?;
-                return Ok(false);
-            }
-            Line::Set(_) | Line::Call(_) => self.begin()?,
-        }
+        let line = without_comment(text);
         self.reply.clear();
-        let Some(files) = &mut self.files else {
-            return Err(Stop::NoMemory);
-        };
-        match &read {
-            Line::Call(call) => answer(self.alloc, files, call, &mut self.reply)?,
-            _ => match files.configure(without_comment(text).as_bytes()) {
-                DONE => self.reply.push_str("ok")?,
-                NO_MEMORY => return Err(Stop::NoMemory),
-                _ => return Err(Stop::BadCall),
-            },
+        self.remarks.clear();
+        match &read_line(self.alloc, line)? {
+            Some(call) => self.make(call)?,
+            None => {
+                if !self.read(line)? {
+                    return Ok(false);
+                }
+                self.reply.push_str("ok")?;
+            }
         }
         self.reply.push('\n')?;
         Ok(true)
@@ -175,10 +194,10 @@ fn next_line<R: Ahead>(reader: &mut R, line: &mut Vec<u8>) -> Result<bool, Endin
 
 fn run_lines<R: Ahead, W: Write>(
     alloc: Global,
+    mut run: Run,
     reader: &mut R,
     output: &mut Output<W>,
 ) -> Result<(), Ending> {
-    let mut run = Run::new(alloc);
     let mut line = Vec::new(alloc);
     for number in 1..u64::MAX {
         if !output.is_flushed() && memchr(b'\n', reader.ready()).is_none() {
@@ -188,13 +207,30 @@ fn run_lines<R: Ahead, W: Write>(
             return Ok(());
         }
         match run.take(&line) {
-            Ok(true) => output.write_all(run.reply.as_bytes())?,
+            Ok(true) => {
+                output.write_all(run.reply.as_bytes())?;
+                output.write_all(&run.remarks)?;
+            }
             Ok(false) => {}
             Err(Stop::BadCall) => return Err(Ending::BadCall(number)),
             Err(Stop::NoMemory) => return Err(Ending::NoMemory),
         }
     }
     Err(Ending::InputFailed)
+}
+
+fn serve<R: Ahead, W: Write>(
+    alloc: Global,
+    run: Run,
+    reader: &mut R,
+    output: &mut Output<W>,
+) -> Ending {
+    let ran = run_lines(alloc, run, reader, output);
+    match (output.flush(), ran) {
+        (Err(failed), _) => failed,
+        (Ok(()), Ok(())) => Ending::Done,
+        (Ok(()), Err(ending)) => ending,
+    }
 }
 
 /// Runs a script of files: writes the reply to each call and setting as a line. Flushes the replies before a read that may wait
@@ -204,10 +240,16 @@ pub fn serve_files<R: Ahead, W: Write>(
     reader: &mut R,
     output: &mut Output<W>,
 ) -> Ending {
-    let ran = run_lines(alloc, reader, output);
-    match (output.flush(), ran) {
-        (Err(failed), _) => failed,
-        (Ok(()), Ok(())) => Ending::Done,
-        (Ok(()), Err(ending)) => ending,
-    }
+    serve(alloc, Run::new(alloc), reader, output)
+}
+
+/// Runs a script of files as `serve_files`, and writes remarks after a reply: lines that begin with `# `. After a crash they list
+/// the edits that nothing had settled and the unsynced writes of files, each with what the crash did with it. After a sync they list
+/// the edits that it settled.
+pub fn explain_files<R: Ahead, W: Write>(
+    alloc: Global,
+    reader: &mut R,
+    output: &mut Output<W>,
+) -> Ending {
+    serve(alloc, Run::explained(alloc), reader, output)
 }

@@ -1,11 +1,14 @@
 -- What an exported call does with files: open ones stay open, and closed ones closed.
 use Rattle.std.specs.Prelude.{◌≡◌, ℕ, List, Option, Some, None}
 use Rattle.blob_fs.specs.Files.{KeepsNames}
+use Rattle.blob_sessions.specs.Sessions.{stopped}
+use Rattle.blob_sessions.specs.declared.ran.Ran.{Ran}
 use Rattle.blob_sessions.specs.declared.ran.TheConstants.{CLOSED}
 use Rattle.blob_file_sessions.specs.Calls.{Answers, Configures, TakesWords}
 use Rattle.blob_file_sessions.specs.Held.{files_of, fs_of}
 use Rattle.blob_file_sessions.specs.LastParts.{CopiesEntry}
 use Rattle.blob_file_sessions.specs.Replies.{last_reply, no_reply}
+use Rattle.blob_file_sessions.specs.Trees.{CopiesDurable, CopiesPath}
 use Rattle.blob_file_sessions.specs.declared.call.FileReply.{FileReply}
 use Rattle.blob_file_sessions.specs.declared.files.Files.{Files}
 use Rattle.blob_file_sessions.specs.declared.kept.KeptFiles.{KeptFiles}
@@ -40,6 +43,16 @@ Transfers before after status =
 abbrev pub CopiesEntryFrom : Files → Files → ℕ → FileReply → List ℕ → List ℕ → Type 0
 CopiesEntryFrom before after index reply old new =
     ReadsFiles before after (λ k. CopiesEntry k.last index reply old new) ((reply ≡ no_reply CLOSED) × (new ≡ old))
+
+-- a path of the last reply
+abbrev pub CopiesPathFrom : Files → Files → ℕ → FileReply → List ℕ → List ℕ → Type 0
+CopiesPathFrom before after index reply old new =
+    ReadsFiles before after (λ k. CopiesPath k.last index reply old new) ((reply ≡ no_reply CLOSED) × (new ≡ old))
+
+-- the durable bytes of a file
+abbrev pub CopiesDurableFrom : Files → Files → ℕ → Ran → List ℕ → List ℕ → Type 0
+CopiesDurableFrom before after inode ran old new =
+    ReadsFiles before after (λ k. CopiesDurable k inode ran old new) ((ran ≡ stopped CLOSED) × (new ≡ old))
 
 abbrev pub InsertsFileWords : Files → Files → List ℕ → ℕ → Type 0
 InsertsFileWords before after words status = OnFiles before after (λ k k'. TakesWords k k' words status) (status ≡ CLOSED)

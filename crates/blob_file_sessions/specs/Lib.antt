@@ -4,3 +4,4 @@ pub mod Held
 pub mod LastParts
 pub mod Owned
 pub mod Replies
+pub mod Trees

@@ -1,5 +1,5 @@
 // A file system with the reply to its last call.
-ghost use Rattle.std.specs.Prelude.{◌≡◌, None, IfNone};
+ghost use Rattle.std.specs.Prelude.{◌≡◌, false, None, IfNone, OnErr};
 ghost use Rattle.blob_fs.specs.Files.{KeepsNames};
 ghost use Rattle.blob_file_sessions.specs.Held.{fs_of};
 ghost use Rattle.blob_file_sessions.specs.Calls.{Answers, Configures, TakesWords, TellsFileWords};
@@ -10,10 +10,11 @@ use crate::kinds::{
     CLOSE, CRASH, CREATE, CREATE_AT, FIND, FIND_AT, INODE_OF, LINK, LINK_AT, LIST, LIST_AT,
     MAKE_DIRECTORY, MAKE_DIRECTORY_AT, OPEN, OPEN_INODE, OPEN_INODE_TRUNCATED, OPEN_TRUNCATED,
     REMOVE_DIRECTORY, REMOVE_DIRECTORY_AT, RENAME, RENAME_AT, SETTLE, SIZE, SYNC, SYNC_ALL,
-    SYNC_DATA, SYNC_DIRECTORY, SYNC_DIRECTORY_AT, TRUNCATE, UNLINK, UNLINK_AT,
+    SYNC_DATA, SYNC_DIRECTORY, SYNC_DIRECTORY_AT, TREE, TRUNCATE, UNLINK, UNLINK_AT,
 };
+use crate::reader::FileReader;
 use crate::reply::{Reply, crashed, done, found, inode, listed, opened, sized, walked};
-use crate::setting::read_file_setting;
+use crate::setting::copied;
 use blob_fs::{Binding, Descriptor, FileSystem, FsError, Rename};
 use blob_lab::ScriptedRng;
 use blob_lab::script::RefusedLine;
@@ -66,15 +67,30 @@ impl KeptFiles {
     pub fn configure(&mut self, line: &[u8]) -> u32
         ensures { Configures self.old self.new result }
     {
-        match read_file_setting(self.alloc, line) {
-            Ok(setting) => {
-                let options = setting.apply(self.fs.options());
-                self.fs.set_options(options);
-                DONE
-            }
-            Err(RefusedLine::BadCall) => BAD_LINE,
+        match self.read_setting(line) {
+            Ok(true) => DONE,
+            Ok(false) | Err(RefusedLine::BadCall) => BAD_LINE,
             Err(RefusedLine::NoMemory) => NO_MEMORY,
         }
+    }
+
+    /// Makes the setting of a line. Returns whether there is one: an empty line or a comment has none.
+    ///
+    /// # Errors
+    ///
+    /// `BadCall` if it is another line, `NoMemory`. Nothing has changed then.
+    pub fn read_setting(&mut self, line: &[u8]) -> Result<bool, RefusedLine>
+        ensures names { KeepsNames (fs_of self.old) (fs_of self.new) }
+        ensures none { result ≡ Ok false → self.new ≡ self.old }
+        ensures err { OnErr result (self.new ≡ self.old) }
+        ensures last { self.new.last ≡ self.old.last }
+    {
+        let mut reader = FileReader::begun(self.alloc, self.fs.options());
+        let is_setting = reader.read(self.alloc, line)?;
+        if is_setting {
+            self.fs.set_options(copied(reader.options()));
+        }
+        Ok(is_setting)
     }
 
     /// Makes a call, and returns the numbers of its reply.
@@ -173,8 +189,16 @@ impl KeptFiles {
             SYNC_ALL => done(self.fs.sync_all()),
             SETTLE => done(self.fs.settle()),
             CRASH => crashed(self.fs.crash()),
+            TREE => walked(self.fs.tree()),
             _ => return None,
         })
+    }
+
+    /// Returns the file system.
+    pub fn fs(&self) -> &FileSystem<ScriptedRng>
+        ensures { result.now ≡ fs_of self.now }
+    {
+        &self.fs
     }
 
     /// Reads all paths and the bytes of files, without a draw. That is then the last call.

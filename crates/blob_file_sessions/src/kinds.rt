@@ -62,3 +62,5 @@ pub const SYNC_ALL: u32 = 48;
 pub const SETTLE: u32 = 49;
 /// Crashes and recovers.
 pub const CRASH: u32 = 50;
+/// Returns in `size` how many paths the root reaches.
+pub const TREE: u32 = 51;

@@ -9,12 +9,15 @@ pub mod kinds;
 mod loose;
 pub mod parts;
 pub mod preamble;
+pub mod reader;
 pub mod refusals;
 pub mod reply;
 pub mod setting;
+pub mod tree;
 
 pub use call::{FileCall, FileReply};
 pub use files::Files;
 pub use kept::KeptFiles;
+pub use reader::FileReader;
 pub use reply::Reply;
 pub use setting::FileSetting;

@@ -75,7 +75,7 @@ impl KeptFiles {
 }
 
 /// Copies bytes to the start of `into`, if they fit.
-fn copied(bytes: &[u8], into: &mut [u8]) -> Ran
+pub(crate) fn copied(bytes: &[u8], into: &mut [u8]) -> Ran
     ensures { CopiesBytes bytes.now result into.old into.new }
 {
     let len = bytes.len();

@@ -1,18 +1,16 @@
-// The lines that begin a file system and set what it does.
+// The lines that set what a file system does, other than those of a script of blobs.
 use blob_base::Probability;
 use blob_fs::{FailedSync, FailedWrite, Options, Profile, Syncs};
-use blob_lab::script::{Line, RefusedLine, Setting, read_line};
+use blob_lab::script::{Line, RefusedLine, read_line};
 use blob_script::script::setting::copy_of;
 use blob_script::script::token::Tokens;
 use std::alloc::Global;
 
-/// A change of a file system's options.
+/// A change of a file system's options. Faults are set by the lines of a script of blobs.
 #[derive(Clone, Copy)]
 pub enum FileSetting {
     /// What a crash may leave and a sync settles.
     Profile(Profile),
-    /// The faults of calls on files, and which bytes of an unsynced write a crash keeps.
-    Faults(Setting),
     /// How often a crash keeps an edit that nothing settled.
     Keep(Probability),
     /// The limits.
@@ -22,16 +20,12 @@ pub enum FileSetting {
     FailedWrite(FailedWrite),
 }
 
-/// What a line before the first call says.
+/// What a line says that is no call on files.
 #[derive(Drop)]
 pub enum FileLine {
-    /// An empty line or a comment.
-    Blank,
-    /// More words for the generator.
-    Words(Vec<u64>),
-    /// The seed of the words after the given ones.
-    Seed(u64),
     Set(FileSetting),
+    /// A line of a script of blobs.
+    Shared(Line),
 }
 
 /// Returns the profile with a name.
@@ -78,7 +72,7 @@ fn rate(tokens: &mut Tokens) -> Result<Probability, RefusedLine> {
     Probability::new(numerator, denominator).ok_or(RefusedLine::BadCall)
 }
 
-/// Parses a line of a preamble, without its line feed. The caller checks whether it is allowed after those before it.
+/// Parses a line that is no call on files, without its line feed. The caller checks whether it is allowed after those before it.
 ///
 /// # Errors
 ///
@@ -104,30 +98,11 @@ pub fn read_file_line(alloc: Global, line: &[u8]) -> Result<FileLine, RefusedLin
         Some("failed_write") => {
             FileSetting::FailedWrite(failed_write(&mut tokens).ok_or(RefusedLine::BadCall)?)
         }
-        _ => return shared_line(alloc, line),
+        _ => return Ok(FileLine::Shared(read_line(alloc, line)?)),
     };
     match tokens.next() {
         None => Ok(FileLine::Set(setting)),
         Some(_) => Err(RefusedLine::BadCall),
-    }
-}
-
-/// Parses a setting. The errors are those of `read_file_line`; a line that is no setting is a `BadCall` too.
-pub fn read_file_setting(alloc: Global, line: &[u8]) -> Result<FileSetting, RefusedLine> {
-    match &read_file_line(alloc, line)? {
-        FileLine::Set(setting) => Ok(*setting),
-        FileLine::Blank | FileLine::Words(_) | FileLine::Seed(_) => Err(RefusedLine::BadCall),
-    }
-}
-
-/// Parses a line that a script has too.
-fn shared_line(alloc: Global, line: &[u8]) -> Result<FileLine, RefusedLine> {
-    match read_line(alloc, line)? {
-        Line::Blank => Ok(FileLine::Blank),
-        Line::Words(words) => Ok(FileLine::Words(words)),
-        Line::Seed(seed) => Ok(FileLine::Seed(seed)),
-        Line::Configure(setting) => Ok(FileLine::Set(FileSetting::Faults(setting))),
-        Line::Image { .. } | Line::Call(_) => Err(RefusedLine::BadCall),
     }
 }
 
@@ -147,25 +122,26 @@ pub fn first_options() -> Options {
     }
 }
 
+/// Returns a copy of options.
+pub fn copied(options: &Options) -> Options {
+    Options {
+        profile: options.profile,
+        faults: copy_of(&options.faults),
+        edit_rate: options.edit_rate,
+        max_bytes: options.max_bytes,
+        max_files: options.max_files,
+        failed_sync: options.failed_sync,
+        syncs: options.syncs,
+        failed_write: options.failed_write,
+    }
+}
+
 impl FileSetting {
     /// Returns the options with this change.
     pub fn apply(self, options: &Options) -> Options {
-        let faults = copy_of(&options.faults);
-        let mut changed = Options {
-            profile: options.profile,
-            faults,
-            edit_rate: options.edit_rate,
-            max_bytes: options.max_bytes,
-            max_files: options.max_files,
-            failed_sync: options.failed_sync,
-            syncs: options.syncs,
-            failed_write: options.failed_write,
-        };
+        let mut changed = copied(options);
         match self {
             FileSetting::Profile(profile) => changed.profile = profile,
-            FileSetting::Faults(setting) => changed.faults = setting.apply(copy_of(
-                &options.faults,
-            )),
             FileSetting::Keep(rate) => changed.edit_rate = rate,
             FileSetting::Space { bytes, files } => {
                 changed.max_bytes = bytes;

@@ -1,5 +1,5 @@
 -- The names of a file system, and what its calls leave of them.
-use Rattle.std.specs.Prelude.{◌≡◌, ℕ, Bool, Option, Some}
+use Rattle.std.specs.Prelude.{◌≡◌, ℕ, List, Bool, Option, Some}
 use Rattle.std.specs.BTreeMap.{get}
 use Rattle.std.specs.Ordering.{nat_cmp}
 use Rattle.blob_draws.specs.declared.selections.Selections.{Selections}
@@ -18,7 +18,7 @@ use Rattle.blob_directory.specs.Tables.{bound}
 use Rattle.blob_directory.specs.Trees.{Finds}
 use Rattle.blob_journal.specs.declared.journaled.Journaled.{Journaled}
 use Rattle.blob_journal.specs.Currents.{Represents}
-use Rattle.blob_journal.specs.Journals.{FindsKept as finds_kept, FindsNames as finds_names, GivesNames as gives_names, store_of}
+use Rattle.blob_journal.specs.Journals.{FindsKept as finds_kept, durable_file, FindsNames as finds_names, GivesNames as gives_names, store_of}
 use Rattle.blob_journal.specs.Settling.{KeepsJournal as keeps_journal, SettlesEdits as settles_edits}
 use Rattle.blob_journal.specs.Keeping.{generator_in, table_in, with_generator as with_generator_in}
 
@@ -56,6 +56,10 @@ KeepsNames fs fs' = table_of fs' ≡ table_of fs
 -- each entry is bound to what it was bound to
 abbrev pub SameNames : {R : Type 0} → FileSystem R → FileSystem R → Type 0
 SameNames fs fs' = Same (names_of fs) (names_of fs')
+
+-- the durable bytes of a file's number; none if it has no blob
+abbrev pub durable_of : {R : Type 0} → FileSystem R → ℕ → Option (List ℕ)
+durable_of fs inode = durable_file (journaled_of fs) inode
 
 -- the names are those of before with this edit
 abbrev pub MakesEdit : {R : Type 0} → Edit → FileSystem R → FileSystem R → Type 0

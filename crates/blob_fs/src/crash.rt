@@ -31,7 +31,7 @@ pub struct Crash {
 
 impl<R: Rng + Drop> FileSystem<R> {
     /// Crashes and recovers. The draws decide which unsynced bytes and which unsettled edits are kept. Then all is durable, and
-    /// every descriptor is stale. A file that no name reaches is gone. Another crash straight after it finds the same names.
+    /// every descriptor is stale. A file that no name reaches is deleted. Another crash straight after it finds the same names.
     ///
     /// # Errors
     ///

@@ -53,6 +53,8 @@ pub(crate) struct File {
     pub(crate) opens: u32,
     /// Its size at its last sync.
     pub(crate) synced: u64,
+    /// Its size that the last crash found, before the profile truncated it.
+    pub(crate) found: u64,
     /// The number of the next edit when its size last grew.
     pub(crate) grown: u64,
     /// It was written or truncated since its last sync.

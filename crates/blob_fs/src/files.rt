@@ -19,6 +19,7 @@ impl File {
             links: 1,
             opens: 0,
             synced: 0,
+            found: 0,
             grown: 0,
             is_changed: false,
             is_truncated: false,

@@ -7,6 +7,7 @@ mod drops;
 pub mod error;
 pub mod file_system;
 pub mod files;
+pub mod inspection;
 pub mod names;
 pub mod path;
 pub mod paths;

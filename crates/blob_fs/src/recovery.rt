@@ -14,8 +14,7 @@ use rand_core::Rng;
 use std::alloc::Global;
 use std::collections::BTreeMap;
 
-/// Returns the length of the front of what is found up to the first byte behind the synced size that differs from the live
-/// ones.
+/// Returns the length of the found bytes before the first one beyond the synced size that differs from the live bytes.
 fn kept_length(found: &[u8], live: &[u8], synced: usize) -> usize {
     let mut at = synced.min(found.len());
     while at < found.len() && at < live.len() && found[at] == live[at] {
@@ -47,7 +46,7 @@ fn cut_to<R: Rng + Drop>(
     Ok(())
 }
 
-/// Cuts what a crash left of a file at its first byte beyond the synced size that was lost.
+/// Truncates a file after a crash at its first lost byte beyond the synced size.
 fn cut<R: Rng + Drop>(
     store: &mut Journaled<R>,
     blob: &mut FileBlob,
@@ -69,25 +68,26 @@ fn cut<R: Rng + Drop>(
     cut_to(store, blob, length)
 }
 
-/// Opens the blob of what a crash left of a file, and cuts it if the profile does.
+/// Opens the blob of a file after a crash, and truncates it if the profile does. Returns it with the size that was found.
 fn open_left<R: Rng + Drop>(
     store: &mut Journaled<R>,
     inode: u64,
     old: &File,
     cuts: bool,
-) -> Result<FileBlob, Error>
+) -> Result<(FileBlob, u64), Error>
     ensures names { KeepsTable store.old store.new }
     ensures files { KeepsFiles (store_of store.old) (store_of store.new) }
 {
     let mut blob = store.open_file(inode)?;
+    let found = blob.size();
     if !cuts {
-        return Ok(blob);
+        return Ok((blob, found));
     }
     cut(store, &mut blob, old)?;
-    Ok(blob)
+    Ok((blob, found))
 }
 
-/// Opens what a crash left of a file.
+/// Opens a file after a crash.
 fn reopen<R: Rng + Drop>(
     store: &mut Journaled<R>,
     inode: u64,
@@ -98,11 +98,12 @@ fn reopen<R: Rng + Drop>(
     ensures names { KeepsTable store.old store.new }
     ensures files { KeepsFiles (store_of store.old) (store_of store.new) }
 {
-    let blob = open_left(store, inode, old, cuts)?;
+    let (blob, found) = open_left(store, inode, old, cuts)?;
     let synced = blob.size();
     let mut file = File::new(blob);
     file.links = links;
     file.synced = synced;
+    file.found = found;
     Ok(file)
 }
 

@@ -6,7 +6,7 @@ use blob_faulty::Config;
 use blob_journal::laws::settling;
 use rand_core::Rng;
 
-/// A file that is gone. A crash that loses an edit from before that may find it again.
+/// A file that was deleted. A crash that loses an edit from before that may find it again.
 #[derive(Clone, Copy)]
 pub(crate) struct Gone {
     inode: u64,

@@ -1,5 +1,5 @@
 -- The journal of some names, and the names that a recovery finds.
-use Rattle.std.specs.Prelude.{◌≡◌, ℕ, List, Some, codes}
+use Rattle.std.specs.Prelude.{◌≡◌, ℕ, List, Option, Some, codes}
 use Rattle.std.specs.Int.{w64, to_be_bytes}
 use Rattle.blob_model.specs.Directory.{current}
 use Rattle.blob_model.specs.Draws.{chosen_by}
@@ -7,7 +7,7 @@ use Rattle.blob_model.specs.Places.{Place}
 use Rattle.blob_model.specs.Stands.{replayed_at}
 use Rattle.blob_draws.specs.Rows.{table_of}
 use Rattle.blob_draws.specs.declared.selections.Selections.{Selections}
-use Rattle.blob_memory.specs.Store.{directory, durable, place}
+use Rattle.blob_memory.specs.Store.{directory, durable, logical_blob, place}
 use Rattle.blob_faulty.specs.Keeps.{OverMemory}
 use Rattle.blob_faulty.specs.Wrapper.{inner_of, inside, pending_of}
 use Rattle.blob_directory.specs.Checkpoints.{Gives}
@@ -37,6 +37,10 @@ store_of j = j.store
 
 abbrev pub generation_of : {R : Type 0} → Journaled R → ℕ
 generation_of j = j.journal.generation
+
+-- the durable bytes of a file's number; none if it has no blob
+abbrev pub durable_file : {R : Type 0} → Journaled R → ℕ → Option (List ℕ)
+durable_file j inode = logical_blob (inner_of (store_of j)) (codes "f") (to_be_bytes w64 inode)
 
 -- the journal has these bytes, and the names are those that a recovery finds by them
 pub record FindsNames {R : Type 0} (j : Journaled R) (keeps : Keeps) (names : Names) : Type 0 where

@@ -39,7 +39,7 @@ fn settle_marked<R: Rng>(
 }
 
 impl<R: Rng + Drop> Journaled<R> {
-    ghost use Rattle.blob_journal.specs.Settling.{KeepsJournal, SettlesEdits};
+    ghost use Rattle.blob_journal.specs.Settling.{KeepsJournal, SettlesEdits, unsettled_of};
     ghost use Rattle.blob_journal.specs.Keeping.{AddsSector, Edits, KeepsTable, SameBindings, generator_in, names_in, table_in, with_generator};
 
     /// Returns no names over a new store, with faults drawn from the generator.
@@ -97,6 +97,13 @@ impl<R: Rng + Drop> Journaled<R> {
         ensures { result.now ≡ table_in self.now }
     {
         &self.names
+    }
+
+    /// Returns the edits that nothing settled, in the order of their calls.
+    pub fn unsettled(&self) -> &[Unsettled]
+        ensures { result.now ≡ unsettled_of self.now }
+    {
+        &self.unsettled
     }
 
     /// Returns the number of the first edit that nothing settled.

@@ -1,5 +1,6 @@
 //! The blobs of files, beside the journal.
 ghost use Rattle.std.specs.Prelude.{◌≡◌, IfOk};
+ghost use Rattle.blob_memory.specs.Contents.{items_of};
 ghost use Rattle.blob_faulty.specs.Wrapper.{size_of};
 
 use crate::journaled::Journaled;
@@ -18,7 +19,7 @@ impl FileBlob {
 
 impl<R: Rng + Drop> Journaled<R> {
     ghost use Rattle.blob_journal.specs.Currents.{KeepsFiles};
-    ghost use Rattle.blob_journal.specs.Journals.{GivesNames, HasFile, KeepsFile, KeepsFilesOf, KeepsGiven, store_of};
+    ghost use Rattle.blob_journal.specs.Journals.{GivesNames, HasFile, KeepsFile, KeepsFilesOf, KeepsGiven, durable_file, store_of};
     ghost use Rattle.blob_journal.specs.Keeping.{KeepsTable};
     ghost use Rattle.blob_journal.specs.Settling.{KeepsJournal};
 
@@ -79,6 +80,18 @@ impl<R: Rng + Drop> Journaled<R> {
     {
         let size = file.size();
         read_all(self.alloc, &mut self.store, &file.blob, size)
+    }
+
+    /// Returns the durable bytes of a file's number, to which a crash applies what it keeps of the pending calls. `None` if
+    /// there is no such file.
+    ///
+    /// # Errors
+    ///
+    /// `Memory`.
+    pub fn durable_file(&self, inode: u64) -> Result<Option<Vec<u8>>, Error>
+        ensures { IfOk result (λ bytes. items_of bytes ≡ durable_file self.now inode) }
+    {
+        self.store.inner().logical_blob(FILES, &inode.to_be_bytes())
     }
 
     /// Reads the bytes of a file from an offset on, as many as the buffer takes.

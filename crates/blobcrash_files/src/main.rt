@@ -1,7 +1,7 @@
-// The program of `blobcrash files`: a script of files, or each distinct outcome of its draws.
+// The program of `blobcrash files`: a script of files, the same explained, or each distinct outcome of its draws.
 #![tactic(auto)]
 
-use blob_file_scripts::{RefusedFiles, explore_files, serve_files};
+use blob_file_scripts::{RefusedFiles, explain_files, explore_files, serve_files};
 use blob_lab::script::token::number;
 use blob_lab::{Ending, streams};
 use std::env;
@@ -14,11 +14,14 @@ const LIMIT: u64 = 1_000_000;
 /// The capacity of the input's buffer in bytes.
 const INPUT_BUFFER: usize = 16384;
 
-const USAGE: &str = "usage: blobcrash files [explore [--limit N] [--last]]";
+const USAGE: &str = "usage: blobcrash files [explain | explore [--limit N] [--last]]";
 
-const HELP: &str = "usage: blobcrash files [explore [--limit N] [--last]]
+const HELP: &str = "usage: blobcrash files [explain | explore [--limit N] [--last]]
 
   blobcrash files    runs a script of calls on files, one a line, and prints the reply to each
+  blobcrash files explain
+                     prints the same, after each crash also which changes of names and which bytes it kept, and after
+                     each sync which changes of names it settled
   blobcrash files explore [--limit N] [--last]
                      runs the script once for each combination of outcomes of its draws, and prints each distinct
                      outcome with the number of its leaves and the words of the first, then the number of leaves
@@ -48,6 +51,7 @@ fn main(rt: HostRuntime) -> ExitCode {
 enum Asked {
     Help,
     Script,
+    Explanation,
     Outcomes { limit: u64, last: bool },
 }
 
@@ -84,6 +88,7 @@ fn read_args(mut args: env::Args) -> Option<Asked> {
     };
     match word.as_str() {
         "explore" => read_explore_args(args),
+        "explain" if args.next().is_none() => Some(Asked::Explanation),
         "help" | "--help" if args.next().is_none() => Some(Asked::Help),
         _ => None,
     }
@@ -93,7 +98,8 @@ fn run<T: AllocGlobal + Input + Print>(rt: &T, mut args: env::Args) -> Ending {
     let _program = args.next();
     match read_args(args) {
         Some(Asked::Help) => print_help(rt),
-        Some(Asked::Script) => run_input(rt),
+        Some(Asked::Script) => run_input(rt, false),
+        Some(Asked::Explanation) => run_input(rt, true),
         Some(Asked::Outcomes { limit, last }) => explore_input(rt, limit, last),
         None => Ending::Usage,
     }
@@ -106,7 +112,7 @@ fn print_help<T: Print>(rt: &T) -> Ending {
     }
 }
 
-fn run_input<T: AllocGlobal + Input + Print>(rt: &T) -> Ending {
+fn run_input<T: AllocGlobal + Input + Print>(rt: &T, explains: bool) -> Ending {
     let Ok(mut reader) = BufReader::with_capacity(rt.alloc(), INPUT_BUFFER, rt.reader()) else {
         return Ending::NoMemory;
     };
@@ -114,7 +120,11 @@ fn run_input<T: AllocGlobal + Input + Print>(rt: &T) -> Ending {
         return Ending::NoMemory;
     };
     let mut output = streams::Output::new(writer);
-    serve_files(rt.alloc(), &mut reader, &mut output)
+    if explains {
+        explain_files(rt.alloc(), &mut reader, &mut output)
+    } else {
+        serve_files(rt.alloc(), &mut reader, &mut output)
+    }
 }
 
 fn read_input<T: AllocGlobal + Input>(rt: &T) -> Result<Vec<u8>, Ending> {

@@ -2,7 +2,8 @@
 
 use crate::tokens;
 use blob_base::{BlobVersion, Error, IoBufs, IoBufsMut, Layout};
-use blob_script::script::Setting;
+use blob_faulty::Config;
+use blob_script::script::Line;
 use std::alloc::Global;
 use std::mem;
 use std::ops::RangeInclusive;
@@ -28,7 +29,7 @@ pub struct Args<'a> {
     /// The last two of each.
     pub layouts: [Layout; 2],
     pub versions: [BlobVersion; 2],
-    pub setting: Option<Setting>,
+    setting: Option<Line>,
     pub error: Option<Error>,
     /// The text after the call's word.
     pub text: &'a str,
@@ -118,6 +119,12 @@ impl<'a> Args<'a> {
     /// Returns the number of a handle, which is the first number.
     pub fn handle(&self) -> usize {
         self.numbers[0] as usize
+    }
+
+    /// Returns the configuration with the setting, which is taken.
+    pub fn configured(&mut self, config: Config) -> Result<Config, Error> {
+        let setting = self.setting.take().ok_or(Error::Closed)?;
+        tokens::configured(self.alloc, config, setting)
     }
 
     /// Takes the bytes of a write.

@@ -1,7 +1,9 @@
 //! Parses the tokens of a row. An invalid token is `Closed`, an error that no store here returns.
 
 use blob_base::{BlobVersion, Error, IoBufs, Layout};
-use blob_script::script::{Line, RefusedLine, Setting, read_line, token};
+use blob_faulty::Config;
+use blob_script::script::setting::copy_of;
+use blob_script::script::{Line, Reader, RefusedLine, read_line, token};
 use std::alloc::{AllocError, Global};
 
 /// Parses a number; `max` is the greatest one.
@@ -94,13 +96,16 @@ pub fn text(alloc: Global, token: &str) -> Result<String, Error> {
 }
 
 /// Parses a setting, as after `config` in a script.
-pub fn setting(alloc: Global, text: &str) -> Result<Setting, Error> {
+pub fn setting(alloc: Global, text: &str) -> Result<Line, Error> {
     let line = format!(in alloc; "config {text}")?;
-    let read = read_line(alloc, line.as_bytes()).map_err(refused)?;
-    match read {
-        Line::Configure(setting) => Ok(setting),
-        _ => Err(Error::Closed),
-    }
+    read_line(alloc, line.as_bytes()).map_err(refused)
+}
+
+/// Returns the configuration with a setting. Doesn't allocate.
+pub fn configured(alloc: Global, config: Config, setting: Line) -> Result<Config, Error> {
+    let mut reader = Reader::begun(alloc, config);
+    let _ = reader.take(setting).map_err(refused)?;
+    Ok(copy_of(reader.config()))
 }
 
 /// Parses an error by its name and its fields; `-` is none.

@@ -12,6 +12,7 @@ use blob_memory::Storage as Memory;
 use blob_pending::entry::Entry;
 use blob_pending::extent::Extent;
 use blob_script::Reply;
+use blob_script::script::setting::copy_of;
 use std::alloc::{AllocError, Global};
 use std::mem;
 
@@ -20,10 +21,9 @@ pub type Wrapper<S> = blob_faulty::Storage<S, ScriptedRng>;
 
 impl<S: Storage + Drop> Place<Wrapper<S>> {
     // Changes one setting.
-    fn configure(&mut self, args: &Args<'_>) -> Result<Found, Error> {
-        let setting = args.setting.ok_or(Error::Closed)?;
-        let config = mem::take(self.store.config());
-        *self.store.config() = setting.apply(config);
+    fn configure(&mut self, args: &mut Args<'_>) -> Result<Found, Error> {
+        let config = args.configured(copy_of(self.store.config()))?;
+        *self.store.config() = config;
         Ok(done(()))
     }
 

@@ -8,8 +8,8 @@ pub returns-clause-change : goal.returns-clause-change
 unfolding change_told
 returns-clause-change c = grind (arith, common_steps)
 
-pub returns-clause-behind : goal.returns-clause-behind
-returns-clause-behind c =
+pub returns-clause-rest : goal.returns-clause-rest
+returns-clause-rest c =
     let bytes = c.args.bytes.now in
     let last = c.in-Some-take_number.rest.now in
     let size : c.in-Some.size ≡ number_told bytes = search rules in

@@ -1,0 +1,86 @@
+//! An edit in the words of a script, and what a crash did with it.
+ghost use Rattle.std.specs.Prelude.{◌≡◌};
+ghost use Rattle.blob_file_scripts.specs.Outcomes.{edit_outcome};
+
+use crate::call::Call;
+use crate::path_text::print_path;
+use crate::paths::Paths;
+use blob_file_sessions::kinds;
+use blob_fs::Edit;
+use std::alloc::AllocError;
+
+/// What a crash did with an edit that nothing settled.
+#[derive(Clone, Copy, Debug, PartialEq, Eq)]
+pub enum EditOutcome {
+    Kept,
+    Lost,
+    /// Its sector was kept, but an edit before it was lost, and the profile keeps edits up to some point.
+    Discarded,
+}
+
+/// Returns what a crash did with an edit, by whether its sector was kept, and whether the recovery applied it.
+pub fn edit_outcome(is_applied: bool, is_kept: bool) -> EditOutcome
+    ensures { result ≡ edit_outcome is_applied is_kept }
+{
+    match (is_applied, is_kept) {
+        (true, _) => EditOutcome::Kept,
+        (false, true) => EditOutcome::Discarded,
+        (false, false) => EditOutcome::Lost,
+    }
+}
+
+/// Returns the words of what a crash did with an edit.
+pub(crate) fn outcome_words(outcome: EditOutcome) -> &'static str {
+    match outcome {
+        EditOutcome::Kept => "kept",
+        EditOutcome::Lost => "lost",
+        EditOutcome::Discarded => "discarded, since an edit before it was lost",
+    }
+}
+
+/// Returns the word of a call that changes one name.
+fn word_of(kind: u32) -> &'static str {
+    match kind {
+        kinds::CREATE | kinds::CREATE_AT => "create",
+        kinds::LINK | kinds::LINK_AT => "link",
+        kinds::UNLINK | kinds::UNLINK_AT => "unlink",
+        kinds::MAKE_DIRECTORY | kinds::MAKE_DIRECTORY_AT => "mkdir",
+        kinds::REMOVE_DIRECTORY | kinds::REMOVE_DIRECTORY_AT => "rmdir",
+        _ => "change",
+    }
+}
+
+/// Appends the call's word, and what a link names.
+fn push_word(call: &Call, text: &mut String) -> Result<(), AllocError> {
+    let Call::Plain { asked, path, .. } = call else {
+        return text.push_str("change ");
+    };
+    let word = word_of(asked.kind);
+    write!(text, "{word} ")?;
+    if asked.kind == kinds::LINK {
+        print_path(path, text)?;
+        text.push_str(" -> ")?;
+    } else if asked.kind == kinds::LINK_AT {
+        let inode = asked.first;
+        write!(text, "inode {inode} -> ")?;
+    }
+    Ok(())
+}
+
+/// Appends an edit as its call with full paths: `create PATH`, `rename PATH -> PATH`, `exchange PATH, PATH` and so on.
+pub(crate) fn push_edit(
+    call: &Call,
+    edit: &Edit,
+    paths: &Paths,
+    text: &mut String,
+) -> Result<(), AllocError> {
+    let Some(second) = &edit.second else {
+        push_word(call, text)?;
+        return paths.push_entry(&edit.first.entry, text);
+    };
+    let is_move = edit.first.to.is_none();
+    text.push_str(if is_move { "rename " } else { "exchange " })?;
+    paths.push_entry(&edit.first.entry, text)?;
+    text.push_str(if is_move { " -> " } else { ", " })?;
+    paths.push_entry(&second.entry, text)
+}

@@ -1,0 +1,298 @@
+//! A run that is watched, call by call, and the text that follows each reply.
+use crate::call::{Call, Named};
+use crate::crash_text::{Before, Issued, Unsynced, push_edits, push_files, push_to};
+use crate::edit_text::push_edit;
+use crate::paths::Paths;
+use blob_directory::unsettled::Unsettled;
+use blob_draws::faults::retained;
+use blob_file_sessions::{KeptFiles, Reply, kinds};
+use blob_fs::{Crash, Descriptor, FileSystem, FsError, Syncs};
+use blob_lab::ScriptedRng;
+use std::alloc::{AllocError, Global};
+use std::collections::BTreeMap;
+
+/// What the run has done that no reply reports.
+#[derive(Drop)]
+pub(crate) struct Watch {
+    alloc: Global,
+    paths: Paths,
+    /// The edits that nothing settled.
+    edits: Vec<Issued>,
+    /// The number of the next edit.
+    next_edit: u64,
+    /// The writes of each file that no sync made durable, by its inode.
+    writes: BTreeMap<u64, Vec<Unsynced>>,
+    /// Of a crash that has no reply yet.
+    before: Option<Before>,
+    /// How many truncations of its file a crash applies, before a truncation that has no reply yet.
+    truncations: usize,
+}
+
+/// Returns the inode of a look-up. `None` if it found none.
+fn found(looked: Result<u64, FsError>) -> Result<Option<u64>, AllocError> {
+    match looked {
+        Ok(inode) => Ok(Some(inode)),
+        Err(FsError::Store(_)) => Err(AllocError),
+        Err(_) => Ok(None),
+    }
+}
+
+/// Returns the inode of a path.
+fn inode_at(fs: &FileSystem<ScriptedRng>, path: &[u8]) -> Result<Option<u64>, AllocError> {
+    found(fs.find(path).map(|binding| binding.inode))
+}
+
+/// Returns the inode of a file.
+fn inode_named(fs: &FileSystem<ScriptedRng>, file: &Named) -> Result<Option<u64>, AllocError> {
+    match file {
+        Named::Path(path) => inode_at(fs, path),
+        Named::Descriptor(number) => found(fs.inode_of(Descriptor::numbered(*number))),
+    }
+}
+
+/// Returns the inode of the file that a call truncates.
+fn inode_truncated(fs: &FileSystem<ScriptedRng>, call: &Call) -> Result<Option<u64>, AllocError> {
+    match call {
+        Call::OnFile { kind, file, .. } if *kind == kinds::TRUNCATE => inode_named(fs, file),
+        Call::Plain { asked, path, .. } => match asked.kind {
+            kinds::OPEN_TRUNCATED => inode_at(fs, path),
+            kinds::OPEN_INODE_TRUNCATED => Ok(Some(asked.number)),
+            _ => Ok(None),
+        },
+        _ => Ok(None),
+    }
+}
+
+/// Returns whether edits, which are sorted by number, have one with this number.
+fn has(edits: &[Unsettled], number: u64) -> bool {
+    let i = edits.partition_point(|edit| edit.number < number);
+    match edits.get(i) {
+        Some(edit) => edit.number == number,
+        None => false,
+    }
+}
+
+impl Watch {
+    pub(crate) fn new(alloc: Global) -> Watch {
+        Watch {
+            alloc,
+            paths: Paths::new(alloc),
+            edits: Vec::new(alloc),
+            next_edit: 0,
+            writes: BTreeMap::new(alloc),
+            before: None,
+            truncations: 0,
+        }
+    }
+
+    /// Looks at the files before a call.
+    pub(crate) fn before(&mut self, files: &KeptFiles, call: &Call) -> Result<(), AllocError> {
+        let fs = files.fs();
+        if let Some(inode) = inode_truncated(fs, call)? {
+            self.truncations = fs.kept_truncations_of(inode);
+        }
+        if let Call::Plain { asked, .. } = call {
+            if asked.kind == kinds::CRASH {
+                self.paths = Paths::read(self.alloc, fs)?;
+                self.before = Some(Before::read(self.alloc, fs, &self.paths, &self.writes)?);
+            }
+        }
+        Ok(())
+    }
+
+    /// Returns what follows the reply to the call of a line.
+    pub(crate) fn after(
+        &mut self,
+        line: u64,
+        files: &KeptFiles,
+        call: &Call,
+        reply: &str,
+    ) -> Result<String, AllocError> {
+        let fs = files.fs();
+        let mut text = String::new(self.alloc);
+        let is_done = reply == "ok";
+        if let Some(inode) = inode_truncated(fs, call)? {
+            self.push_truncation(fs, inode, &mut text)?;
+        }
+        match call {
+            Call::Write {
+                file,
+                offset,
+                bytes,
+            } if is_done => self.note_write(line, fs, file, *offset, bytes)?,
+            Call::OnFile { kind, file, .. } if is_done => {
+                self.after_file(*kind, fs, file, &mut text)?
+            }
+            Call::Plain { asked, .. } => match files.reply() {
+                Some(Reply::Crashed(crash)) => self.after_crash(fs, crash, &mut text)?,
+                _ => self.after_names(line, fs, call, asked.kind, is_done, &mut text)?,
+            },
+            _ => {}
+        }
+        Ok(text)
+    }
+
+    /// Adds a truncation that a crash applies.
+    fn push_truncation(
+        &self,
+        fs: &FileSystem<ScriptedRng>,
+        inode: u64,
+        text: &mut String,
+    ) -> Result<(), AllocError> {
+        if fs.kept_truncations_of(inode) > self.truncations {
+            let size = fs.size_of(inode);
+            writeln!(text, "truncated to {size}, which a crash applies")?;
+        }
+        Ok(())
+    }
+
+    /// Notes a write that returned Ok.
+    fn note_write(
+        &mut self,
+        line: u64,
+        fs: &FileSystem<ScriptedRng>,
+        file: &Named,
+        offset: u64,
+        bytes: &[u8],
+    ) -> Result<(), AllocError> {
+        let Some(inode) = inode_named(fs, file)? else {
+            return Ok(());
+        };
+        if bytes.is_empty() {
+            return Ok(());
+        }
+        let write = Unsynced {
+            line,
+            offset,
+            bytes: Vec::from_slice(self.alloc, bytes)?,
+            is_drawn: retained(fs.options().faults.write_rate).is_some(),
+        };
+        push_to(&mut self.writes, self.alloc, inode, write)
+    }
+
+    /// Notes a sync of a file that returned Ok, and adds which edits it settled.
+    fn after_file(
+        &mut self,
+        kind: u32,
+        fs: &FileSystem<ScriptedRng>,
+        file: &Named,
+        text: &mut String,
+    ) -> Result<(), AllocError> {
+        if kind != kinds::SYNC && kind != kinds::SYNC_DATA {
+            return Ok(());
+        }
+        if fs.options().syncs == Syncs::Lie {
+            return text.push_str("made nothing durable: syncs lie\n");
+        }
+        if let Some(inode) = inode_named(fs, file)? {
+            self.writes.remove(&inode);
+        }
+        self.push_settled(fs, text)
+    }
+
+    /// Notes the edit of a call on names, and what a sync of names settled.
+    fn after_names(
+        &mut self,
+        line: u64,
+        fs: &FileSystem<ScriptedRng>,
+        call: &Call,
+        kind: u32,
+        is_done: bool,
+        text: &mut String,
+    ) -> Result<(), AllocError> {
+        self.note_edit(line, fs, call)?;
+        let is_lie = fs.options().syncs == Syncs::Lie;
+        match kind {
+            kinds::SYNC_DIRECTORY | kinds::SYNC_DIRECTORY_AT | kinds::SYNC_ALL
+                if is_done && is_lie => { text.push_str("made nothing durable: syncs lie\n") }
+            kinds::SYNC_DIRECTORY | kinds::SYNC_DIRECTORY_AT if is_done => {
+                self.push_settled(fs, text)
+            }
+            kinds::SYNC_ALL | kinds::SETTLE if is_done => {
+                self.writes.clear();
+                self.edits.clear();
+                Ok(())
+            }
+            _ => {
+                self.keep_unsettled(fs);
+                Ok(())
+            }
+        }
+    }
+
+    /// Notes the edit that a call made, if it made one.
+    fn note_edit(
+        &mut self,
+        line: u64,
+        fs: &FileSystem<ScriptedRng>,
+        call: &Call,
+    ) -> Result<(), AllocError> {
+        let Some(last) = fs.unsettled().last() else {
+            return Ok(());
+        };
+        if last.number < self.next_edit {
+            return Ok(());
+        }
+        let mut words = String::new(self.alloc);
+        push_edit(call, &last.edit, &self.paths, &mut words)?;
+        self.paths.note(&last.edit)?;
+        self.edits.push(Issued {
+            number: last.number,
+            sector: last.sector,
+            line,
+            words,
+        })?;
+        self.next_edit = last.number.saturating_add(1);
+        Ok(())
+    }
+
+    /// Forgets the edits that are settled.
+    fn keep_unsettled(&mut self, fs: &FileSystem<ScriptedRng>) {
+        let left = fs.unsettled();
+        if left.len() != self.edits.len() {
+            self.edits.retain(|edit| has(left, edit.number));
+        }
+    }
+
+    /// Adds which edits a sync settled, of those that nothing had settled, and forgets them.
+    fn push_settled(
+        &mut self,
+        fs: &FileSystem<ScriptedRng>,
+        text: &mut String,
+    ) -> Result<(), AllocError> {
+        let left = fs.unsettled();
+        let count = self.edits.len();
+        if count == 0 {
+            return Ok(());
+        }
+        let settled = count.saturating_sub(left.len());
+        writeln!(text, "settled {settled} of {count} edits")?;
+        for edit in &self.edits {
+            if !has(left, edit.number) {
+                let (line, words) = (edit.line, &edit.words);
+                writeln!(text, "  line {line}: {words}")?;
+            }
+        }
+        self.keep_unsettled(fs);
+        Ok(())
+    }
+
+    /// Adds what a crash kept, and forgets what it settled or lost.
+    fn after_crash(
+        &mut self,
+        fs: &FileSystem<ScriptedRng>,
+        crash: &Crash,
+        text: &mut String,
+    ) -> Result<(), AllocError> {
+        let alloc = self.alloc;
+        self.paths = Paths::read(alloc, fs)?;
+        push_edits(alloc, crash, &self.edits, text)?;
+        if let Some(before) = &self.before {
+            push_files(alloc, fs, crash, before, &self.paths, &self.writes, text)?;
+        }
+        self.before = None;
+        self.edits.clear();
+        self.writes.clear();
+        Ok(())
+    }
+}

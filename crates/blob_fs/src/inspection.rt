@@ -1,0 +1,67 @@
+//! What is unsynced and unsettled, and what a crash found, for a reader that explains a run.
+ghost use Rattle.std.specs.Prelude.{◌≡◌, Some, IfOk};
+ghost use Rattle.blob_fs.specs.Files.{durable_of, journaled_of};
+ghost use Rattle.blob_journal.specs.Settling.{unsettled_of};
+
+use crate::error::FsError;
+use crate::file_system::{FileSystem, Store};
+use blob_base::Durable;
+use blob_directory::unsettled::Unsettled;
+use blob_faulty::entry::Entry;
+use rand_core::Rng;
+
+impl<R: Rng + Drop> FileSystem<R> {
+    /// Returns the edits that nothing settled, in the order of their calls.
+    pub fn unsettled(&self) -> &[Unsettled]
+        ensures { result.now ≡ unsettled_of (journaled_of self.now) }
+    {
+        self.store.unsettled()
+    }
+
+    /// Returns the durable bytes of a file by its number, to which a crash applies what it keeps of the calls since.
+    ///
+    /// # Errors
+    ///
+    /// `NotFound`, `Memory`.
+    pub fn durable_bytes_of(&self, inode: u64) -> Result<Vec<u8>, FsError>
+        ensures { IfOk result (λ bytes. durable_of self.now inode ≡ Some bytes.items) }
+    {
+        if self.file(inode).is_none() {
+            return Err(FsError::NotFound);
+        }
+        match self.store.durable_file(inode)? {
+            None => Err(FsError::NotFound),
+            Some(bytes) => Ok(bytes),
+        }
+    }
+
+    /// Returns a file's size in bytes at its last sync or crash by its number, 0 if there is no such file.
+    pub fn synced_size_of(&self, inode: u64) -> u64 {
+        self.file(inode).map_or(0, |file| file.synced)
+    }
+
+    /// Returns the size in bytes that the last crash found of a file, before the profile truncated it. 0 if the file is newer or
+    /// there is no such file.
+    pub fn found_size_of(&self, inode: u64) -> u64 {
+        self.file(inode).map_or(0, |file| file.found)
+    }
+
+    /// Returns how many truncations and extensions of a file a crash will apply that no sync made durable.
+    pub fn kept_truncations_of(&self, inode: u64) -> usize {
+        let Some(file) = self.file(inode) else {
+            return 0;
+        };
+        let number = self.store.number_of_file(&file.blob);
+        let mut count = 0usize;
+        for list in self.store.store().pending() {
+            if Store::<R>::number_of(&list.origin) == number {
+                for entry in &list.entries {
+                    if let Entry::Resize(_) = entry {
+                        count = count.saturating_add(1);
+                    }
+                }
+            }
+        }
+        count
+    }
+}
