@@ -221,9 +221,9 @@ program git-fsync ext4 3 '3 \| 0 \| 0 \| 0'
 program git ext4 4 '[0-3] \| [0-9] \| [0-9] \| 0'
 if has redis-server redis-cli; then
     run sh examples/mount_redis.sh
-    ok 'examples/mount_redis.sh' [ "$(cat "$work/out")" = value ]
+    ok "examples/mount_redis.sh: $(head -c 200 "$work/out")" [ "$(cat "$work/out")" = value ]
     run sh examples/mount_redis.sh posix
-    ok 'and on posix' [ "$(cat "$work/out")" = '' ]
+    ok "and on posix: $(head -c 200 "$work/out")" [ "$(cat "$work/out")" = '' ]
 else
     skip 'Redis: there is no redis-server'
 fi
