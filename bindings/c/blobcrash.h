@@ -48,7 +48,7 @@ enum blobcrash_status {
     BLOBCRASH_NO_ROOM = 4,
     /* The session is closed. No call was made. */
     BLOBCRASH_CLOSED = 5,
-    /* The call was made, and has a reply of another kind, for example an error. The reply is kept. */
+    /* The last reply has no such name, path, row or edit. */
     BLOBCRASH_OTHER_REPLY = 6,
     /* The call was made. The length of its reply doesn't fit in 64 bits. The reply is kept. */
     BLOBCRASH_UNPRINTED = 7,
@@ -56,7 +56,7 @@ enum blobcrash_status {
     BLOBCRASH_BAD_CALL = 8
 };
 
-/* The status of a typed call that was made and refused. */
+/* The status of a call without a line that was made and refused. */
 enum blobcrash_refusal {
     BLOBCRASH_E_OFFSET_OVERFLOW = 16,
     BLOBCRASH_E_BLOB_INSUFFICIENT_LENGTH = 17,
@@ -337,7 +337,7 @@ struct blobcrash_ran blobcrash_audit(struct blobcrash_session *session, uint8_t 
 /*
  * Writes bytes at an offset: the call `write HANDLE OFFSET HEX`, or with `sync` the call `writes HANDLE OFFSET HEX`.
  *
- * DONE if the reply is `ok`; OTHER_REPLY, which blobcrash_reply prints; CLOSED, which changes nothing.
+ * DONE; a refusal, which blobcrash_reply prints with its texts; CLOSED, which changes nothing.
  */
 uint32_t blobcrash_write(struct blobcrash_session *session, size_t handle, uint64_t offset, const uint8_t *bytes, size_t len,
                          bool sync);
@@ -345,8 +345,7 @@ uint32_t blobcrash_write(struct blobcrash_session *session, size_t handle, uint6
 /*
  * Fills `into` with `len` bytes from an offset: the call `read HANDLE OFFSET LEN`.
  *
- * DONE if the reply is `len` bytes; OTHER_REPLY, which blobcrash_reply prints, with `into` unchanged; CLOSED, which changes
- * nothing.
+ * DONE; a refusal, which blobcrash_reply prints with its texts; CLOSED, which changes nothing. `into` changes only with DONE.
  */
 uint32_t blobcrash_read(struct blobcrash_session *session, size_t handle, uint64_t offset, uint8_t *into, size_t len);
 

@@ -62,7 +62,7 @@ static inline bool blobcrash_power_fails(struct blobcrash_paths *paths, struct b
 }
 
 static inline bool blobcrash_was_made(uint32_t status) {
-    return status == BLOBCRASH_DONE || status == BLOBCRASH_NO_ROOM || status == BLOBCRASH_OTHER_REPLY || status == BLOBCRASH_UNPRINTED;
+    return status == BLOBCRASH_DONE || status == BLOBCRASH_NO_ROOM || status == BLOBCRASH_UNPRINTED;
 }
 
 /* Returns whether the first word of a line is one of `words`, each of which ends with a space. */
@@ -106,7 +106,7 @@ static inline uint32_t blobcrash_explored_read(struct blobcrash_paths *paths, st
                                                uint64_t offset, uint8_t *into, size_t len) {
     if (blobcrash_power_fails(paths, session, false)) return BLOBCRASH_POWER_LOSS;
     uint32_t status = blobcrash_read(session, handle, offset, into, len);
-    if (paths->script != NULL && blobcrash_was_made(status)) fprintf(paths->script, "read %zu %" PRIu64 " %zu\n", handle, offset, len);
+    if (paths->script != NULL && status != BLOBCRASH_CLOSED) fprintf(paths->script, "read %zu %" PRIu64 " %zu\n", handle, offset, len);
     return status;
 }
 
@@ -115,7 +115,7 @@ static inline uint32_t blobcrash_explored_write(struct blobcrash_paths *paths, s
                                                 uint64_t offset, const uint8_t *bytes, size_t len, bool sync) {
     if (blobcrash_power_fails(paths, session, true)) return BLOBCRASH_POWER_LOSS;
     uint32_t status = blobcrash_write(session, handle, offset, bytes, len, sync);
-    if (paths->script != NULL && blobcrash_was_made(status)) {
+    if (paths->script != NULL && status != BLOBCRASH_CLOSED) {
         fprintf(paths->script, "%s %zu %" PRIu64 " %s", sync ? "writes" : "write", handle, offset, len == 0 ? "-" : "");
         for (size_t i = 0; i < len; i++) fprintf(paths->script, "%02x", bytes[i]);
         fputc('\n', paths->script);

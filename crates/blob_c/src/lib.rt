@@ -118,7 +118,7 @@ pub extern "C" fn blobcrash_reply(alloc: Global, session: &mut Session, reply: &
 
 /// Writes bytes through a handle, with `sync` as a SYNC write: the call `write` or `writes`, without text.
 ///
-/// `OTHER_REPLY`: the reply isn't `ok`, and `blobcrash_reply` returns it.
+/// Any other status but `DONE` and `CLOSED` is a refusal, and `blobcrash_reply` returns its texts.
 #[unsafe(no_mangle)]
 pub extern "C" fn blobcrash_write(
     alloc: Global,
@@ -140,7 +140,7 @@ pub extern "C" fn blobcrash_write(
 
 /// Fills `into` with bytes that are read through a handle: the call `read`, without text.
 ///
-/// `OTHER_REPLY`: the reply isn't these bytes, `into` doesn't change, and `blobcrash_reply` returns the reply.
+/// Any other status but `DONE` and `CLOSED` is a refusal: `into` doesn't change, and `blobcrash_reply` returns its texts.
 #[unsafe(no_mangle)]
 pub extern "C" fn blobcrash_read(
     alloc: Global,

@@ -7,8 +7,9 @@ ghost use Rattle.blob_script.specs.Readers.{IfCall, IfNoCall, SaysCall, config_o
 use crate::debts::{DebtCall, DebtReply, Debts};
 use crate::kinds::{ADMIT, OPEN, OPEN_LOOSE, REMOVE_BLOB, REMOVE_PARTITION, SCAN};
 use crate::ran::{
-    BAD_CALL, BAD_LINE, DONE, ENDLESS, NO_MEMORY, NO_ROOM, OTHER_REPLY, Ran, UNPRINTED,
+    BAD_CALL, BAD_LINE, DONE, ENDLESS, NO_MEMORY, NO_ROOM, Ran, UNPRINTED,
 };
+use crate::refusals::refused_status;
 use crate::reply_text::{line_len, write_line};
 use crate::typed::{TypedCall, TypedReply, numbered_call, versions};
 use blob_faulty::Config;
@@ -176,11 +177,12 @@ impl Kept {
         ensures { AnswersWrite self.old self.new handle offset bytes.now sync result }
     {
         let reply = self.lab.write(handle, offset, bytes, sync);
+        let status = match &reply {
+            Reply::Done => DONE,
+            _ => refused_status(&reply),
+        };
         self.last = Some(reply);
-        match &self.last {
-            Some(Reply::Done) => DONE,
-            _ => OTHER_REPLY,
-        }
+        status
     }
 
     /// Reads as many bytes through a handle as `into` has.
@@ -188,14 +190,15 @@ impl Kept {
         ensures { AnswersRead self.old self.new handle offset result into.old into.new }
     {
         let reply = self.lab.read(handle, offset, into.len());
-        self.last = Some(reply);
-        match &self.last {
-            Some(Reply::Bytes(bytes)) if bytes.len() == into.len() => {
+        let status = match &reply {
+            Reply::Bytes(bytes) if bytes.len() == into.len() => {
                 into.copy_from_slice(bytes);
                 DONE
             }
-            _ => OTHER_REPLY,
-        }
+            _ => refused_status(&reply),
+        };
+        self.last = Some(reply);
+        status
     }
 
     /// Returns how many words of the generator are left, up to the last one that isn't zero. `ENDLESS` if a seed gives the words
