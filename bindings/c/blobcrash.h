@@ -125,7 +125,9 @@ enum blobcrash_debt_kind {
 
 /* The kind of a choice that is a draw of the store: true in the first branch, false in the second. Other kinds are the caller's. */
 enum blobcrash_choice_kind {
-    BLOBCRASH_DRAW = 0
+    BLOBCRASH_DRAW = 0,
+    /* A draw of a size among several. The word that draws the one at index k of n is k * 2^64 / n, rounded up. */
+    BLOBCRASH_DRAWN_SIZE = 3
 };
 
 /* A laboratory, or none: a store with its open handles and started syncs. */
@@ -294,6 +296,13 @@ struct blobcrash_typed_reply blobcrash_apply(struct blobcrash_session *session, 
 struct blobcrash_typed_reply blobcrash_last(struct blobcrash_session *session);
 
 /*
+ * Returns in `size` the size that a handle tracks, in bytes, as the call SIZE does. The last reply stays the last one.
+ *
+ * DONE; E_NO_HANDLE; CLOSED. None changes anything.
+ */
+struct blobcrash_typed_reply blobcrash_tracked_size(struct blobcrash_session *session, size_t handle);
+
+/*
  * Copies the name with an index, from 0 on, to the start of `name`. The last reply is that of a scan, which sorts names by
  * their bytes.
  *
@@ -429,6 +438,15 @@ struct blobcrash_branch blobcrash_explorer_choose(struct blobcrash_explorer *exp
  */
 uint32_t blobcrash_explorer_count(struct blobcrash_explorer *explorer, struct blobcrash_choice *choices, size_t capacity,
                                   size_t left);
+
+/*
+ * As blobcrash_explorer_count, where the last draw is that of a size among `among`: a partial resize stopped at one of the `among` sizes
+ * between the old one and the new one.
+ *
+ * DONE; NO_ROOM if the list is too short for them, and BAD_CALL if `among` is 0, which change nothing.
+ */
+uint32_t blobcrash_explorer_count_size(struct blobcrash_explorer *explorer, struct blobcrash_choice *choices, size_t capacity,
+                                       size_t left, uint64_t among);
 
 /* Ends the run. Returns whether it made the choices of the path, and no fewer: then all choices that it made are the path. */
 bool blobcrash_explorer_end(struct blobcrash_explorer *explorer);

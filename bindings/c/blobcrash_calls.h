@@ -109,7 +109,7 @@ static inline uint32_t blobcrash_moved(struct blobcrash_session *session, uint32
                                        const void *bytes, size_t len) {
     if (blobcrash_is_made(status)) {
         struct blobcrash_asked asked = {0, handle, offset, len};
-        (void)form, (void)asked, (void)bytes;
+        (void)session, (void)form, (void)asked, (void)bytes;
         BLOBCRASH_RECORD(session, form, &asked, NULL, 0, bytes, len);
     }
     return status;

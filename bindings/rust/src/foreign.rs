@@ -218,7 +218,15 @@ unsafe extern "C" {
         capacity: usize,
         left: usize,
     ) -> u32;
+    pub(crate) fn blobcrash_explorer_count_size(
+        explorer: *mut Explorer,
+        choices: *mut Choice,
+        capacity: usize,
+        left: usize,
+        among: u64,
+    ) -> u32;
     pub(crate) fn blobcrash_explorer_end(explorer: *mut Explorer) -> bool;
+    pub(crate) fn blobcrash_tracked_size(session: *mut RawSession, handle: usize) -> TypedReply;
     pub(crate) fn blobcrash_explorer_next(
         explorer: *mut Explorer,
         choices: *mut Choice,

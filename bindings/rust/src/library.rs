@@ -54,6 +54,18 @@ impl Session {
         self.told(ran)
     }
 
+    /// Returns the size that a handle tracks, without a call. `None` if there is no such handle.
+    pub(crate) fn tracked_size(&mut self, handle: usize) -> Option<u64> {
+        // SAFETY: the session is open, and borrowed for the call.
+        let reply = unsafe { blobcrash_tracked_size(&mut self.raw, handle) };
+        (reply.status == DONE).then_some(reply.size)
+    }
+
+    /// Returns the first bytes of the reply line that was returned last.
+    pub(crate) fn text(&self, len: usize) -> &str {
+        std::str::from_utf8(&self.reply[..len]).expect("replies to UTF-8 lines are UTF-8")
+    }
+
     /// Makes a typed call through a handle or a started sync.
     #[inline(always)]
     pub(crate) fn by_number(

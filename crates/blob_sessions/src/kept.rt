@@ -42,7 +42,7 @@ impl Drop for Kept {
 }
 
 impl Kept {
-    ghost use Rattle.blob_sessions.specs.Applying.{Applies};
+    ghost use Rattle.blob_sessions.specs.Applying.{Applies, HasSize};
     ghost use Rattle.blob_sessions.specs.Debts.{IsNew, MakesDebtCall};
     ghost use Rattle.blob_sessions.specs.Sessions.{RunsLine, AnswersRead, AnswersWrite, IsNoCall, Makes, TellsAgain};
     ghost use Rattle.blob_sessions.specs.Typed.{IsNamed, last_reply};
@@ -170,6 +170,13 @@ impl Kept {
             Some(reply) => TypedReply::of(reply),
             None => TypedReply::stopped(DONE),
         }
+    }
+
+    /// Returns the size that a handle tracks, as the call `size` does. The reply to the last call stays the last one.
+    pub fn tracked_size(&self, handle: usize) -> TypedReply
+        ensures { HasSize self.now handle result }
+    {
+        TypedReply::of(&self.lab.size(handle))
     }
 
     /// Writes bytes through a handle.
