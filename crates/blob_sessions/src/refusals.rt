@@ -65,7 +65,6 @@ pub fn status_of(error: &Error) -> u32
 }
 
 /// Returns the status of a write or a read whose reply refuses it. `OTHER_REPLY` for any other reply.
-#[tactic(auto, using(crate::proofs::TypedCalls::refusal_above))]
 pub fn refused_status(reply: &Reply) -> u32
     ensures is { result ≡ refused_status reply.now }
     ensures refused { result ≢ DONE }
