@@ -2,6 +2,7 @@
 argument. The last line is `N passed, M failed`, with `, K skipped` for what needs a package that is missing. With the name of a test
 only that one is run."""
 
+import collections
 import itertools
 import os
 import pickle
@@ -17,7 +18,7 @@ sys.path.insert(0, os.path.join(TOP, "bindings", "python"))
 from passing import raises
 
 import blobcrash
-from blobcrash import Failed, Library, LostWork, NotDeterministic, PowerLoss, Program, StorageError, Store, Unexplorable, explore, seeds
+from blobcrash import Failed, Library, LostWork, NotDeterministic, PowerLoss, Program, StorageError, Store, explore, seeds, shrink
 
 PREFIX = ["write 0 1 1 2 prefix"]
 
@@ -280,13 +281,41 @@ def unreached(store):
     raise AssertionError("the body is called")
 
 
-def test_drawn_sizes_are_refused():
-    for setting in ("resize 1 2 1 2", "resize 0 1 1 1"):
-        error = raises(Unexplorable, explore, unreached, settings=[setting])
-        assert "size" in str(error) and "seeds" in str(error)
-        for ask in (lambda store: store.configure(setting), lambda store: store.call("  config  " + setting.replace(" ", "  "))):
-            explore(lambda store: raises(Unexplorable, ask, store))
-    explore(lambda store: store.configure("resize 1 2 0 1"))
+def resized(store):
+    """Two resizes, to 6 bytes and to 1. Returns the sizes after them."""
+    (blob, _), sizes = store.open("p", b"a"), []
+    blob.resize(2)
+    store.configure("resize 1 2 1 2")
+    for ask in (lambda: blob.resize(6), lambda: store.call("  resize  0  1")):
+        try:
+            ask()
+        except StorageError:
+            pass
+        sizes.append(blob.size())
+    return tuple(sizes)
+
+
+def test_each_drawn_size_is_tried_once():
+    """By hand: from 2 to 6 it is done, or it stays, or it stops at 3, 4 or 5; from each of these to 1 alike. Between 2 and 1 there is no
+    size, so that the two draws of a failure have the same result."""
+    wanted = collections.Counter()
+    for between in (6, 2, 3, 4, 5):
+        wanted.update([(between, 1), (between, between), *[(between, end) for end in range(2, between)]])
+    wanted[2, 2] += 1
+    found = explore(resized)
+    assert found.runs == sum(wanted.values()) and found.complete
+    assert found.outcomes == wanted
+
+
+def test_a_failure_at_a_drawn_size_repeats_and_shrinks():
+    def body(store):
+        assert resized(store) != (4, 2)
+
+    found = raises(Failed, explore, body)
+    assert found.path == "0 0 1:3 0 0 0:2"
+    again = raises(Failed, explore, body, under=found.path)
+    assert again.script == found.script and "resize 0 6" in found.script
+    assert shrink(body, found).path == found.path
 
 
 def test_what_a_store_of_a_run_refuses():

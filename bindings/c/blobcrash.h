@@ -48,7 +48,7 @@ enum blobcrash_status {
     BLOBCRASH_NO_ROOM = 4,
     /* The session is closed. No call was made. */
     BLOBCRASH_CLOSED = 5,
-    /* The call was made, and has a reply of another kind, for example an error. The reply is kept. */
+    /* The last reply has no such name, path, row or edit. */
     BLOBCRASH_OTHER_REPLY = 6,
     /* The call was made. The length of its reply doesn't fit in 64 bits. The reply is kept. */
     BLOBCRASH_UNPRINTED = 7,
@@ -56,7 +56,7 @@ enum blobcrash_status {
     BLOBCRASH_BAD_CALL = 8
 };
 
-/* The status of a typed call that was made and refused. */
+/* The status of a call without a line that was made and refused. */
 enum blobcrash_refusal {
     BLOBCRASH_E_OFFSET_OVERFLOW = 16,
     BLOBCRASH_E_BLOB_INSUFFICIENT_LENGTH = 17,
@@ -125,7 +125,9 @@ enum blobcrash_debt_kind {
 
 /* The kind of a choice that is a draw of the store: true in the first branch, false in the second. Other kinds are the caller's. */
 enum blobcrash_choice_kind {
-    BLOBCRASH_DRAW = 0
+    BLOBCRASH_DRAW = 0,
+    /* A draw of a size among several. The word that draws the one at index k of n is k * 2^64 / n, rounded up. */
+    BLOBCRASH_DRAWN_SIZE = 3
 };
 
 /* A laboratory, or none: a store with its open handles and started syncs. */
@@ -294,6 +296,13 @@ struct blobcrash_typed_reply blobcrash_apply(struct blobcrash_session *session, 
 struct blobcrash_typed_reply blobcrash_last(struct blobcrash_session *session);
 
 /*
+ * Returns in `size` the size that a handle tracks, in bytes, as the call SIZE does. The last reply stays the last one.
+ *
+ * DONE; E_NO_HANDLE; CLOSED. None changes anything.
+ */
+struct blobcrash_typed_reply blobcrash_tracked_size(struct blobcrash_session *session, size_t handle);
+
+/*
  * Copies the name with an index, from 0 on, to the start of `name`. The last reply is that of a scan, which sorts names by
  * their bytes.
  *
@@ -337,7 +346,7 @@ struct blobcrash_ran blobcrash_audit(struct blobcrash_session *session, uint8_t 
 /*
  * Writes bytes at an offset: the call `write HANDLE OFFSET HEX`, or with `sync` the call `writes HANDLE OFFSET HEX`.
  *
- * DONE if the reply is `ok`; OTHER_REPLY, which blobcrash_reply prints; CLOSED, which changes nothing.
+ * DONE; a refusal, which blobcrash_reply prints with its texts; CLOSED, which changes nothing.
  */
 uint32_t blobcrash_write(struct blobcrash_session *session, size_t handle, uint64_t offset, const uint8_t *bytes, size_t len,
                          bool sync);
@@ -345,8 +354,7 @@ uint32_t blobcrash_write(struct blobcrash_session *session, size_t handle, uint6
 /*
  * Fills `into` with `len` bytes from an offset: the call `read HANDLE OFFSET LEN`.
  *
- * DONE if the reply is `len` bytes; OTHER_REPLY, which blobcrash_reply prints, with `into` unchanged; CLOSED, which changes
- * nothing.
+ * DONE; a refusal, which blobcrash_reply prints with its texts; CLOSED, which changes nothing. `into` changes only with DONE.
  */
 uint32_t blobcrash_read(struct blobcrash_session *session, size_t handle, uint64_t offset, uint8_t *into, size_t len);
 
@@ -430,6 +438,15 @@ struct blobcrash_branch blobcrash_explorer_choose(struct blobcrash_explorer *exp
  */
 uint32_t blobcrash_explorer_count(struct blobcrash_explorer *explorer, struct blobcrash_choice *choices, size_t capacity,
                                   size_t left);
+
+/*
+ * As blobcrash_explorer_count, where the last draw is that of a size among `among`: a partial resize stopped at one of the `among` sizes
+ * between the old one and the new one.
+ *
+ * DONE; NO_ROOM if the list is too short for them, and BAD_CALL if `among` is 0, which change nothing.
+ */
+uint32_t blobcrash_explorer_count_size(struct blobcrash_explorer *explorer, struct blobcrash_choice *choices, size_t capacity,
+                                       size_t left, uint64_t among);
 
 /* Ends the run. Returns whether it made the choices of the path, and no fewer: then all choices that it made are the path. */
 bool blobcrash_explorer_end(struct blobcrash_explorer *explorer);

@@ -104,15 +104,15 @@ static inline uint32_t blobcrash_close_blob(struct blobcrash_session *session, s
     return blobcrash_by_number(session, "close N", BLOBCRASH_CLOSE, handle).status;
 }
 
-/* The refusal in place of OTHER_REPLY, and the line of the call. */
+/* Records the line of the call. */
 static inline uint32_t blobcrash_moved(struct blobcrash_session *session, uint32_t status, const char *form, size_t handle, uint64_t offset,
                                        const void *bytes, size_t len) {
     if (blobcrash_is_made(status)) {
         struct blobcrash_asked asked = {0, handle, offset, len};
-        (void)form, (void)asked, (void)bytes;
+        (void)session, (void)form, (void)asked, (void)bytes;
         BLOBCRASH_RECORD(session, form, &asked, NULL, 0, bytes, len);
     }
-    return status == BLOBCRASH_OTHER_REPLY ? blobcrash_last(session).status : status;
+    return status;
 }
 
 /* Reads exactly `len` bytes. */

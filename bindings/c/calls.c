@@ -62,11 +62,11 @@ static void a_reply_without_room_is_kept(void) {
         CHECK(ran.status == BLOBCRASH_DONE);
         CHECK(is_told(room, ran.len, "opened 0 0 0"));
     }
-    CHECK(blobcrash_read(&session, 0, 0, found, sizeof found) == BLOBCRASH_OTHER_REPLY);
+    CHECK(blobcrash_read(&session, 0, 0, found, sizeof found) == BLOBCRASH_E_BLOB_INSUFFICIENT_LENGTH);
     CHECK(memcmp(found, "\7\7\7", 3) == 0);
     ran = blobcrash_reply(&session, room, sizeof room);
     CHECK(is_told(room, ran.len, "error BlobInsufficientLength"));
-    CHECK(blobcrash_write(&session, 5, 0, TEXT("a"), false) == BLOBCRASH_OTHER_REPLY);
+    CHECK(blobcrash_write(&session, 5, 0, TEXT("a"), false) == BLOBCRASH_E_NO_HANDLE);
     ran = blobcrash_reply(&session, room, sizeof room);
     CHECK(is_told(room, ran.len, "error NoHandle"));
     blobcrash_close(&session);

@@ -174,6 +174,26 @@ static void script_of_a_long_run(void) {
     blobcrash_free_paths(&paths);
 }
 
+/* A failing resize from 2 to 6 bytes is done; or fails and stays, whatever its partial draw is set to; or stops at 3, 4 or 5 bytes. The
+ * words are those of a rate, of another one and of a size: of three sizes the second has the word 2^64 / 3, rounded up. */
+static void drawn_sizes(void) {
+    static const char *const words[] = {"words 0 0 0", "words 0 0 6148914691236517206", "words 0 0 12297829382473034411", "words 0 max", "words max"};
+    static const uint64_t sizes[] = {3, 4, 5, 2, 6};
+    struct blobcrash_paths paths = {0};
+    struct blobcrash_session session = {0};
+    while (blobcrash_next_run(&paths, &session, "") == BLOBCRASH_EXPLORE_RUN) {
+        static const char *const lines[] = {"open p 62", "resize 0 2", "config resize 1 2 1 2", " resize  0   6"};
+        for (size_t line = 0; line < sizeof lines / sizeof *lines; line++) blobcrash_explored_text(&paths, &session, lines[line]);
+        uint64_t size = blobcrash_tracked_size(&session, 0).size, run = paths.runs;
+        char text[64] = "";
+        tell(blobcrash_end_run(&paths, &session) == BLOBCRASH_EXPLORE_RUN, "a run with a drawn size");
+        blobcrash_words_of(&paths, text, sizeof text);
+        tell(run < 5 && size == sizes[run] && strcmp(text, words[run]) == 0, text);
+    }
+    tell(paths.runs == 5, "each size once");
+    blobcrash_free_paths(&paths);
+}
+
 /* While the power is off, what makes no call of the store is made. */
 static void what_is_made_without_power(void) {
     static const struct { const char *line; bool is_made; } rows[] = {
@@ -236,6 +256,7 @@ int main(void) {
     refusals();
     too_long();
     script_of_a_long_run();
+    drawn_sizes();
     what_is_made_without_power();
     a_refused_restart();
     printf("%d passed, %d failed\n", passed, failed);

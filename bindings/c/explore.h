@@ -23,7 +23,7 @@
  * counted. Their draws are false once the zeros of a run are taken, so a loop of these ends too, unless the calls before it have taken
  * as many words again.
  *
- * Partial resizes draw sizes, which two words don't reach: leave their rate at 0.
+ * A partial resize stops at a drawn size, and each is tried: make its call by blobcrash_explored_call.
  */
 #ifndef BLOBCRASH_EXPLORE_H
 #define BLOBCRASH_EXPLORE_H
@@ -86,21 +86,44 @@ static inline uint64_t blobcrash_most_calls(const struct blobcrash_paths *paths)
     return paths->calls_per_run == 0 ? (uint64_t)BLOBCRASH_CALLS_PER_RUN : paths->calls_per_run;
 }
 
+/* Whether a choice is a draw, which takes a word. */
+static inline bool blobcrash_is_draw(const struct blobcrash_choice *choice) {
+    return choice->kind == BLOBCRASH_DRAW || choice->kind == BLOBCRASH_DRAWN_SIZE;
+}
+
+/* The word that draws the size at an index among several: index * 2^64 / among, rounded up, one bit at a time. */
+static inline uint64_t blobcrash_size_word(uint64_t index, uint64_t among) {
+    uint64_t word = 0, rest = index;
+    for (int bit = 0; bit < 64; bit++) {
+        bool is_set = rest >= among - rest;
+        word = 2 * word + is_set;
+        rest = is_set ? rest - (among - rest) : 2 * rest;
+    }
+    return word + (rest > 0);
+}
+
+/* Writes the word of a choice behind a space, if it is a draw. Returns the length, at most 21. */
+static inline size_t blobcrash_put_word(const struct blobcrash_choice *choice, char *text) {
+    if (choice->kind == BLOBCRASH_DRAWN_SIZE) {
+        return (size_t)snprintf(text, 22, " %" PRIu64, blobcrash_size_word(choice->branch, choice->among));
+    }
+    size_t len = choice->kind != BLOBCRASH_DRAW ? 0 : choice->branch == 0 ? 2 : 4;
+    memcpy(text, choice->branch == 0 ? " 0" : " max", len);
+    return len;
+}
+
 /* The words of a path as a line of a script, for a failure: `words 0 max`. Returns its length without the final zero, which `text`
  * gets if both fit. */
 static inline size_t blobcrash_words_of(const struct blobcrash_paths *paths, char *text, size_t text_room) {
-    const struct blobcrash_choice *choices = paths->choices;
+    char word[22];
     size_t len = 5;
-    for (size_t i = 0; i < paths->explorer.len; i++) {
-        if (choices[i].kind == BLOBCRASH_DRAW) len += choices[i].branch == 0 ? 2 : 4;
-    }
+    for (size_t i = 0; i < paths->explorer.len; i++) len += blobcrash_put_word(&paths->choices[i], word);
     if (len < text_room) {
         char *end = text + 5;
         memcpy(text, "words", 5);
         for (size_t i = 0; i < paths->explorer.len; i++) {
-            if (choices[i].kind != BLOBCRASH_DRAW) continue;
-            size_t count = choices[i].branch == 0 ? 2 : 4;
-            memcpy(end, choices[i].branch == 0 ? " 0" : " max", count);
+            size_t count = blobcrash_put_word(&paths->choices[i], word);
+            memcpy(end, word, count);
             end += count;
         }
         *end = 0;
@@ -159,7 +182,7 @@ static inline int blobcrash_begin_run(struct blobcrash_paths *paths, uint32_t op
     paths->is_running = true;
     paths->calls = 0;
     size_t given = 2 * paths->room;
-    for (size_t i = 0; i < paths->explorer.len; i++) given += paths->choices[i].kind == BLOBCRASH_DRAW;
+    for (size_t i = 0; i < paths->explorer.len; i++) given += blobcrash_is_draw(&paths->choices[i]);
     blobcrash_explorer_begin(&paths->explorer, given);
     return BLOBCRASH_EXPLORE_RUN;
 }
@@ -187,6 +210,14 @@ static inline void blobcrash_count_words(struct blobcrash_paths *paths, struct b
     bool has_room = blobcrash_add_room(paths, paths->explorer.given - left.len);
     paths->has_no_memory |= !has_room;
     if (has_room) blobcrash_explorer_count(&paths->explorer, paths->choices, paths->capacity, left.len);
+}
+
+/* As blobcrash_count_words, where the last draw is that of a size among so many. */
+static inline void blobcrash_count_size(struct blobcrash_paths *paths, struct blobcrash_ran left, uint64_t among) {
+    if (left.status != BLOBCRASH_DONE || left.len > paths->explorer.given) return;
+    bool has_room = blobcrash_add_room(paths, paths->explorer.given - left.len);
+    paths->has_no_memory |= !has_room;
+    if (has_room) blobcrash_explorer_count_size(&paths->explorer, paths->choices, paths->capacity, left.len, among);
 }
 
 /* As blobcrash_count_words. Returns how many words are left. */

@@ -241,7 +241,8 @@ static void statuses(void) {
     CHECK(blobcrash_words_left(&session).status == BLOBCRASH_ENDLESS);
     CHECK(blobcrash_call(&session, TEXT("frob"), reply, sizeof reply).status == BLOBCRASH_BAD_LINE);
     CHECK(blobcrash_call(&session, TEXT("crash"), reply, 6).status == BLOBCRASH_NO_ROOM);
-    CHECK(blobcrash_write(&session, 0, 0, TEXT("a"), false) == BLOBCRASH_OTHER_REPLY);
+    CHECK(blobcrash_write(&session, 0, 0, TEXT("a"), false) == BLOBCRASH_E_NO_HANDLE);
+    CHECK(blobcrash_name(&session, 0, reply, sizeof reply).status == BLOBCRASH_OTHER_REPLY);
     const struct blobcrash_asked unknown = {KINDS, 0, 0, 0};
     CHECK(blobcrash_apply(&session, &unknown, TEXT("p"), TEXT("a")).status == BLOBCRASH_BAD_CALL);
     blobcrash_close(&session);

@@ -62,7 +62,7 @@ static inline bool blobcrash_power_fails(struct blobcrash_paths *paths, struct b
 }
 
 static inline bool blobcrash_was_made(uint32_t status) {
-    return status == BLOBCRASH_DONE || status == BLOBCRASH_NO_ROOM || status == BLOBCRASH_OTHER_REPLY || status == BLOBCRASH_UNPRINTED;
+    return status == BLOBCRASH_DONE || status == BLOBCRASH_NO_ROOM || status == BLOBCRASH_UNPRINTED;
 }
 
 /* Returns whether the first word of a line is one of `words`, each of which ends with a space. */
@@ -74,6 +74,39 @@ static inline bool blobcrash_has_word(const uint8_t *line, size_t len, const cha
         if ((size_t)(end - words) == word && memcmp(line, words, word) == 0) return true;
     }
     return false;
+}
+
+/* A resize, and the size before it. */
+struct blobcrash_resize_made {
+    bool is_one;
+    size_t handle;
+    uint64_t from, to;
+};
+
+/* Reads a line `resize HANDLE LEN`, before it is made. */
+static inline struct blobcrash_resize_made blobcrash_before_resize(struct blobcrash_session *session, const uint8_t *line, size_t len) {
+    struct blobcrash_resize_made resize = {false, 0, 0, 0};
+    char text[128];
+    size_t at = 0;
+    if (!blobcrash_has_word(line, len, "resize ")) return resize;
+    for (size_t i = 0; i < len && at + 1 < sizeof text; i++) {
+        if (line[i] != ' ' || i == 0 || line[i - 1] != ' ') text[at++] = (char)line[i];
+    }
+    text[at] = 0;
+    if (sscanf(text, " resize %zu %" SCNu64, &resize.handle, &resize.to) != 2) return resize;
+    struct blobcrash_typed_reply size = blobcrash_tracked_size(session, resize.handle);
+    resize.is_one = size.status == BLOBCRASH_DONE;
+    resize.from = size.size;
+    return resize;
+}
+
+/* Counts the draws of a resize that stopped at a size between the old one and the new one: the last one drew it. */
+static inline void blobcrash_after_resize(struct blobcrash_paths *paths, struct blobcrash_session *session,
+                                          const struct blobcrash_resize_made *resize) {
+    if (!resize->is_one) return;
+    uint64_t now = blobcrash_tracked_size(session, resize->handle).size, from = resize->from, to = resize->to;
+    if (now == from || now == to) return;
+    blobcrash_count_size(paths, blobcrash_words_left(session), (from < to ? to - from : from - to) - 1);
 }
 
 /* As blobcrash_call. POWER_LOSS if the power is off: then only `crash`, settings, comments and, after the crash, `close` and `reopen` are
@@ -88,8 +121,10 @@ static inline struct blobcrash_ran blobcrash_explored_call(struct blobcrash_path
     bool changes = blobcrash_has_word(line, len, "open loose admit write writes resize sync startsync finish remove ");
     if (is_made_anyway) blobcrash_count_call(paths, session);
     else if (blobcrash_power_fails(paths, session, changes)) return (struct blobcrash_ran){BLOBCRASH_POWER_LOSS, 0};
+    struct blobcrash_resize_made resize = blobcrash_before_resize(session, line, len);
     struct blobcrash_ran ran = blobcrash_call(session, line, len, reply, reply_room);
     if (!blobcrash_was_made(ran.status)) return ran;
+    blobcrash_after_resize(paths, session, &resize);
     /* A refused crash has lost nothing, and a refused reopening hasn't reopened. */
     bool is_refused = (crashes || reopens) && blobcrash_last(session).status != BLOBCRASH_DONE;
     if (crashes && !is_refused) paths->has_crashed = paths->is_off;
@@ -106,7 +141,7 @@ static inline uint32_t blobcrash_explored_read(struct blobcrash_paths *paths, st
                                                uint64_t offset, uint8_t *into, size_t len) {
     if (blobcrash_power_fails(paths, session, false)) return BLOBCRASH_POWER_LOSS;
     uint32_t status = blobcrash_read(session, handle, offset, into, len);
-    if (paths->script != NULL && blobcrash_was_made(status)) fprintf(paths->script, "read %zu %" PRIu64 " %zu\n", handle, offset, len);
+    if (paths->script != NULL && status != BLOBCRASH_CLOSED) fprintf(paths->script, "read %zu %" PRIu64 " %zu\n", handle, offset, len);
     return status;
 }
 
@@ -115,7 +150,7 @@ static inline uint32_t blobcrash_explored_write(struct blobcrash_paths *paths, s
                                                 uint64_t offset, const uint8_t *bytes, size_t len, bool sync) {
     if (blobcrash_power_fails(paths, session, true)) return BLOBCRASH_POWER_LOSS;
     uint32_t status = blobcrash_write(session, handle, offset, bytes, len, sync);
-    if (paths->script != NULL && blobcrash_was_made(status)) {
+    if (paths->script != NULL && status != BLOBCRASH_CLOSED) {
         fprintf(paths->script, "%s %zu %" PRIu64 " %s", sync ? "writes" : "write", handle, offset, len == 0 ? "-" : "");
         for (size_t i = 0; i < len; i++) fprintf(paths->script, "%02x", bytes[i]);
         fputc('\n', paths->script);

@@ -184,7 +184,12 @@ static void refusals_have_numbers_and_texts(void) {
     CHECK(blobcrash_sync(&session, handle) == BLOBCRASH_E_INJECTED && prints(&session, "error Injected"));
     CHECK(blobcrash_open_blob(&session, "p", 1, "a", 1, &handle, &size) == BLOBCRASH_E_BLOB_ALREADY_OPEN && handle == 0 && size == 9);
     CHECK(prints(&session, "error BlobAlreadyOpen p 61"));
-    CHECK(blobcrash_last(&session).status == BLOBCRASH_E_BLOB_ALREADY_OPEN);
+    /* A tracked size is no reply. */
+    CHECK(blobcrash_write_at(&session, 0, 0, "abc", 3) == BLOBCRASH_DONE);
+    CHECK(blobcrash_sync(&session, 7) == BLOBCRASH_E_NO_HANDLE);
+    CHECK(blobcrash_tracked_size(&session, 0).size == 3 && blobcrash_tracked_size(&session, 1).status == BLOBCRASH_E_NO_HANDLE);
+    CHECK(blobcrash_tracked_size(&session, SIZE_MAX).status == BLOBCRASH_E_NO_HANDLE);
+    CHECK(blobcrash_last(&session).status == BLOBCRASH_E_NO_HANDLE && prints(&session, "error NoHandle"));
     CHECK(blobcrash_open_blob(&session, "a b\n", 4, "a", 1, NULL, NULL) == BLOBCRASH_E_PARTITION_NAME_INVALID);
     CHECK(prints(&session, "error PartitionNameInvalid a b\n"));
     CHECK(blobcrash_open_versioned(&session, "p", 1, "a", 1, 2, 1, NULL, NULL, NULL) == BLOBCRASH_E_EMPTY_RANGE);

@@ -140,7 +140,7 @@ def explore(
 
     Raises `Failed`, with a script, for the first run in which the body raises; `report` is a file for a page that shows it. `TooLong`,
     with the script so far, for a run with more calls or draws. `NotDeterministic` if the body makes other calls along the same path.
-    `Unexplorable` for a partial resize. `LostWork` if workers are lost. `ValueError` or `TypeError` for an invalid argument, before the
+    `Unexplorable` for a partial resize of files. `LostWork` if workers are lost. `ValueError` or `TypeError` for an invalid argument, before the
     body is called. `TypeError` too for a body that hasn't run when it returns: a generator or a coroutine.
     """
     check_body(body)
@@ -157,7 +157,10 @@ def explore(
     if seed is not None:
         number(seed, "a seed")
     for setting in tree.settings:
-        refuse_sizes(setting_tokens(setting) if profile is None else file_setting_tokens(setting))
+        if profile is None:
+            setting_tokens(setting)
+        else:
+            refuse_sizes(file_setting_tokens(setting))
     for image in tree.images:
         image_line(*image)
     if seed is None and not hasattr(by, "words_left"):

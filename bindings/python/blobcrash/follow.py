@@ -5,10 +5,10 @@ from __future__ import annotations
 from typing import Any, Iterable, List, Optional, Tuple
 
 from .bounds import BoundedStore, Bounds
-from .grammar import MAX, number_of_branches, setting_tokens
+from .grammar import MAX, number_of_branches
 from .layers import Library
 from .met import Met, State, blobs_of, durable_blobs, frozen, place, settings_of
-from .paths import CHOICE, DRAW, POWER, WORDS, Choice
+from .paths import CHOICE, DRAW, POWER, SIZE, Choice, draws_of
 from .power import Supply
 from .traversal import Traversal
 
@@ -34,7 +34,7 @@ class MoreWords(BaseException):
 
 
 def refuse_sizes(tokens: List[str]) -> None:
-    """Raises `Unexplorable` if a setting lets a failing resize stop at a size that is drawn."""
+    """Raises `Unexplorable` if a setting lets a failing resize of a file stop at a size that is drawn."""
     if tokens[:2] == ["config", "resize"] and int(tokens[4]) > 0:
         raise Unexplorable(
             f"`{' '.join(tokens[1:])}` can't be explored: a failing resize would stop at a drawn size, and the two outcomes of each word "
@@ -62,7 +62,7 @@ class Run:
         self.planned = along.planned
         self.bounds = bounds or Bounds()
         self.met = {} if met is None else met
-        self.words = [*_words_of(along.path), *[0] * room, MAX]
+        self.words = [*draws_of(along.path), *[0] * room, MAX]
         self.made: List[int] = []
         self.calls: List[Any] = []
         self.seed = seed
@@ -81,7 +81,7 @@ class Run:
         """The branch of the next choice."""
         branch = self._along.choose(kind, of)
         if self._along.differs:
-            raise self._differs(kind, of)
+            raise self._differs((kind, of))
         self.made.append(len(self.calls))
         self.bounds.check(self._along.made)
         return branch
@@ -103,8 +103,8 @@ class Run:
             if self.met.setdefault(state, taken) != taken:
                 self.bounds.end_met()
 
-    def count(self, left: int) -> None:
-        """Counts the draws of a call, after which `left` words are left."""
+    def count(self, left: int, sizes: int = 0) -> None:
+        """Counts the draws of a call, after which `left` words are left. With `sizes` the last one drew one of so many."""
         if left == 0:
             self.is_short = True
             self.bounds.check(len(self.words))
@@ -113,30 +113,27 @@ class Run:
             return
         self._left = left
         before = self._along.made
-        self._along.count(left)
+        self._along.count(left, sizes)
         if self._along.differs:
-            raise self._differs(DRAW, 2)
+            draws = self._along.made - before - bool(sizes)
+            raise self._differs(*[(DRAW, 2)] * draws, *[(SIZE, sizes)] * bool(sizes))
         self.made += [len(self.calls)] * (self._along.made - before)
         self.bounds.check(self._along.made)
 
     def draws(self) -> List[int]:
         """The words of the draws that were made. If the run is short, all that it was given."""
-        return self.words if self.is_short else _words_of(self.taken)
+        return self.words if self.is_short else draws_of(self.taken)
 
-    def _differs(self, kind: str, of: int) -> NotDeterministic:
-        """The error of choices of another kind than the path has."""
-        path = self._along.path
-        at = next(at for at in range(len(self.made), len(path)) if path[at][0] != kind or path[at][2] != of)
-        self.error = NotDeterministic.by(f"choice {at} of the path was {_named(path[at])}, and is {_named((kind, 0, of))}")
+    def _differs(self, *made: Tuple[str, int]) -> NotDeterministic:
+        """The error of choices that differ from those of the path. Each is a kind and a number of branches."""
+        planned = enumerate(self._along.path[len(self.made) :], len(self.made))
+        at, was, now = next((at, was, now) for (at, was), now in zip(planned, made) if (was[0], was[2]) != now)
+        self.error = NotDeterministic.by(f"choice {at} of the path was {_named(was)}, and is {_named((now[0], 0, now[1]))}")
         return self.error
 
 
-def _words_of(choices: List[Choice]) -> List[int]:
-    return [WORDS[branch] for kind, branch, _ in choices if kind == DRAW]
-
-
 def _named(choice: Choice) -> str:
-    return f"`choose({choice[2]})`" if choice[0] == CHOICE else choice[0]
+    return {CHOICE: f"`choose({choice[2]})`", SIZE: f"one of {choice[2]} drawn sizes"}.get(choice[0], choice[0])
 
 
 class _Followed:
@@ -149,9 +146,24 @@ class _Followed:
 
     def call(self, line: bytes) -> bytes:
         self._run.calls.append(line)
+        tokens = line.split() if self._left is not None else []
+        if len(tokens) == 3 and tokens[0] == b"resize":
+            return self._resize(line, tokens)
         reply = self._layer.call(line)
         self._count()
         return reply
+
+    def _resize(self, line: bytes, tokens: List[bytes]) -> bytes:
+        """Makes the call of a resize. If it fails and the size is another one, that was drawn from those between the old one and the new."""
+        before = self._size(tokens[1])
+        reply = self._layer.call(line)
+        after = self._size(tokens[1]) if reply == b"error Injected" else before
+        self._count(0 if after == before else abs(int(tokens[2]) - before) - 1)
+        return reply
+
+    def _size(self, handle: bytes) -> int:
+        reply = self._layer.call(b"size " + handle)
+        return int(reply[5:]) if reply.startswith(b"size ") else -1
 
     def read(self, handle: int, offset: int, length: int) -> Any:
         self._run.calls.append((handle, offset, length))
@@ -173,9 +185,9 @@ class _Followed:
         calls = self._run.calls
         return durable_blobs(self._layer, blobs_of(calls, images)), settings_of(calls), calls.count(b"crash"), self._run.losses
 
-    def _count(self) -> None:
+    def _count(self, sizes: int = 0) -> None:
         if self._left is not None:
-            self._run.count(self._left())
+            self._run.count(self._left(), sizes)
 
 
 class OnPath:
@@ -232,12 +244,3 @@ class ExploredStore(OnPath, BoundedStore):
     def push_words(self, words: Iterable[int]) -> None:
         """Raises `ValueError`: the words of a run are those of its path."""
         raise ValueError("the words of an explored run are given by its path")
-
-    def _setting_line(self, setting: str) -> str:
-        refuse_sizes(setting_tokens(setting))
-        return super()._setting_line(setting)
-
-    def _ask(self, line: str, partition: Optional[str] = None) -> List[str]:
-        if line.lstrip(" ").startswith("config"):
-            refuse_sizes([token for token in line.split(" ") if token])
-        return super()._ask(line, partition)

@@ -23,7 +23,6 @@ from .foreign import (
     INSIDE,
     NO_MEMORY,
     NO_ROOM,
-    OTHER_REPLY,
     TOP,
     UNPRINTED,
     Ran,
@@ -307,7 +306,7 @@ class Library:
         return True
 
     def _other(self, status: int) -> Reply:
-        if status != OTHER_REPLY:
+        if status == CLOSED:
             _check(status)
         return Reply(self._reply(Ran(NO_ROOM, 0)).decode())
 

@@ -26,9 +26,8 @@ from .follow import ExploredStore, MoreWords, Run
 from .generator import words_of
 from .grammar import MAX, number
 from .layers import Library
-from .paths import CHOICE, DRAW, POWER, WORDS, Choice, path_of, text_of
+from .paths import CHOICE, DRAW, POWER, SIZE, WORDS, Choice, draws_of, path_of, text_of
 from .power import PowerLoss
-from .store import Store
 from .traversal import Traversal
 
 # How many lists of random draws are tried with smaller choices.
@@ -98,7 +97,7 @@ def shrink(
     def store(run: Run) -> Any:
         if profile is not None:
             return _ReplayedFiles(run, settings, profile, by)
-        return _ReplayedStore(run, settings, images, by, allow_stale)
+        return ExploredStore(run, settings, images, by, allow_stale)
 
     until = time.monotonic() + seconds_of(seconds)
     search = _Search(body, store, number(runs, "a number of runs"), until)
@@ -143,12 +142,15 @@ class Replay(Run):
         self.losses -= is_off
         return is_off
 
-    def count(self, left: int) -> None:
+    def count(self, left: int, sizes: int = 0) -> None:
         if left == 0:
             self.is_short = True
             raise MoreWords
         drawn = len(self.words) - left
-        self._chosen += [(DRAW, WORDS.index(word) if word in WORDS else word, 2) for word in self.words[self._taken_words : drawn]]
+        words = self.words[self._taken_words : drawn]
+        self._chosen += [(DRAW, WORDS.index(word) if word in WORDS else word, 2) for word in words]
+        if sizes and words:
+            self._chosen[-1] = (SIZE, words[-1] * sizes >> 64, sizes)
         self._taken_words = drawn
 
     def draws(self) -> List[int]:
@@ -172,16 +174,6 @@ class _Seeded(Replay):
 
     def pick(self, of: int) -> int:
         return self._random.randrange(of)
-
-
-class _ReplayedStore(ExploredStore):
-    """The store of such a run. It may draw the sizes of partial resizes."""
-
-    def _setting_line(self, setting: str) -> str:
-        return Store._setting_line(self, setting)
-
-    def _ask(self, line: str, partition: Optional[str] = None) -> List[str]:
-        return Store._ask(self, line, partition)
 
 
 class _ReplayedFiles(ExploredFiles):
@@ -270,8 +262,7 @@ def _choices_of(path: List[Choice]) -> Choices:
     for kind, branch, _ in path:
         if kind == POWER:
             losses, gap = ([*losses, gap], 0) if branch else (losses, gap + 1)
-    draws = tuple(WORDS[branch] for kind, branch, _ in path if kind == DRAW)
-    return Choices(draws, tuple(branch for kind, branch, _ in path if kind == CHOICE), tuple(losses))
+    return Choices(tuple(draws_of(path)), tuple(branch for kind, branch, _ in path if kind == CHOICE), tuple(losses))
 
 
 def _smaller(choices: Choices) -> Iterator[Choices]:

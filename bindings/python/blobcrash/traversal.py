@@ -59,10 +59,15 @@ class Traversal:
                 return chosen.branch
             self._hold(2 * self._capacity)
 
-    def count(self, left: int) -> None:
-        """Makes the draws up to here choices of the run, where `left` words are left."""
-        while self._functions.blobcrash_explorer_count(self._at, self._choices, self._capacity, left) == NO_ROOM:
+    def count(self, left: int, sizes: int = 0) -> None:
+        """Makes the draws up to here choices of the run, where `left` words are left. With `sizes` the last one drew one of so many."""
+        while self._counted(left, sizes) == NO_ROOM:
             self._hold(2 * self._capacity)
+
+    def _counted(self, left: int, sizes: int) -> int:
+        if sizes:
+            return self._functions.blobcrash_explorer_count_size(self._at, self._choices, self._capacity, left, sizes)
+        return self._functions.blobcrash_explorer_count(self._at, self._choices, self._capacity, left)
 
     def end(self) -> bool:
         """Ends the run. Returns whether it made the choices of the path, and no fewer."""
@@ -102,8 +107,8 @@ def _chosen(choice: Choice) -> Chosen:
 
 def _functions() -> Any:
     functions = loaded()
-    if not hasattr(functions, "blobcrash_explorer_next"):
-        raise LibraryMissing(f"{library()} has no blobcrash_explorer_next: build it with `sh bindings/build.sh`")
+    if not hasattr(functions, "blobcrash_explorer_count_size"):
+        raise LibraryMissing(f"{library()} has no blobcrash_explorer_count_size: build it with `sh bindings/build.sh`")
     explorer, choices, size = ctypes.POINTER(Explorer), ctypes.POINTER(Choice), ctypes.c_size_t
     functions.blobcrash_explorer_begin.restype = None
     functions.blobcrash_explorer_begin.argtypes = [explorer, size]
@@ -111,6 +116,8 @@ def _functions() -> Any:
     functions.blobcrash_explorer_choose.argtypes = [explorer, choices, size, ctypes.c_uint32, ctypes.c_uint64]
     functions.blobcrash_explorer_count.restype = ctypes.c_uint32
     functions.blobcrash_explorer_count.argtypes = [explorer, choices, size, size]
+    functions.blobcrash_explorer_count_size.restype = ctypes.c_uint32
+    functions.blobcrash_explorer_count_size.argtypes = [explorer, choices, size, size, ctypes.c_uint64]
     functions.blobcrash_explorer_end.restype = functions.blobcrash_explorer_next.restype = ctypes.c_bool
     functions.blobcrash_explorer_end.argtypes = [explorer]
     functions.blobcrash_explorer_next.argtypes = [explorer, choices, size]

@@ -197,6 +197,14 @@ impl Builder {
         Ok(())
     }
 
+    /// Checks that no setting draws the size of a failing resize.
+    pub(crate) fn check_explorable(&self) -> Result<(), Error> {
+        self.config.check_explorable()?;
+        self.lines
+            .iter()
+            .try_for_each(|line| Config::check_explorable_line(line))
+    }
+
     /// Returns the builder of an explored run, with as many words after those of its path.
     pub(crate) fn with_choices(
         &self,
@@ -204,10 +212,6 @@ impl Builder {
         words: usize,
     ) -> Result<Builder, Error> {
         self.check_undrawn()?;
-        self.config.check_explorable()?;
-        for line in &self.lines {
-            Config::check_explorable_line(line)?;
-        }
         let mut builder = self.clone().words(&choices.words(words));
         // Before the images and the lines of the caller.
         builder.lines.rotate_right(1);

@@ -88,6 +88,13 @@ impl Choices {
         self.is_long |= self.path.made() as u64 > self.most;
     }
 
+    /// Counts draws as `count` does, where the last one is that of a size among so many.
+    pub(crate) fn count_size(&mut self, left: usize, among: u64) {
+        self.is_short |= left == 0;
+        self.path.count_size(left, among);
+        self.is_long |= self.path.made() as u64 > self.most;
+    }
+
     /// Whether the power may fail at all.
     pub(crate) fn has_losses(&self) -> bool {
         self.losses > 0

@@ -183,10 +183,10 @@ pub struct Config {
     pub scan_rate: Option<Probability>,
 }
 
-/// Why a partial resize can't be explored.
+/// Why a partial resize of a file can't be explored.
 fn drawn_sizes() -> Error {
     Error::Argument(
-        "a partial resize can't be explored: it stops at a drawn size, and the two outcomes of each word don't reach all sizes. \
+        "a partial resize of a file can't be explored: it stops at a drawn size, and the two outcomes of each word don't reach all sizes. \
          Set its rate to 0, or test it with seeds"
             .to_owned(),
     )

@@ -7,7 +7,6 @@ pub(crate) const ENDLESS: u32 = 1;
 pub(crate) const BAD_LINE: u32 = 2;
 pub(crate) const NO_MEMORY: u32 = 3;
 pub(crate) const NO_ROOM: u32 = 4;
-pub(crate) const OTHER_REPLY: u32 = 6;
 pub(crate) const BAD_CALL: u32 = 8;
 /// Below this a status isn't a refusal.
 pub(crate) const FIRST_REFUSAL: u32 = 16;
@@ -219,7 +218,15 @@ unsafe extern "C" {
         capacity: usize,
         left: usize,
     ) -> u32;
+    pub(crate) fn blobcrash_explorer_count_size(
+        explorer: *mut Explorer,
+        choices: *mut Choice,
+        capacity: usize,
+        left: usize,
+        among: u64,
+    ) -> u32;
     pub(crate) fn blobcrash_explorer_end(explorer: *mut Explorer) -> bool;
+    pub(crate) fn blobcrash_tracked_size(session: *mut RawSession, handle: usize) -> TypedReply;
     pub(crate) fn blobcrash_explorer_next(
         explorer: *mut Explorer,
         choices: *mut Choice,
@@ -292,7 +299,6 @@ pub(crate) mod tests {
             ("BAD_LINE", BAD_LINE),
             ("NO_MEMORY", NO_MEMORY),
             ("NO_ROOM", NO_ROOM),
-            ("OTHER_REPLY", OTHER_REPLY),
             ("BAD_CALL", BAD_CALL),
             ("E_BLOB_MISSING", BLOB_MISSING),
             ("H_INVALID_MAGIC", INVALID_MAGIC),

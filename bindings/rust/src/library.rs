@@ -54,6 +54,18 @@ impl Session {
         self.told(ran)
     }
 
+    /// Returns the size that a handle tracks, without a call. `None` if there is no such handle.
+    pub(crate) fn tracked_size(&mut self, handle: usize) -> Option<u64> {
+        // SAFETY: the session is open, and borrowed for the call.
+        let reply = unsafe { blobcrash_tracked_size(&mut self.raw, handle) };
+        (reply.status == DONE).then_some(reply.size)
+    }
+
+    /// Returns the first bytes of the reply line that was returned last.
+    pub(crate) fn text(&self, len: usize) -> &str {
+        std::str::from_utf8(&self.reply[..len]).expect("replies to UTF-8 lines are UTF-8")
+    }
+
     /// Makes a typed call through a handle or a started sync.
     #[inline(always)]
     pub(crate) fn by_number(
@@ -162,7 +174,7 @@ impl Session {
         let (at, len) = (bytes.as_ptr(), bytes.len());
         // SAFETY: as for `call`; the bytes are borrowed for the call.
         let status = unsafe { blobcrash_write(&mut self.raw, handle, offset, at, len, sync) };
-        if self.script.is_some() && is_made(status) {
+        if self.script.is_some() && is_applied(status) {
             self.record(|script| script.push_write(handle, offset, bytes, sync));
         }
         self.done(status)
@@ -208,7 +220,7 @@ impl Session {
         let (at, len) = (into.as_mut_ptr(), into.len());
         // SAFETY: as for `call`; the buffer is borrowed for the call.
         let status = unsafe { blobcrash_read(&mut self.raw, handle, offset, at, len) };
-        if self.script.is_some() && is_made(status) {
+        if self.script.is_some() && is_applied(status) {
             self.record(|script| script.push_read(handle, offset, len));
         }
         self.done(status)
@@ -292,12 +304,7 @@ impl Session {
         if status == DONE {
             return Ok(());
         }
-        // Its reply has the refusal.
-        Err(self.refusal(if status == OTHER_REPLY {
-            FIRST_REFUSAL
-        } else {
-            status
-        }))
+        Err(self.refusal(status))
     }
 
     /// Returns the reply line of a call that was made. Grows the buffer if the reply doesn't fit.
@@ -338,11 +345,6 @@ impl Recorded for Session {
 /// Returns whether a typed call with this status was made.
 fn is_applied(status: u32) -> bool {
     status == DONE || status >= FIRST_REFUSAL
-}
-
-/// Returns whether a read or a write with this status was made.
-fn is_made(status: u32) -> bool {
-    status == DONE || status == OTHER_REPLY
 }
 
 impl Drop for Session {

@@ -103,6 +103,13 @@ impl Limits {
         }
     }
 
+    /// Counts the draws that an explored run has made, where the last one is that of a size among so many.
+    pub(crate) fn count_size(&mut self, among: u64, session: &mut dyn Recorded) {
+        if let (Some(choices), Some(left)) = (&mut self.choices, session.words_left()) {
+            choices.count_size(left, among);
+        }
+    }
+
     /// Returns a number below `branches`.
     pub(crate) fn choose(&mut self, branches: usize, session: &mut dyn Recorded) -> usize {
         // Without an error to return, a run that is too long goes on while a panic unwinds.

@@ -1,7 +1,8 @@
 //! The path of explored runs. The library knows which branch is next; no other file calls these functions of it.
 use crate::foreign::{
     Choice, Explorer, blobcrash_explorer_begin, blobcrash_explorer_choose,
-    blobcrash_explorer_count, blobcrash_explorer_end, blobcrash_explorer_next,
+    blobcrash_explorer_count, blobcrash_explorer_count_size, blobcrash_explorer_end,
+    blobcrash_explorer_next,
 };
 
 /// What a choice decides.
@@ -14,6 +15,8 @@ pub(crate) enum Kind {
     Power = 1,
     /// A `Run::choose`.
     Branch = 2,
+    /// The size at which a partial resize stops.
+    Size = 3,
 }
 
 /// A traversal of the tree of choices, with the list to which the library writes them.
@@ -46,6 +49,15 @@ impl Path {
         let (at, capacity) = (self.choices.as_mut_ptr(), self.choices.len());
         // SAFETY: as for `choose`.
         unsafe { blobcrash_explorer_count(&mut self.explorer, at, capacity, left) };
+    }
+
+    /// Makes draws choices as `count` does, where the last one is that of a size among so many.
+    pub(crate) fn count_size(&mut self, left: usize, among: u64) {
+        self.reserve(self.explorer.given.saturating_sub(left));
+        let (explorer, capacity) = (&mut self.explorer, self.choices.len());
+        let at = self.choices.as_mut_ptr();
+        // SAFETY: as for `choose`.
+        unsafe { blobcrash_explorer_count_size(explorer, at, capacity, left, among) };
     }
 
     /// Ends the run. Returns whether it made the choices of the path, and no fewer.
@@ -87,12 +99,20 @@ impl Path {
 
 /// Returns the words that make draws have their outcomes.
 fn words_of(choices: &[Choice]) -> Vec<u64> {
-    let draws = choices
-        .iter()
-        .filter(|choice| choice.kind == Kind::Draw as u32);
-    draws
-        .map(|draw| if draw.branch == 0 { 0 } else { u64::MAX })
-        .collect()
+    choices.iter().filter_map(word_of).collect()
+}
+
+/// Returns the word that makes a draw have its outcome: of a size at index `k` of `n` it is `k * 2^64 / n`, rounded up. `None` for a choice
+/// that is no draw.
+fn word_of(choice: &Choice) -> Option<u64> {
+    match choice.kind {
+        kind if kind == Kind::Draw as u32 => Some(if choice.branch == 0 { 0 } else { u64::MAX }),
+        kind if kind == Kind::Size as u32 => {
+            let scaled = u128::from(choice.branch) << 64;
+            Some(scaled.div_ceil(u128::from(choice.among)) as u64)
+        }
+        _ => None,
+    }
 }
 
 #[cfg(test)]
@@ -101,8 +121,9 @@ mod tests {
     use crate::foreign::tests::header;
 
     #[test]
-    fn a_draw_has_the_number_of_the_header() {
+    fn draws_have_the_numbers_of_the_header() {
         assert_eq!(header().get("DRAW"), Some(&(Kind::Draw as u32)));
+        assert_eq!(header().get("DRAWN_SIZE"), Some(&(Kind::Size as u32)));
     }
 
     /// The branches of a run that makes three choices, if the first one is no draw.

@@ -36,6 +36,15 @@ pub(crate) struct State {
     permits_all: bool,
 }
 
+/// A resize that an explored run makes.
+#[derive(Clone, Copy)]
+struct Resize {
+    handle: usize,
+    /// The size before, in bytes.
+    from: u64,
+    to: u64,
+}
+
 /// What the store knows of an open handle. The fields change under the store's lock.
 #[derive(Debug)]
 pub(crate) struct Opened {
@@ -131,7 +140,10 @@ impl State {
     pub(crate) fn call(&mut self, line: &str) -> Result<&str, Error> {
         let effect = Effect::of(line);
         self.permit(effect)?;
-        let reply = self.session.call(line)?;
+        let resize = self.resize_of(line);
+        let len = self.session.call(line)?.len();
+        self.count_size(resize);
+        let reply = self.session.text(len);
         if !reply.starts_with("error ") {
             self.limits.power.follow(effect);
             self.permits_all = !self.is_unset && self.limits.permit_all();
@@ -148,7 +160,42 @@ impl State {
         len: u64,
     ) -> Result<TypedReply, Error> {
         self.permit(Effect::of_kind(kind))?;
-        self.session.by_number(kind, number, len)
+        if kind != Kind::Resize || self.limits.choices.is_none() {
+            return self.session.by_number(kind, number, len);
+        }
+        let resize = self.resize(number, len);
+        let resized = self.session.by_number(kind, number, len);
+        self.count_size(resize);
+        resized
+    }
+
+    /// Returns what must be known of a resize of an explored run before it is made. `None` for any other line.
+    fn resize_of(&mut self, line: &str) -> Option<Resize> {
+        self.limits.choices.as_ref()?;
+        let mut words = line.split(' ').filter(|word| !word.is_empty());
+        if words.next() != Some("resize") {
+            return None;
+        }
+        let handle = words.next()?.parse().ok()?;
+        self.resize(handle, words.next()?.parse().ok()?)
+    }
+
+    fn resize(&mut self, handle: usize, to: u64) -> Option<Resize> {
+        let from = self.session.tracked_size(handle)?;
+        Some(Resize { handle, from, to })
+    }
+
+    /// Counts the draws of a resize that stopped at a size between the old one and the new one: the last one drew it.
+    fn count_size(&mut self, resize: Option<Resize>) {
+        let Some(Resize { handle, from, to }) = resize else {
+            return;
+        };
+        if let Some(now) = self.session.tracked_size(handle) {
+            if now != from && now != to {
+                self.limits
+                    .count_size(from.abs_diff(to) - 1, &mut self.session);
+            }
+        }
     }
 
     /// Makes a typed call of a partition and a name, with the versions that an open accepts.

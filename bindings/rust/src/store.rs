@@ -268,9 +268,6 @@ impl Store {
     pub fn configure(&self, config: Config) -> Result<(), Error> {
         config.check()?;
         let mut state = self.shared.lock();
-        if state.limits.choices.is_some() {
-            config.check_explorable()?;
-        }
         if !self.shared.has_draws && config.needs_draws() {
             return Err(Error::NeedsSeed);
         }
@@ -292,9 +289,6 @@ impl Store {
     pub fn call(&self, line: &str) -> Result<String, Error> {
         one_line(line)?;
         let mut state = self.shared.lock();
-        if state.limits.choices.is_some() {
-            Config::check_explorable_line(line)?;
-        }
         let reply = state.call(line)?.to_owned();
         if !reply.starts_with("error ") {
             state.follow(line);

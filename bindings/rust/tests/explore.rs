@@ -265,17 +265,10 @@ fn what_a_body_drops_while_its_run_is_ended() {
 #[test]
 fn what_is_refused() {
     let never = |_: &Run| -> Result<(), Error> { panic!("the body is called") };
-    let resizes = |partial_rate| {
-        Config::default().resize(ResizeConfig {
-            failure_rate: half(),
-            partial_rate,
-        })
-    };
     for builder in [
         Store::builder().seed(7),
         Store::builder().words(&[0]),
         Store::builder().lines(&["seed 7"]),
-        Store::builder().config(resizes(half())),
         Store::builder().image("p p", b"", b""),
     ] {
         let refused = explore(&builder, 1, never);
@@ -284,16 +277,38 @@ fn what_is_refused() {
             "{refused:?}"
         );
     }
-    let visited = explore(&Store::builder(), 9, |run| {
-        assert!(matches!(
-            run.configure(resizes(half())),
-            Err(Error::Argument(_))
-        ));
-        let refused = run.call(" config  resize 1 2 1 2");
-        assert!(matches!(refused, Err(Error::Argument(_))), "{refused:?}");
-        run.configure(resizes(Probability::ZERO))
+}
+
+/// A failing resize that may stop between stops at each size once. By hand, of one from 2 to 6 bytes and back to 1: it is done, or it fails
+/// and stays, or it fails and stops at 3, 4 or 5 bytes; then from each of these sizes it is done, stays, or stops at a size between.
+#[test]
+fn partial_resizes_stop_at_each_size() {
+    let config = Config::default().resize(ResizeConfig {
+        failure_rate: half(),
+        partial_rate: half(),
     });
-    assert_eq!(visited.unwrap().runs, 1);
+    let mut ends = BTreeMap::new();
+    let visited = explore(&Store::builder(), 99, |run| {
+        let (blob, _) = run.open("p", b"a")?;
+        blob.resize(2)?;
+        run.configure(config)?;
+        let grown = blob.resize(6).is_ok();
+        let between = blob.size()?;
+        let cut = run.call("resize 0 1")? == "ok";
+        *ends.entry((grown, between, cut, blob.size()?)).or_insert(0) += 1;
+        Ok::<(), Error>(())
+    });
+    let mut wanted = BTreeMap::new();
+    for (grown, between) in [(true, 6), (false, 2), (false, 3), (false, 4), (false, 5)] {
+        wanted.insert((grown, between, true, 1), 1);
+        for end in 2..=between {
+            // There is no size between 2 and 1, so it stays whether it is partial or not.
+            let leaves = if between == 2 { 2 } else { 1 };
+            wanted.insert((grown, between, false, end), leaves);
+        }
+    }
+    assert_eq!(visited.unwrap().runs, wanted.values().sum::<u64>());
+    assert_eq!(ends, wanted);
 }
 
 #[test]

@@ -1,7 +1,7 @@
 //! Calls that take a run through a tree of choices, without a session. What a traversal is and does is `blob_tree`.
 ghost use Rattle.std.specs.Prelude.{◌≡◌, ◌⊎◌, ◌-◌, ◌<◌, ◌≤◌, ◌∷◌, [], ◌&&◌, length, nat_le, not, take, false, true, if◌then◌else◌};
 ghost use Rattle.blob_tree.specs.ChoiceTrees.{AdvancesTo, branch_on, if_further, path_after};
-ghost use Rattle.blob_tree.specs.Traversals.{IsFull, Makes, draws, new_draws, path_ahead, path_below_root};
+ghost use Rattle.blob_tree.specs.Traversals.{IsFull, Makes, draws, draws_and_size, new_draws, path_ahead, path_below_root};
 
 use blob_sessions::ran::{BAD_CALL, DONE, NO_ROOM};
 use blob_tree::{Choice, Traversal};
@@ -75,6 +75,33 @@ pub extern "C" fn blobcrash_explorer_count(
     ensures status { (result ≡ DONE) ⊎ (result ≡ NO_ROOM) }
 {
     if explorer.count(choices, left) {
+        DONE
+    } else {
+        NO_ROOM
+    }
+}
+
+/// Makes draws choices as `blobcrash_explorer_count` does, where the last one is that of a size among this many.
+///
+/// `NO_ROOM` if the list is too short for them, and `BAD_CALL` if there is no size: nothing has changed.
+#[unsafe(no_mangle)]
+pub extern "C" fn blobcrash_explorer_count_size(
+    explorer: &mut Traversal,
+    choices: &mut [Choice],
+    left: usize,
+    among: u64,
+) -> u32
+    ensures made { result ≡ DONE → Makes
+        (draws_and_size (new_draws explorer.old left) (among - 1)) explorer.old choices.old explorer.new choices.new }
+    ensures no_room { result ≡ NO_ROOM → IsFull (new_draws explorer.old left) explorer.old choices.old }
+    ensures bad_call { result ≡ BAD_CALL → among ≡ 0 }
+    ensures unchanged { (result ≡ DONE) ⊎ ((explorer.new ≡ explorer.old) × (choices.new ≡ choices.old)) }
+    ensures status { (result ≡ DONE) ⊎ (result ≡ NO_ROOM) ⊎ (result ≡ BAD_CALL) }
+{
+    if among == 0 {
+        return BAD_CALL;
+    }
+    if explorer.count_size(choices, left, among) {
         DONE
     } else {
         NO_ROOM

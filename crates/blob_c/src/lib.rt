@@ -10,7 +10,7 @@ pub mod header_calls;
 
 ghost use Rattle.std.specs.Prelude.{◌≡◌, ◌⊎◌, ◌<◌, ◌≤◌, None, IsSome, IfSome, take, drop, length};
 ghost use Rattle.blob_lab.specs.Scripts.{lines_of};
-ghost use Rattle.blob_sessions.specs.Applying.{AppliesTo};
+ghost use Rattle.blob_sessions.specs.Applying.{AppliesTo, HasSize};
 ghost use Rattle.blob_sessions.specs.DurableBlobs.{CopiesDigestFrom, CopiesFrom};
 ghost use Rattle.blob_sessions.specs.Parts.{CopiesNameFrom, FindsName, FindsRun, no_run};
 ghost use Rattle.blob_sessions.specs.Preambles.{BreaksAt, IsMadeOf};
@@ -118,7 +118,7 @@ pub extern "C" fn blobcrash_reply(alloc: Global, session: &mut Session, reply: &
 
 /// Writes bytes through a handle, with `sync` as a SYNC write: the call `write` or `writes`, without text.
 ///
-/// `OTHER_REPLY`: the reply isn't `ok`, and `blobcrash_reply` returns it.
+/// Any other status but `DONE` and `CLOSED` is a refusal, and `blobcrash_reply` returns its texts.
 #[unsafe(no_mangle)]
 pub extern "C" fn blobcrash_write(
     alloc: Global,
@@ -140,7 +140,7 @@ pub extern "C" fn blobcrash_write(
 
 /// Fills `into` with bytes that are read through a handle: the call `read`, without text.
 ///
-/// `OTHER_REPLY`: the reply isn't these bytes, `into` doesn't change, and `blobcrash_reply` returns the reply.
+/// Any other status but `DONE` and `CLOSED` is a refusal: `into` doesn't change, and `blobcrash_reply` returns its texts.
 #[unsafe(no_mangle)]
 pub extern "C" fn blobcrash_read(
     alloc: Global,
@@ -196,6 +196,26 @@ pub extern "C" fn blobcrash_last(alloc: Global, session: &mut Session) -> TypedR
         return TypedReply::stopped(CLOSED);
     };
     let reply = kept.last();
+    session.put(kept);
+    reply
+}
+
+/// Returns the size that a handle tracks, in bytes, as the call `size` does. The reply to the last call stays the last one. Changes
+/// nothing.
+///
+/// `NO_HANDLE` if there is no such handle; `CLOSED` if the session is closed.
+#[unsafe(no_mangle)]
+pub extern "C" fn blobcrash_tracked_size(
+    alloc: Global,
+    session: &mut Session,
+    handle: usize,
+) -> TypedReply
+    ensures { Inspects session.old session.new (λ k. HasSize k handle result) (result ≡ without_reply CLOSED) }
+{
+    let Some(kept) = session.take(alloc) else {
+        return TypedReply::stopped(CLOSED);
+    };
+    let reply = kept.tracked_size(handle);
     session.put(kept);
     reply
 }

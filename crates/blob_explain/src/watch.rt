@@ -1,6 +1,6 @@
 // A run that is watched, call by call.
 use crate::bases::Bases;
-use crate::draws::{Drawn, Draws};
+use crate::draws::{Drawn, draw_ahead};
 use crate::files::{File, Write, choose, pending_files};
 use crate::handles::{Handles, Opened};
 use crate::outcomes::{
@@ -8,9 +8,11 @@ use crate::outcomes::{
 };
 use crate::picture::draw;
 use blob_base::Error;
-use blob_draws::faults::WriteFate;
+use blob_draws::faults::{WriteFate, retained};
 use blob_draws::runs::Span;
+use blob_faulty::Config;
 use blob_lab::lab::Wrapper;
+use blob_lab::script::setting::copy_of;
 use blob_lab::{Call, Lab, Listener, Reply};
 use blob_pending::entry::Entry;
 use std::alloc::{AllocError, Global};
@@ -20,8 +22,8 @@ use std::mem;
 #[derive(Drop)]
 pub(crate) struct Watch {
     alloc: Global,
-    /// From the first call on.
-    draws: Option<Draws>,
+    /// The rates that are set.
+    config: Config,
     handles: Handles,
     bases: Bases,
     /// Of the call that has no reply yet.
@@ -81,7 +83,7 @@ impl Watch {
     pub(crate) fn new(alloc: Global) -> Watch {
         Watch {
             alloc,
-            draws: None,
+            config: Config::default(),
             handles: Handles::new(alloc),
             bases: Bases::new(alloc),
             ahead: Ahead::nothing(alloc),
@@ -96,7 +98,7 @@ impl Watch {
         if let Call::Crash = call {
             files = pending_files(alloc, lab.wrapper(), &self.bases)?;
         }
-        let drawn = self.drawn(lab, call)?;
+        let drawn = draw_ahead(alloc, lab, &self.config, call)?;
         let before = self.durable_before(lab.wrapper(), call, &drawn)?;
         self.ahead = Ahead {
             drawn,
@@ -104,17 +106,6 @@ impl Watch {
             files,
         };
         Ok(())
-    }
-
-    /// Makes the draws of a call. The first call finds the laboratory's own generator as it began.
-    fn drawn(&mut self, lab: &Lab, call: &Call) -> Result<Drawn, Error> {
-        let mut draws = match self.draws.take() {
-            Some(draws) => draws,
-            None => Draws::new(lab.wrapper().rng().fork()?),
-        };
-        let drawn = draws.ahead(self.alloc, lab, call);
-        self.draws = Some(draws);
-        drawn
     }
 
     /// Returns what follows the reply to a call. The only error is `Memory`.
@@ -157,14 +148,6 @@ impl Watch {
         Ok(Vec::new(self.alloc))
     }
 
-    /// Whether an unsynced write is pending.
-    fn retains(&self) -> bool {
-        match &self.draws {
-            None => false,
-            Some(draws) => draws.retains(),
-        }
-    }
-
     fn durable_bytes(&self, wrapper: &Wrapper, handle: usize) -> Result<Vec<u8>, Error> {
         let bytes = match self.handles.get(handle) {
             None => None,
@@ -179,9 +162,11 @@ impl Watch {
     fn note(&mut self, wrapper: &Wrapper, step: &Step) -> Result<(), Error> {
         let handle = match step.call {
             Call::Write { handle, .. } | Call::Resize { handle, .. } => *handle,
-            Call::Configure(_) | Call::Read { .. } | Call::Size(_) | Call::Scan { .. } => {
+            Call::Configure(config) => {
+                self.config = copy_of(config);
                 return Ok(());
             }
+            Call::Read { .. } | Call::Size(_) | Call::Scan { .. } => return Ok(()),
             _ => {
                 self.bases.forget(wrapper, &self.handles, step.call);
                 return Ok(());
@@ -306,7 +291,8 @@ impl Watch {
             }
             WriteFate::Unsynced => {
                 if is_injected(error) {
-                    let number = if self.retains() {
+                    let is_pending = retained(self.config.write_rate).is_some();
+                    let number = if is_pending {
                         newest_write(wrapper)
                     } else {
                         None

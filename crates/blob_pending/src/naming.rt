@@ -50,6 +50,10 @@ impl<S: Durable> Lists<S> {
     pub fn find_name(&self, store: &S, partition: &str, name: &[u8]) -> Option<usize>
         ensures { IsListOf S.place (S.directory store.now) partition.now name.now self.now.all.lists.items result }
     {
+        // Most opens and removals are made while nothing is pending. The name isn't looked up for these.
+        if self.all.lists.is_empty() {
+            return None;
+        }
         let Some(number) = store.current_number(partition, name) else {
             return None;
         };

@@ -19,7 +19,7 @@ use Rattle.blob_sessions.specs.declared.typed.TypedCall.{TypedCall}
 use Rattle.blob_sessions.specs.declared.typed.TypedReply.{TypedReply}
 
 -- a refusal's status is none of those below 16
-refusal_above : (r : Refusal) (s : ℕ) → s < 16 → refusal_status r ≡ s → ⊥
+pub refusal_above : (r : Refusal) (s : ℕ) → s < 16 → refusal_status r ≡ s → ⊥
 refusal_above refusals.OffsetOverflow s lt e = omega (arith, lt, e)
 refusal_above refusals.BlobInsufficientLength s lt e = omega (arith, lt, e)
 refusal_above (refusals.PartitionNameInvalid partition) s lt e = omega (arith, lt, e)

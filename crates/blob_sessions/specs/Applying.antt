@@ -1,7 +1,8 @@
 -- What a typed call does to a session.
 use Rattle.std.specs.Prelude.{◌≡◌, ℕ, List, Some}
-use Rattle.blob_script.specs.Acts.{Act}
+use Rattle.blob_script.specs.Acts.{Act, Size, Through}
 use Rattle.blob_script.specs.declared.reply.Reply.{Reply}
+use Rattle.blob_lab_store.specs.LabStands.{Performs}
 use Rattle.blob_sessions.specs.Sessions.{Makes, OnHeld, kept_of, settings_of}
 use Rattle.blob_sessions.specs.Typed.{IsNoTypedCall, typed_act, typed_reply, without_reply}
 use Rattle.blob_sessions.specs.declared.kept.Kept.{Kept}
@@ -19,3 +20,7 @@ pub record Applies (k k' : Kept) (asked : TypedCall) (partition name : List ℕ)
 abbrev pub AppliesTo : Session → Session → TypedCall → List ℕ → List ℕ → TypedReply → Type 0
 AppliesTo before after asked partition name reply =
     OnHeld (kept_of before) (kept_of after) (λ k k'. Applies k k' asked partition name reply) (reply ≡ without_reply CLOSED)
+
+-- the size that a handle tracks, as its call `size` returns it, without the call
+abbrev pub HasSize : Kept → ℕ → TypedReply → Type 0
+HasSize k handle size = (reply : Reply) × Performs k.lab (Through handle Size) reply k.lab × (size ≡ typed_reply reply)

@@ -15,7 +15,8 @@ use Rattle.blob_sessions.specs.declared.debts.DebtReply.{DebtReply}
 use Rattle.blob_sessions.specs.declared.kept.Kept.{Kept}
 use Rattle.blob_sessions.specs.declared.session.Session.{Session}
 use Rattle.blob_sessions.specs.declared.ran.Ran.{Ran}
-use Rattle.blob_sessions.specs.declared.ran.TheConstants.{DONE, BAD_LINE, NO_MEMORY, NO_ROOM, CLOSED, OTHER_REPLY, UNPRINTED}
+use Rattle.blob_sessions.specs.declared.ran.TheConstants.{DONE, BAD_LINE, NO_MEMORY, NO_ROOM, CLOSED, UNPRINTED}
+use Rattle.blob_sessions.specs.Statuses.{refused_status}
 
 -- A laboratory with its settings, the last reply and the registry.
 
@@ -80,9 +81,9 @@ pub record TellsAgain (k k' : Kept) (ran : Ran) (old new : List ℕ) : Type 0 wh
 -- a write, which asks to be done
 pub record AnswersWrite (k k' : Kept) (handle offset : ℕ) (bytes : List ℕ) (sync : Bool) (status : ℕ) : Type 0 where
   pub done : status ≡ DONE → Makes k (Through handle (Write offset bytes sync)) replies.Done k'
-  pub other : status ≡ OTHER_REPLY → (reply : Reply) × Makes k (Through handle (Write offset bytes sync)) reply k' × (reply ≢ replies.Done)
+  pub refused : status ≢ DONE
+      → (reply : Reply) × Makes k (Through handle (Write offset bytes sync)) reply k' × (reply ≢ replies.Done) × (status ≡ refused_status reply)
   pub settings : settings_of k' ≡ settings_of k
-  pub known : (status ≡ DONE) ⊎ (status ≡ OTHER_REPLY)
 
 -- a reply with these bytes, or with this number of bytes
 abbrev pub RepliesBytes : Reply → List ℕ → Type 0
@@ -96,9 +97,10 @@ HasLength reply len = ⊥
 -- a read of as many bytes as the buffer has
 pub record AnswersRead (k k' : Kept) (handle offset : ℕ) (status : ℕ) (old new : List ℕ) : Type 0 where
   pub done : status ≡ DONE → (reply : Reply) × Makes k (Through handle (Read offset (length old))) reply k' × RepliesBytes reply new
-  pub other : status ≡ OTHER_REPLY → (reply : Reply) × Makes k (Through handle (Read offset (length old))) reply k' × (HasLength reply (length old) → ⊥) × (new ≡ old)
+  pub refused : status ≢ DONE → (reply : Reply) × Makes k (Through handle (Read offset (length old))) reply k'
+      × (HasLength reply (length old) → ⊥) × (status ≡ refused_status reply)
+  pub unwritten : status ≢ DONE → new ≡ old
   pub settings : settings_of k' ≡ settings_of k
-  pub known : (status ≡ DONE) ⊎ (status ≡ OTHER_REPLY)
 
 -- without a reply
 abbrev pub stopped : ℕ → Ran

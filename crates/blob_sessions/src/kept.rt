@@ -6,9 +6,8 @@ ghost use Rattle.blob_script.specs.Readers.{IfCall, IfNoCall, SaysCall, config_o
 
 use crate::debts::{DebtCall, DebtReply, Debts};
 use crate::kinds::{ADMIT, OPEN, OPEN_LOOSE, REMOVE_BLOB, REMOVE_PARTITION, SCAN};
-use crate::ran::{
-    BAD_CALL, BAD_LINE, DONE, ENDLESS, NO_MEMORY, NO_ROOM, OTHER_REPLY, Ran, UNPRINTED,
-};
+use crate::ran::{BAD_CALL, BAD_LINE, DONE, ENDLESS, NO_MEMORY, NO_ROOM, Ran, UNPRINTED};
+use crate::refusals::refused_status;
 use crate::reply_text::{line_len, write_line};
 use crate::typed::{TypedCall, TypedReply, numbered_call, versions};
 use blob_faulty::Config;
@@ -41,7 +40,7 @@ impl Drop for Kept {
 }
 
 impl Kept {
-    ghost use Rattle.blob_sessions.specs.Applying.{Applies};
+    ghost use Rattle.blob_sessions.specs.Applying.{Applies, HasSize};
     ghost use Rattle.blob_sessions.specs.Debts.{IsNew, MakesDebtCall};
     ghost use Rattle.blob_sessions.specs.Sessions.{RunsLine, AnswersRead, AnswersWrite, IsNoCall, Makes, TellsAgain};
     ghost use Rattle.blob_sessions.specs.Typed.{IsNamed, last_reply};
@@ -171,16 +170,24 @@ impl Kept {
         }
     }
 
+    /// Returns the size that a handle tracks, as the call `size` does. The reply to the last call stays the last one.
+    pub fn tracked_size(&self, handle: usize) -> TypedReply
+        ensures { HasSize self.now handle result }
+    {
+        TypedReply::of(&self.lab.size(handle))
+    }
+
     /// Writes bytes through a handle.
     pub fn write(&mut self, handle: usize, offset: u64, bytes: &[u8], sync: bool) -> u32
         ensures { AnswersWrite self.old self.new handle offset bytes.now sync result }
     {
         let reply = self.lab.write(handle, offset, bytes, sync);
+        let status = match &reply {
+            Reply::Done => DONE,
+            _ => refused_status(&reply),
+        };
         self.last = Some(reply);
-        match &self.last {
-            Some(Reply::Done) => DONE,
-            _ => OTHER_REPLY,
-        }
+        status
     }
 
     /// Reads as many bytes through a handle as `into` has.
@@ -188,14 +195,15 @@ impl Kept {
         ensures { AnswersRead self.old self.new handle offset result into.old into.new }
     {
         let reply = self.lab.read(handle, offset, into.len());
-        self.last = Some(reply);
-        match &self.last {
-            Some(Reply::Bytes(bytes)) if bytes.len() == into.len() => {
+        let status = match &reply {
+            Reply::Bytes(bytes) if bytes.len() == into.len() => {
                 into.copy_from_slice(bytes);
                 DONE
             }
-            _ => OTHER_REPLY,
-        }
+            _ => refused_status(&reply),
+        };
+        self.last = Some(reply);
+        status
     }
 
     /// Returns how many words of the generator are left, up to the last one that isn't zero. `ENDLESS` if a seed gives the words

@@ -1,9 +1,11 @@
 // The status of a call that was made and refused. Below 16 a status is one of `ran`.
-ghost use Rattle.std.specs.Prelude.{◌≡◌};
+ghost use Rattle.std.specs.Prelude.{◌≡◌, ◌≢◌};
 ghost use Rattle.blob_header.specs.Refusals.{refusal_of};
-ghost use Rattle.blob_sessions.specs.Statuses.{refusal_status};
+ghost use Rattle.blob_sessions.specs.Statuses.{refusal_status, refused_status};
 
+use crate::ran::{DONE, OTHER_REPLY};
 use blob_base::Error;
+use blob_lab::Reply;
 
 pub const OFFSET_OVERFLOW: u32 = 16;
 
@@ -59,5 +61,17 @@ pub fn status_of(error: &Error) -> u32
         Error::Injected => INJECTED,
         Error::Memory(_) => MEMORY,
         Error::GenerationsExhausted => GENERATIONS_EXHAUSTED,
+    }
+}
+
+/// Returns the status of a write or a read whose reply refuses it. `OTHER_REPLY` for any other reply.
+pub fn refused_status(reply: &Reply) -> u32
+    ensures is { result ≡ refused_status reply.now }
+    ensures refused { result ≢ DONE }
+{
+    match reply {
+        Reply::Failed(error) => status_of(error),
+        Reply::NoHandle => NO_HANDLE,
+        _ => OTHER_REPLY,
     }
 }

@@ -2,7 +2,8 @@
 use Rattle.std.proofs.Common.{arith, ◌≡◌, ℕ, zero, suc, ◌+◌, ◌||◌, false, true, Bool, List, [], ◌∷◌, ◌++◌, drop, length, replicate, refl, sym, ap, ◌∙◌, subst, append_assoc, length-append, not}
 use Rattle.std.proofs.lemmas.List.{drop-drop}
 use Rattle.blob_tree.specs.ChoiceTrees.{branch_on, chosen}
-use Rattle.blob_tree.specs.Traversals.{Makes, differs_along, fits, made_along, made_of, path_ahead, path_of}
+use Rattle.blob_tree.specs.Traversals.{Makes, differs_along, draws, draws_and_size, fits, made_along, made_of, path_ahead, path_of}
+use Rattle.blob_tree.specs.declared.choice.TheConstants.{DRAWN_SIZE}
 use Rattle.blob_tree.specs.declared.choice.Choice.{Choice}
 use Rattle.blob_tree.specs.declared.traversal.Traversal.{Traversal}
 
@@ -70,3 +71,16 @@ makes_again count ask t t' t'' cs cs' cs'' m n =
     let next : suc count ≡ count + 1 = omega arith in
     subst (λ (k : ℕ). Makes (replicate k ask) t cs t'' cs'') next
     (subst (λ (asks : List (ℕ × ℕ)). Makes asks t cs t'' cs'') (sym (one_more count ask)) (makes_more (replicate count ask) ask t t' t'' cs cs' cs'' m n))
+
+-- draws, and the last one that of a size
+pub makes_size : (count less more d : ℕ) (t t' t'' : Traversal) (cs cs' cs'' : List Choice) → count ≡ suc less → Makes (draws less) t cs t' cs' → Makes ((DRAWN_SIZE, more) ∷ []) t' cs' t'' cs''
+    → Makes (draws_and_size count more) t cs (record t'' { drawn = d }) cs''
+makes_size count less more d t t' t'' cs cs' cs'' one m n =
+    let all = makes_more (draws less) (DRAWN_SIZE, more) t t' t'' cs cs' cs'' m n in
+    subst (λ (k : ℕ). Makes (draws_and_size k more) t cs (record t'' { drawn = d }) cs'') (sym one) (record {
+      taken = all.taken;
+      made = all.made;
+      differs = all.differs;
+      path = all.path;
+      others = ap (λ (u : Traversal). record u { drawn = d }) all.others;
+    })

@@ -1,8 +1,8 @@
 -- A traversal of a tree of choices. Its path and the choices of its run are the first ones of a list that the caller keeps.
-use Rattle.std.specs.Prelude.{◌≡◌, ◌⊎◌, ℕ, suc, ◌+◌, ◌-◌, ◌<◌, ◌==◌, ◌&&◌, ◌||◌, not, nat_lt, Bool, false, List, [], ◌∷◌, ◌++◌, take, drop, length, replicate}
+use Rattle.std.specs.Prelude.{◌≡◌, ◌⊎◌, ℕ, zero, suc, ◌+◌, ◌-◌, ◌<◌, ◌==◌, ◌&&◌, ◌||◌, not, nat_lt, Bool, false, List, [], ◌∷◌, ◌++◌, take, drop, length, replicate}
 use Rattle.blob_tree.specs.ChoiceTrees.{branch_on, chosen}
 use Rattle.blob_tree.specs.declared.choice.Choice.{Choice}
-use Rattle.blob_tree.specs.declared.choice.TheConstants.{DRAW}
+use Rattle.blob_tree.specs.declared.choice.TheConstants.{DRAW, DRAWN_SIZE}
 use Rattle.blob_tree.specs.declared.traversal.Traversal.{Traversal}
 
 -- the path; what the run has not followed of it yet; and what of it is below the root
@@ -48,6 +48,11 @@ new_draws t left = t.given - left - t.drawn
 -- a draw that is true or false
 abbrev pub draws : ℕ → List (ℕ × ℕ)
 draws count = replicate count (DRAW, 1)
+
+-- draws of which the last one is that of a size, with `more` further branches after the first
+abbrev pub draws_and_size : ℕ → ℕ → List (ℕ × ℕ)
+draws_and_size zero more = []
+draws_and_size (suc count) more = draws count ++ (DRAWN_SIZE, more) ∷ []
 
 -- the list is too short for the path, or for `more` choices after those that were made
 abbrev pub IsFull : ℕ → Traversal → List Choice → Type 0

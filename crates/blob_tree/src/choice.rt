@@ -6,7 +6,7 @@ ghost use Rattle.blob_tree.specs.Traversals.{fits};
 #[repr(C)]
 #[derive(Clone, Copy)]
 pub struct Choice {
-    /// What is chosen: `DRAW`, or a number of the caller's.
+    /// What is chosen: `DRAW`, `DRAWN_SIZE`, or a number of the caller's.
     pub kind: u32,
     /// The branch that is taken.
     pub branch: u64,
@@ -16,6 +16,8 @@ pub struct Choice {
 
 /// A draw of the store: it is true in the first branch, and false in the second.
 pub const DRAW: u32 = 0;
+/// A draw of a size among several. The word that draws the one at index `k` of `n` is `k * 2^64 / n`, rounded up.
+pub const DRAWN_SIZE: u32 = 3;
 
 impl Choice {
     /// Returns whether this is a choice of the kind, among so many branches.

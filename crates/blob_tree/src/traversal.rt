@@ -1,9 +1,9 @@
 //! A depth-first traversal of a tree of choices, one run after another.
 ghost use Rattle.std.specs.Prelude.{◌≡◌, ◌<◌, ◌≤◌, ◌+◌, ◌-◌, ◌∷◌, [], ◌&&◌, not, nat_le, take, length, false, true, if◌then◌else◌, IfNone, IfSome};
 ghost use Rattle.blob_tree.specs.ChoiceTrees.{AdvancesTo, BeginsAtAll, branch_on, if_further, path_after};
-ghost use Rattle.blob_tree.specs.Traversals.{IsFull, Makes, draws, new_draws, path_ahead, path_below_root};
+ghost use Rattle.blob_tree.specs.Traversals.{IsFull, Makes, draws, draws_and_size, new_draws, path_ahead, path_below_root};
 
-use crate::choice::{Choice, DRAW};
+use crate::choice::{Choice, DRAW, DRAWN_SIZE};
 
 /// How far a traversal is. The caller keeps the choices, in a list that is given to each call: those of the path, and those that
 /// the run has made. All zeros are the first run of the whole tree.
@@ -105,16 +105,66 @@ impl Traversal {
         ensures full { result ≡ false → IsFull (new_draws self.old left) self.old choices.old }
         ensures unchanged { result ≡ false → (self.new ≡ self.old) × (choices.new ≡ choices.old) }
     {
-        let more = self.given.saturating_sub(left).saturating_sub(self.drawn);
-        let room = choices.len();
-        if self.len > room || self.taken > room || more > room - self.taken {
+        let more = self.new_draws(left);
+        if self.is_full(choices, more) {
             return false;
         }
-        for _ in 0..more {
-            self.make(choices, DRAW, 2);
-        }
+        self.make_draws(choices, more);
         self.drawn += more;
         true
+    }
+
+    /// Counts draws as `count` does, where the last one is that of a size among this many.
+    ///
+    /// Returns false if the list is too short for them, with nothing changed.
+    pub fn count_size(&mut self, choices: &mut [Choice], left: usize, among: u64) -> bool
+        requires { 0 < among }
+        ensures made { result ≡ true
+            → Makes (draws_and_size (new_draws self.old left) (among - 1)) self.old choices.old self.new choices.new }
+        ensures drawn { result ≡ true → self.new.drawn ≡ self.old.drawn + new_draws self.old left }
+        ensures full { result ≡ false → IsFull (new_draws self.old left) self.old choices.old }
+        ensures unchanged { result ≡ false → (self.new ≡ self.old) × (choices.new ≡ choices.old) }
+    {
+        let more = self.new_draws(left);
+        if self.is_full(choices, more) {
+            return false;
+        }
+        if more == 0 {
+            return true;
+        }
+        self.make_draws(choices, more - 1);
+        self.make(choices, DRAWN_SIZE, among);
+        self.drawn += more;
+        true
+    }
+
+    /// Returns how many words were taken since the draws were counted, if `left` are left.
+    fn new_draws(&self, left: usize) -> usize
+        ensures { result ≡ new_draws self.now left }
+    {
+        self.given.saturating_sub(left).saturating_sub(self.drawn)
+    }
+
+    /// Returns whether the list is too short for the path, or for so many choices more.
+    fn is_full(&self, choices: &[Choice], more: usize) -> bool
+        ensures full { result ≡ true → IsFull more self.now choices.now }
+        ensures path { result ≡ false → self.now.len ≤ length choices.now }
+        ensures room { result ≡ false → self.now.taken + more ≤ length choices.now }
+    {
+        let room = choices.len();
+        self.len > room || self.taken > room || more > room - self.taken
+    }
+
+    fn make_draws(&mut self, choices: &mut [Choice], count: usize)
+        requires path { self.old.len ≤ length choices.old }
+        requires room { self.old.taken + count ≤ length choices.old }
+        ensures made { Makes (draws count) self.old choices.old self.new choices.new }
+        ensures drawn { self.new.drawn ≡ self.old.drawn }
+        ensures len { length choices.new ≡ length choices.old }
+    {
+        for _ in 0..count {
+            self.make(choices, DRAW, 2);
+        }
     }
 
     /// Ends the run. Returns whether it made the choices of the path, and no fewer; the path is then all choices that it made.

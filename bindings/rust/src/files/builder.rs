@@ -346,6 +346,7 @@ impl Explorable for Builder {
 
     fn explored(&self, mut choices: Choices, words: usize) -> Result<Files, Error> {
         let mut builder = self.clone();
+        self.base.check_explorable()?;
         builder.base = self.base.with_choices(&mut choices, words)?;
         builder.made(Limits::of_choices(choices))
     }

@@ -1,6 +1,6 @@
 use Rattle.std.proofs.Common.{◌≡◌, length}
 use Rattle.blob_tree.specs.Traversals.{Makes, draws}
-use Rattle.blob_tree.proofs.traversal.Traversal.count.Given as goal
+use Rattle.blob_tree.proofs.traversal.Traversal.make_draws.Given as goal
 
 abbrev pub invariant-loop : goal.invariant-loop
 invariant-loop l = record {

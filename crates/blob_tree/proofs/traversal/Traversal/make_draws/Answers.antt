@@ -1,7 +1,7 @@
 use Rattle.std.proofs.Common.{◌∙◌}
 use Rattle.blob_tree.specs.declared.choice.TheConstants.{DRAW}
 use Rattle.blob_tree.proofs.Asking.{makes_again}
-use Rattle.blob_tree.proofs.traversal.Traversal.count.Goals as goal
+use Rattle.blob_tree.proofs.traversal.Traversal.make_draws.Goals as goal
 
 pub loop-preserved : goal.loop-preserved
 loop-preserved c = record {
