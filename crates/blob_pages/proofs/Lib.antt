@@ -1,3 +1,4 @@
 pub mod Mixed
 pub mod Pieces
 pub mod Paged
+pub mod Groups

@@ -1,13 +1,14 @@
 -- Changes of a list of pages.
 use Rattle.std.proofs.Common.{[], ◌∷◌, ◌≡◌, ◌≢◌, ◌⊎◌, inl, inr, ⊎_elim, ℕ, ◌+◌, ◌-◌, ◌*◌, ◌/◌, ◌%◌, ◌<◌, ◌≤◌, max, true, false, true≢false, List, ◌++◌, length, get_or, take, drop, set, map, replicate, refl, sym, ◌∙◌, ap, arith, append_assoc, length-append, length-take, length-drop, length-set, get_or-set_same, get_or-set_other}
+use Rattle.std.proofs.Common.{Result, Ok, Err, OnOk}
 use Rattle.std.proofs.lemmas.Bool.{cases_lt, cases_eq}
-use Rattle.std.proofs.lemmas.List.{append-nil, drop-drop, drop_all, take_all, take_more, get_or_default, length-map, map-set, map-append, length-replicate, get_or-replicate, get_or_append_left, get_or-append_right, get_or-take, get_or-drop, get_or-map, get_or_past, set-get_or}
+use Rattle.std.proofs.lemmas.List.{drop-drop, length-map, map-set, map-append, length-replicate, get_or-replicate, get_or_append_left, get_or-append_right, get_or-take, get_or-drop, get_or-map, get_or_past, set-get_or}
 use Rattle.std.proofs.Math.Seq.{take-add}
 use Rattle.blob_pages.specs.declared.page.Page.{Page}
 use Rattle.std.proofs.lemmas.List.FromFn.{length-map-range_with_len, get_or-map-range_with_len}
 use Rattle.blob_model.specs.Bytes.{overlay, resize, reach}
 use Rattle.blob_model.proofs.Bytes.{same_bytes, length-resized, at_resized, past_resized, length-overlay_by, reach_below, reach_all, at_chosen, at_other}
-use Rattle.blob_pages.specs.Paged.{page_size, bytes_in, page_bytes, is_owned, byte_at, owned_at, AreFull, AreOwned, Keeps, KeepsOwned, Extends, Lays, splice}
+use Rattle.blob_pages.specs.Paged.{page_size, bytes_in, page_bytes, is_owned, byte_at, owned_at, AreFull, AreOwned, Keeps, KeepsOwned, Extends, Lays, Puts, Adds, splice}
 
 module _ (x : List ℕ) (n : ℕ) (y : List ℕ) (h : n + length y ≤ length x) where
   pub length-spliced : length (splice x n y) ≡ length x
@@ -65,35 +66,41 @@ pub byte_in : (ps : List Page) (p : ℕ) (page : Page) → p / page_size < lengt
 unfolding byte_at
 byte_in ps p page h is = ap (λ l. get_or l (p % page_size) 0) (table_at ps (p / page_size) page h is)
 
+at_page : (ps : List Page) (i p : ℕ) → p / page_size ≡ i → byte_at ps p ≡ get_or (get_or (map page_bytes ps) i []) (p % page_size) 0
+unfolding byte_at
+at_page ps i p same = ap (λ j. get_or (get_or (map page_bytes ps) j []) (p % page_size) 0) same
+
 -- a run written within one page
-pub page_laid : (ps qs : List Page) (at : ℕ) (x : List ℕ) (page q : Page) → AreFull ps → at / page_size < length ps → at % page_size + length x ≤ page_size
-    → page ≡ get_or ps (at / page_size) page → page_bytes q ≡ splice (page_bytes page) (at % page_size) x → is_owned q ≡ true → qs ≡ set ps (at / page_size) q → Lays ps qs at x
-page_laid ps qs at x page q full h fits is eq own e = rw e (record {
+pub page_laid : (ps qs : List Page) (at : ℕ) (x : List ℕ) → AreFull ps → at / page_size < length ps → at % page_size + length x ≤ page_size → Puts ps qs (at / page_size) (at % page_size) x → Lays ps qs at x
+page_laid ps qs at x full h fits u = rw u.set (record {
   same = length-set ps i q;
-  within = λ p l m. byte_same ps i q h p (omega (arith, l, m, fits)) ∙ ap (λ l. get_or l (p % page_size) 0) eq ∙ spliced_within (page_bytes page) (at % page_size) x room (p % page_size) (omega (arith, l, m, fits)) (omega (arith, l, m, fits)) ∙ ap (λ k. get_or x k 0) (omega (arith, l, m, fits));
+  within = λ p l m. byte_same ps i q h p (omega (arith, l, m, fits)) ∙ ap (λ l. get_or l (p % page_size) 0) u.bytes ∙ spliced_within old (at % page_size) x room (p % page_size) (omega (arith, l, m, fits)) (omega (arith, l, m, fits)) ∙ ap (λ k. get_or x k 0) (omega (arith, l, m, fits));
   outside = λ p out. ⊎_elim
-      (λ same. byte_same ps i q h p same ∙ ap (λ l. get_or l (p % page_size) 0) eq
-      ∙ ⊎_elim (λ l. spliced_before (page_bytes page) (at % page_size) x room (p % page_size) (omega (arith, l, same))) (λ m. spliced_behind (page_bytes page) (at % page_size) x room (p % page_size) (omega (arith, m, same))) out
-      ∙ sym (byte_in ps p page (omega (arith, same, h)) (is ∙ ap (λ j. get_or ps j page) (sym same))))
+      (λ same. byte_same ps i q h p same ∙ ap (λ l. get_or l (p % page_size) 0) u.bytes
+      ∙ ⊎_elim (λ l. spliced_before old (at % page_size) x room (p % page_size) (omega (arith, l, same))) (λ m. spliced_behind old (at % page_size) x room (p % page_size) (omega (arith, m, same))) out
+      ∙ sym (at_page ps i p same))
       (λ ne. byte_other ps i q h p ne)
       (cases_eq (p / page_size) i);
   full = record {
     each = λ j l. ⊎_elim
-        (λ same. ap (λ k. length (get_or (map page_bytes (set ps i q)) k [])) same ∙ ap length (table_same ps i q h) ∙ ap length eq ∙ length-spliced (page_bytes page) (at % page_size) x room ∙ size)
+        (λ same. ap (λ k. length (get_or (map page_bytes (set ps i q)) k [])) same ∙ ap length (table_same ps i q h) ∙ ap length u.bytes ∙ length-spliced old (at % page_size) x room ∙ full.each i h)
         (λ ne. ap length (table_other ps i q h j ne) ∙ full.each j (omega (arith, l, length-set ps i q)))
         (cases_eq j i);
   };
-  owned = keeps_owned ps i q h own;
+  owned = keeps_owned ps i q h u.owned;
 })
   where
     i : ℕ
     i = at / page_size
 
-    size : length (page_bytes page) ≡ page_size
-    size = sym (ap length (table_at ps i page h is)) ∙ full.each i h
+    q : Page
+    q = u.page
 
-    room : at % page_size + length x ≤ length (page_bytes page)
-    room = omega (arith, size, fits)
+    old : List ℕ
+    old = get_or (map page_bytes ps) i []
+
+    room : at % page_size + length x ≤ length old
+    room = omega (arith, full.each i h, fits)
 
 pub lays_none : (ps : List Page) (o : ℕ) → AreFull ps → Lays ps ps o []
 lays_none ps o full = record { same = refl; within = λ p l m. absurd (omega (arith, l, m)); outside = λ p _. refl; full = full; owned = record { each = λ i e. e } }
@@ -223,6 +230,57 @@ extends_kept a b c x k = record {
   owned = owned_through a b c x.owned k.owned;
 }
 
+pub extends_same : (a : List Page) → Extends a a
+extends_same a = record { more = omega arith; bytes = λ p h. refl; full = λ f. f; owned = record { each = λ i e. e } }
+
+pub extends_through : (a b c : List Page) → Extends a b → Extends b c → Extends a c
+extends_through a b c x y = record {
+  more = omega (arith, x.more, y.more);
+  bytes = λ p h. y.bytes p (omega (arith, h, x.more)) ∙ x.bytes p h;
+  full = λ f. y.full (x.full f);
+  owned = owned_through a b c x.owned y.owned;
+}
+
+pub keeps_same : (a : List Page) → Keeps a a
+keeps_same a = record { bytes = refl; owned = record { each = λ i e. e } }
+
+pub keeps_through : (a b c : List Page) → Keeps a b → Keeps b c → Keeps a c
+keeps_through a b c x y = record { bytes = y.bytes ∙ x.bytes; owned = owned_through a b c x.owned y.owned }
+
+-- the same pages, some of them copied
+pub keeps_from : (a b : List Page) → map page_bytes b ≡ map page_bytes a → map is_owned b ≡ map is_owned a → Keeps a b
+keeps_from a b e o = record { bytes = e; owned = record { each = λ i h. ap (λ t. get_or t i false) o ∙ h } }
+
+-- nothing is appended
+pub adds_none : {T E : Type 0} (result : Result T E) (a b : List Page) → Keeps a b → OnOk result (length b ≡ length a + 1) → Adds result a b
+adds_none result a b k one = record {
+  extends = extends_kept a a b (extends_same a) k;
+  one = one;
+  owned = record { each = λ i l m. absurd (omega (arith, l, m, table_length a b k.bytes)) };
+}
+
+-- a page that only this value has is appended
+pub adds_page : {T E : Type 0} (result : Result T E) (a b : List Page) (q : Page) → Keeps a b → length (page_bytes q) ≡ page_size → is_owned q ≡ true → Adds result a (b ++ q ∷ [])
+adds_page result a b q k size own = record {
+  extends = extends_more a b q (extends_kept a a b (extends_same a) k) size;
+  one = on_ok result (omega (arith, len, table_length a b k.bytes));
+  owned = record { each = λ i l m. (all_owned_more b (length b) q (record { each = λ j u v. absurd (omega (arith, u, v)) }) own).each i (omega (arith, l, table_length a b k.bytes)) m };
+}
+  where
+    len : length (b ++ q ∷ []) ≡ length b + 1
+    len = length-append b (q ∷ [])
+
+    on_ok : {T E : Type 0} (r : Result T E) {P : Type 0} → P → OnOk r P
+    on_ok (Ok x) p = p
+    on_ok (Err e) p = tt
+
+-- a range of pages that only this value has, and one more
+pub owned_next : (b c : List Page) (from i : ℕ) → AreOwned b from i → KeepsOwned b c → owned_at c i ≡ true → AreOwned c from (i + 1)
+owned_next b c from i o k e = record { each = λ j l m. ⊎_elim (λ same. ap (owned_at c) same ∙ e) (λ ne. k.each j (o.each j l (omega (arith, m, ne)))) (cases_eq j i) }
+
+pub owned_after : (b c : List Page) (from : ℕ) → AreOwned b from (length b) → KeepsOwned b c → AreOwned c (length b) (length c) → AreOwned c from (length c)
+owned_after b c from o k n = record { each = λ j l m. ⊎_elim (λ low. k.each j (o.each j l low)) (λ high. n.each j high m) (cases_lt j (length b)) }
+
 -- the bytes are unchanged when pages are appended
 pub extended_bytes : (a b : List Page) (n : ℕ) → n ≤ page_size * length a → Extends a b → bytes_in b n ≡ bytes_in a n
 extended_bytes a b n h x = same_bytes_in a b n (λ p l. x.bytes p (omega (arith, l, h)))
@@ -257,21 +315,9 @@ laid_over a b n o x fits l = same_bytes _ _ (omega (arith, fits, length-bytes_in
     other : (p : ℕ) → p < n → (p < o) ⊎ (o + length x ≤ p) → byte_at b p ≡ get_or (overlay (bytes_in a n) o x) p 0
     other p h out = l.outside p out ∙ sym (at_bytes_in a n p h) ∙ sym (at_other (bytes_in a n) o x (λ _. true) p (λ ge u. ⊎_elim (λ low. absurd (omega (arith, low, ge))) (λ past. absurd (omega (arith, past, u))) out))
 
--- a vector after all its items are written through a slice
-pub written_back : (x y : List Page) (n : ℕ) → n ≡ length x → length y ≡ length x → take n (y ++ drop (length y) x) ≡ y
-written_back x y n e l = ap (λ r. take n (y ++ r)) (drop_all (length y) x (omega (arith, l))) ∙ ap (take n) (append-nil y) ∙ take_all n y (omega (arith, e, l))
-
 -- after one more page is shared
-pub shared_more : (t u : List Page) (i : ℕ) (page q : Page) → map page_bytes u ≡ map page_bytes t → i < length u → page ≡ get_or u i page → page_bytes q ≡ page_bytes page → map page_bytes (set u i q) ≡ map page_bytes t
-shared_more t u i page q k h is eq = map-set page_bytes u i q ∙ ap (set (map page_bytes u) i) (eq ∙ sym (table_at u i page h is)) ∙ set-get_or (map page_bytes u) i [] ∙ k
-
-pub copied_more : (t u v : List Page) (i : ℕ) (page q : Page) → map page_bytes u ≡ map page_bytes t → map page_bytes v ≡ take i (map page_bytes t) → i < length u → page ≡ get_or u i page → page_bytes q ≡ page_bytes page
-    → map page_bytes (v ++ q ∷ []) ≡ take (i + 1) (map page_bytes t)
-copied_more t u v i page q k e h is eq = map-append page_bytes v (q ∷ []) ∙ ap (λ l. l ++ page_bytes q ∷ []) e
-    ∙ sym (take_more (map page_bytes t) i (page_bytes q) (omega (arith, h, length-map u page_bytes, ap length k)) ∙ ap (λ b. take i (map page_bytes t) ++ b ∷ []) (sym found))
-  where
-    found : page_bytes q ≡ get_or (map page_bytes t) i (page_bytes q)
-    found = eq ∙ sym (table_at u i page h is) ∙ ap (λ l. get_or l i []) k ∙ get_or_default (map page_bytes t) i [] (page_bytes q) (omega (arith, h, length-map u page_bytes, ap length k))
+pub shared_more : {X Y : Type 0} (f : X → Y) (t u : List X) (i : ℕ) (x q : X) → map f u ≡ map f t → i < length u → x ≡ get_or u i x → f q ≡ f x → map f (set u i q) ≡ map f t
+shared_more f t u i x q k h is eq = map-set f u i q ∙ ap (set (map f u) i) (eq ∙ ap f is ∙ sym (get_or-map f u i x (f q) h)) ∙ set-get_or (map f u) i (f q) ∙ k
 
 pub owned_same : (a : List Page) → KeepsOwned a a
 owned_same a = record { each = λ i e. e }
@@ -302,19 +348,6 @@ taken_bytes ps qs k n h e = same_bytes_in ps qs n at
 pub overlay_none : (x : List ℕ) (o : ℕ) (b : List ℕ) → length b ≡ 0 → overlay x o b ≡ x
 overlay_none x o b e = same_bytes _ _ (omega (arith, length-overlay_by x o b (λ _. true), ap (λ n. reach o n (λ _. true)) e)) (λ p. at_other x o b (λ _. true) p (λ l u. absurd (omega (arith, l, u, e))))
 
--- after one more part is read
-pub read_more : (ps : List Page) (o at n : ℕ) (x y : List ℕ) (page : Page) → at / page_size < length ps → page ≡ get_or ps (at / page_size) page → at % page_size + n ≤ page_size → o ≤ at → at - o + n ≤ length x → n ≡ length y
-    → ((k : ℕ) → k < n → get_or y k 0 ≡ get_or (page_bytes page) (at % page_size + k) 0)
-    → ((p : ℕ) → o ≤ p → p < at → get_or x (p - o) 0 ≡ byte_at ps p)
-    → (p : ℕ) → o ≤ p → p < at + n → get_or (splice x (at - o) y) (p - o) 0 ≡ byte_at ps p
-read_more ps o at n x y page there is fits from room len part before p l m = ⊎_elim
-    (λ low. spliced_before x (at - o) y (omega (arith, room, len)) (p - o) (omega (arith, low, l)) ∙ before p l low)
-    (λ high. spliced_within x (at - o) y (omega (arith, room, len)) (p - o) (omega (arith, high, from)) (omega (arith, high, m, len, from))
-    ∙ part (p - o - (at - o)) (omega (arith, high, m, from))
-    ∙ ap (λ k. get_or (page_bytes page) k 0) (omega (arith, high, m, from, fits))
-    ∙ sym (byte_in ps p page (omega (arith, there, high, m, fits)) (is ∙ ap (λ j. get_or ps j page) (omega (arith, high, m, fits)))))
-    (cases_lt p at)
-
 -- after all parts are read
 pub read_all : (ps : List Page) (n o : ℕ) (x : List ℕ) → o + length x ≤ n → ((p : ℕ) → o ≤ p → p < o + length x → get_or x (p - o) 0 ≡ byte_at ps p) → x ≡ take (length x) (drop o (bytes_in ps n))
 read_all ps n o x fits each = same_bytes _ _ (omega (arith, fits, length-take (length x) (drop o (bytes_in ps n)), length-drop o (bytes_in ps n), length-bytes_in ps n)) (λ k. ⊎_elim
@@ -339,13 +372,13 @@ overlay_all x b e = same_bytes _ _ len (λ p. ⊎_elim
         (cases_lt 0 (length b))
 
 -- a part of one page as a part of all bytes
-pub part_is : (ps : List Page) (at n : ℕ) (page : Page) (y : List ℕ) → at / page_size < length ps → page ≡ get_or ps (at / page_size) page → at % page_size + length y ≤ page_size → at + length y ≤ n
-    → ((k : ℕ) → k < length y → get_or y k 0 ≡ get_or (page_bytes page) (at % page_size + k) 0)
+pub part_is : (ps : List Page) (at n : ℕ) (y : List ℕ) → at / page_size < length ps → at % page_size + length y ≤ page_size → at + length y ≤ n
+    → ((k : ℕ) → k < length y → get_or y k 0 ≡ get_or (get_or (map page_bytes ps) (at / page_size) []) (at % page_size + k) 0)
     → y ≡ take (length y) (drop at (bytes_in ps n))
-part_is ps at n page y there is fits within part = read_all ps n at y within (λ p l h.
+part_is ps at n y there fits within part = read_all ps n at y within (λ p l h.
     part (p - at) (omega (arith, l, h))
-    ∙ ap (λ k. get_or (page_bytes page) k 0) (omega (arith, l, h, fits))
-    ∙ sym (byte_in ps p page (omega (arith, there, l, h, fits)) (is ∙ ap (λ j. get_or ps j page) (omega (arith, l, h, fits)))))
+    ∙ ap (λ k. get_or (get_or (map page_bytes ps) (at / page_size) []) k 0) (omega (arith, l, h, fits))
+    ∙ sym (at_page ps (at / page_size) p (omega (arith, l, h, fits))))
 
 -- after one more part is appended
 pub append_more : (x y w v b : List ℕ) (at d k : ℕ) → y ≡ x ++ take d (drop at b) → v ≡ take k (drop (at + d) b) → w ≡ y ++ v → w ≡ x ++ take (d + k) (drop at b)

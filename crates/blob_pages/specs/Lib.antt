@@ -1,4 +1,5 @@
 pub mod Forms
+pub mod Groups
 pub mod Paged
 pub mod Stored
 pub mod Values

@@ -1,5 +1,5 @@
 -- The bytes of a list of pages.
-use Rattle.std.specs.Prelude.{Result, OnOk, OnErr, ◌≡◌, ◌⊎◌, ℕ, ◌+◌, ◌-◌, ◌*◌, ◌/◌, ◌%◌, ◌<◌, ◌≤◌, max, Bool, true, false, List, [], ◌++◌, length, map, take, drop, slice_index, slice_index_or}
+use Rattle.std.specs.Prelude.{Result, OnOk, OnErr, ◌≡◌, ◌⊎◌, ℕ, ◌+◌, ◌-◌, ◌*◌, ◌/◌, ◌%◌, ◌<◌, ◌≤◌, max, Bool, true, false, List, [], ◌∷◌, ◌++◌, length, map, take, drop, slice_index, slice_index_or, slice_set}
 use Rattle.std.specs.List.{range_with_len}
 use Rattle.blob_model.specs.Bytes.{overlay}
 use Rattle.blob_pages.specs.declared.page.Page.{Page}
@@ -55,6 +55,12 @@ pub record Extends (old new : List Page) : Type 0 where
   pub full : AreFull old → AreFull new
   pub owned : KeepsOwned old new
 
+-- the result of an append of a page that only this value has
+pub record Adds {T E : Type 0} (result : Result T E) (old new : List Page) : Type 0 where
+  pub extends : Extends old new
+  pub one : OnOk result (length new ≡ length old + 1)
+  pub owned : AreOwned new (length old) (length new)
+
 -- a run written to existing pages
 pub record Lays (old new : List Page) (offset : ℕ) (run : List ℕ) : Type 0 where
   pub same : length new ≡ length old
@@ -87,3 +93,15 @@ pub record Blanks (old new : List Page) (had has : ℕ) (now : List ℕ) : Type 
 abbrev pub WritesRun : {T E : Type 0} → Result T E → List Page → List Page → ℕ → ℕ → List ℕ → Type 0
 WritesRun result old new had offset run =
     Changes result old new had (max had (offset + length run)) (overlay (bytes_in old had) offset run)
+
+-- a run written to one page, which only this value has
+pub record Puts (old new : List Page) (i at : ℕ) (run : List ℕ) : Type 0 where
+  pub page : Page
+  pub set : new ≡ slice_set old i page
+  pub bytes : page_bytes page ≡ splice (slice_index_or (map page_bytes old) i []) at run
+  pub owned : is_owned page ≡ true
+
+-- the result of a push of a page: the bytes of the old pages are unchanged
+pub record Pushes {T E : Type 0} (result : Result T E) (old new : List Page) (page : Page) : Type 0 where
+  pub ok : OnOk result ((kept : List Page) × (Keeps old kept) × (new ≡ kept ++ page ∷ []))
+  pub err : OnErr result (Keeps old new)

@@ -1,12 +1,13 @@
 -- The bytes and the capacity of a `Pages`.
-use Rattle.std.specs.Prelude.{◌≡◌, ℕ, ◌+◌, ◌<◌, Bool, false, All, List, Result, OnOk, OnErr, length, slice_index, vec_capacity}
+use Rattle.std.specs.Prelude.{◌≡◌, ℕ, ◌+◌, ◌<◌, Bool, List, Result, OnOk, OnErr, length, slice_index, vec_capacity}
 use Rattle.blob_model.specs.Bytes.{overlay, overlay_by}
 use Rattle.blob_model.specs.Runs.{is_chosen}
 use Rattle.blob_pages.specs.declared.pages.Pages.{Pages}
-use Rattle.blob_pages.specs.Paged.{bytes_in, is_owned}
+use Rattle.blob_pages.specs.Groups.{NoneOwned}
+use Rattle.blob_pages.specs.Paged.{bytes_in}
 
 abbrev pub bytes : Pages → List ℕ
-bytes s = bytes_in s.pages.items s.len
+bytes s = bytes_in s.pages s.len
 
 -- the capacity: changes up to this length never fail
 abbrev pub room : Pages → ℕ
@@ -14,7 +15,7 @@ room s = vec_capacity s.spare
 
 -- other values may have its pages too
 abbrev pub AreShared : Pages → Type 0
-AreShared s = All (λ page. is_owned page ≡ false) s.pages.items
+AreShared s = NoneOwned s.pages
 
 -- the result of a change within the capacity: the new bytes, or with Err the old ones
 pub record Tries {T E : Type 0} (result : Result T E) (old new : Pages) (now : List ℕ) : Type 0 where

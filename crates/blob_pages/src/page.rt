@@ -7,8 +7,7 @@ use std::rc::Rc;
 
 /// The size of a page in bytes.
 ///
-/// Sharing 64 MB counts 4096 pages. The first write to a shared page copies 16 KB. A file of at most 16 KB has no
-/// pages: it is one vector.
+/// The first write to a shared page copies 16 KB. A file of at most 16 KB has no pages: it is one vector.
 pub const PAGE: usize = 16384;
 
 /// A page that only this value has, or one that other values may share.
@@ -104,19 +103,19 @@ pub fn on_page(at: usize, end: usize) -> usize
     std::cmp::min(PAGE - at % PAGE, end - at)
 }
 
-/// Makes a page shared, and returns a second reference to it. The only error is out of memory. The bytes are unchanged
-/// then.
-pub fn share_page(alloc: Global, page: &mut Page) -> Result<Page, AllocError>
+/// Makes a page shared. The only error is out of memory. The bytes are unchanged then.
+pub fn close(alloc: Global, page: &mut Page) -> Result<(), AllocError>
     ensures bytes { page_bytes page.new ≡ page_bytes page.old }
-    ensures ok { IfOk result (λ copy. page_bytes copy ≡ page_bytes page.old) }
-    ensures shared { IfOk result (λ copy. (is_owned page.new ≡ false) × (is_owned copy ≡ false)) }
+    ensures shared { OnOk result (is_owned page.new ≡ false) }
 {
+    if !page.is_owned() {
+        return Ok(());
+    }
     let taken = std::mem::replace(page, Page::Owned(Vec::new(alloc)));
     match taken {
         Page::Shared(bytes) => {
-            let copy: Result<Rc<Vec<u8>>, AllocError> = bytes.clone();
             *page = Page::Shared(bytes);
-            Ok(Page::Shared(copy?))
+            Ok(())
         }
         Page::Owned(bytes) => match Rc::new(alloc, bytes) {
             Err(failed) => {
@@ -124,9 +123,8 @@ pub fn share_page(alloc: Global, page: &mut Page) -> Result<Page, AllocError>
                 Err(AllocError)
             }
             Ok(bytes) => {
-                let copy: Result<Rc<Vec<u8>>, AllocError> = bytes.clone();
                 *page = Page::Shared(bytes);
-                Ok(Page::Shared(copy?))
+                Ok(())
             }
         },
     }

@@ -4,8 +4,9 @@ ghost use Rattle.blob_pages.specs.Paged.{page_size, AreFull};
 ghost use Rattle.blob_model.specs.Bytes.{overlay, resize};
 
 pub use crate::page::PAGE;
-use crate::page::{Page, count};
-use crate::page_list::{append_from, copy_all, lay_over, part_of, set_len, share_all};
+use crate::page::count;
+use crate::page_list::{append_from, lay_over, part_of, set_len};
+use crate::table::Table;
 use std::alloc::{AllocError, Global};
 
 /// Bytes in pages.
@@ -15,11 +16,11 @@ use std::alloc::{AllocError, Global};
 #[derive(Drop)]
 pub struct Pages {
     alloc: Global,
-    pages: Vec<Page>,
+    pages: Table,
     len: usize,
     spare: Vec<u8>,
-    ghost full: { AreFull pages.items },
-    ghost held: { len ≤ page_size * length pages.items },
+    ghost full: { AreFull pages },
+    ghost held: { len ≤ page_size * length pages },
     ghost spared: { len ≤ vec_capacity spare },
 }
 
@@ -33,7 +34,7 @@ impl Pages {
     {
         Pages {
             alloc,
-            pages: Vec::new(alloc),
+            pages: Table::new(alloc),
             len: 0,
             spare,
         }
@@ -111,7 +112,7 @@ impl Pages {
         ensures other_room { room other.new ≡ room other.old }
     {
         self.reserve(other.len)?;
-        self.pages = share_all(self.alloc, other.pages.as_mut_slice(), count(other.len))?;
+        self.pages = other.pages.share(self.alloc, count(other.len))?;
         self.len = other.len;
         Ok(())
     }
@@ -121,7 +122,7 @@ impl Pages {
         ensures { IfOk result (λ copy. bytes copy ≡ bytes self.now) }
     {
         let spare = Vec::with_capacity(self.alloc, self.len)?;
-        let pages = copy_all(self.alloc, self.pages.as_slice(), count(self.len))?;
+        let pages = self.pages.copy(self.alloc, count(self.len))?;
         Ok(Pages {
             alloc: self.alloc,
             pages,
@@ -139,7 +140,7 @@ impl Pages {
         ensures part { result.now ≡ take (length result.now) (drop at (bytes self.now)) }
     {
         let _len = self.len;
-        part_of(self.pages.as_slice(), at, len)
+        part_of(&self.pages, at, len)
     }
 
     /// Appends a range of the bytes to a vector, within its capacity.
@@ -150,7 +151,7 @@ impl Pages {
         ensures capacity { vec_capacity out.old ≤ vec_capacity out.new }
     {
         let _len = self.len;
-        append_from(self.pages.as_slice(), at, len, out);
+        append_from(&self.pages, at, len, out);
     }
 
     /// Moves all bytes to one vector with at least the same capacity. Does not allocate.
@@ -166,7 +167,7 @@ impl Pages {
         } = self;
         let mut out = spare;
         out.clear();
-        append_from(pages.as_slice(), 0, len, &mut out);
+        append_from(&pages, 0, len, &mut out);
         out
     }
 }

@@ -2,14 +2,14 @@ use Rattle.std.proofs.Common.{rules, ◌≡◌, ℕ, ◌+◌, ◌∙◌, ap, sym
 use Rattle.blob_model.specs.Bytes.{overlay, resize}
 use Rattle.blob_model.proofs.Bytes.{reach_all}
 use Rattle.blob_pages.specs.Paged.{bytes_in}
-use Rattle.blob_pages.proofs.Paged.{length-bytes_in, extended_bytes, laid_over, overlay_grown, owned_through, written_back}
+use Rattle.blob_pages.proofs.Paged.{length-bytes_in, extended_bytes, laid_over, overlay_grown, owned_through}
 use Rattle.blob_pages.proofs.page_list.lay_over.Goals as goal
 
 pub returns-in_err-take_room-clause-changes : goal.returns-in_err-take_room-clause-changes
 returns-in_err-take_room-clause-changes c = record {
   ok = search rules;
   there = search rules;
-  err = search (rules, extended_bytes c.args.pages.now.items c.take_room.new.pages.items c.args.old c.requires.held c.take_room.ensures.extends);
+  err = search (rules, extended_bytes c.args.pages.now c.take_room.new.pages c.args.old c.requires.held c.take_room.ensures.extends);
   more = c.take_room.ensures.extends.more;
   full = c.take_room.ensures.extends.full c.requires.full;
   owned = c.take_room.ensures.extends.owned;
@@ -18,26 +18,20 @@ returns-in_err-take_room-clause-changes c = record {
 pub returns-clause-changes : goal.returns-clause-changes
 returns-clause-changes c =
     let end : ℕ = c.args.offset + length c.args.run.now in
-    let at : c.as_mut_slice.result.now ≡ c.take_room.new.pages.items = c.as_mut_slice.ensures.value in
-    let len : length c.blank_to-len.new.pages ≡ length c.take_room.new.pages.items = c.blank_to-len.ensures.blanks.same ∙ ap length at in
-    let back = written_back c.take_room.new.pages.items c.blank_to-len.new.pages c.take_room.new.pages.len (omega arith) len in
-    let at' : c.as_mut_slice-2.result.now ≡ c.blank_to-len.new.pages = c.as_mut_slice-2.ensures.value ∙ back in
-    let len' : length c.lay.new.pages ≡ length c.blank_to-len.new.pages = c.lay.ensures.same ∙ ap length at' in
-    let back' = written_back c.blank_to-len.new.pages c.lay.new.pages c.take_room.new.pages.len (omega (arith, len)) len' in
+    let len : length c.blank_to-len.new.pages ≡ length c.take_room.new.pages = c.blank_to-len.ensures.blanks.same in
+    let len' : length c.lay.new.pages ≡ length c.blank_to-len.new.pages = c.lay.ensures.same in
     let n : ℕ = max c.args.old end in
     let is : c.blank_to-len.result ≡ n = c.blank_to-len.ensures.len in
-    rw back (rw back' (record {
-      ok = laid_over c.as_mut_slice-2.result.now c.lay.new.pages n c.args.offset c.args.run.now (omega arith) c.lay.ensures
-          ∙ ap (λ ps. overlay (bytes_in ps n) c.args.offset c.args.run.now) at'
+    record {
+      ok = laid_over c.blank_to-len.new.pages c.lay.new.pages n c.args.offset c.args.run.now (omega arith) c.lay.ensures
           ∙ ap (λ b. overlay b c.args.offset c.args.run.now)
-          (ap (bytes_in c.blank_to-len.new.pages) (sym is) ∙ c.blank_to-len.ensures.blanks.bytes ∙ ap (resize (bytes_in c.as_mut_slice.result.now c.args.old)) is
-          ∙ ap (λ ps. resize (bytes_in ps c.args.old) n) at
-          ∙ ap (λ b. resize b n) (extended_bytes c.args.pages.now.items c.take_room.new.pages.items c.args.old c.requires.held c.take_room.ensures.extends))
-          ∙ overlay_grown (bytes_in c.args.pages.now.items c.args.old) c.args.offset c.args.run.now n (omega (arith, length-bytes_in c.args.pages.now.items c.args.old, reach_all c.args.offset (length c.args.run.now) c.requires.some));
+          (ap (bytes_in c.blank_to-len.new.pages) (sym is) ∙ c.blank_to-len.ensures.blanks.bytes ∙ ap (resize (bytes_in c.take_room.new.pages c.args.old)) is
+          ∙ ap (λ b. resize b n) (extended_bytes c.args.pages.now c.take_room.new.pages c.args.old c.requires.held c.take_room.ensures.extends))
+          ∙ overlay_grown (bytes_in c.args.pages.now c.args.old) c.args.offset c.args.run.now n (omega (arith, length-bytes_in c.args.pages.now c.args.old, reach_all c.args.offset (length c.args.run.now) c.requires.some));
       there = omega (arith, len, len', c.in_ok-take_room.ensures.there, c.requires.held, c.take_room.ensures.extends.more);
       err = tt;
       more = omega (arith, len, len', c.take_room.ensures.extends.more);
       full = c.lay.ensures.full;
-      owned = owned_through c.args.pages.now.items c.as_mut_slice.result.now c.lay.new.pages (rw at c.take_room.ensures.extends.owned)
-          (owned_through c.as_mut_slice.result.now c.blank_to-len.new.pages c.lay.new.pages c.blank_to-len.ensures.blanks.owned (rw (sym at') c.lay.ensures.owned));
-    }))
+      owned = owned_through c.args.pages.now c.take_room.new.pages c.lay.new.pages c.take_room.ensures.extends.owned
+          (owned_through c.take_room.new.pages c.blank_to-len.new.pages c.lay.new.pages c.blank_to-len.ensures.blanks.owned c.lay.ensures.owned);
+    }

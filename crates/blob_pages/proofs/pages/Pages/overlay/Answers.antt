@@ -10,4 +10,4 @@ pub returns-in_err-self : goal.returns-in_err-self
 returns-in_err-self c = record { ok = search rules; err = search (rules, c.lay_over.ensures.changes.err); room = refl }
 
 pub returns : goal.returns
-returns c = record { ok = ap (bytes_in c.lay_over.new.pages.items) c.in_ok-self.ensures.len ∙ c.in_ok-self.ensures.changes.ok; err = tt; room = refl }
+returns c = record { ok = ap (bytes_in c.lay_over.new.pages) c.in_ok-self.ensures.len ∙ c.in_ok-self.ensures.changes.ok; err = tt; room = refl }
