@@ -303,6 +303,17 @@ module _ (old new v : List Page) (i : ℕ) (h : i < length old) (k : Keeps old n
   pub opened_keeps : (page q : Page) → page ≡ get_or v i page → page_bytes q ≡ page_bytes page → (is_owned page ≡ true → is_owned q ≡ true) → Keeps old (set v i q)
   opened_keeps page q is bytes own = keeps_through old v (set v i q) (subst (λ l. Keeps old l) same k) (keeps_more v v i page q (keeps_same v) opened_there is bytes own)
 
+-- whether only this value has a page
+pub owner_of : (gs : List Group) → IsPacked gs → (i : ℕ) (g : Group) → i / group_size < length gs → g ≡ get_or gs (i / group_size) g → owned_at (group_pages g) (i % group_size) ≡ owned_at (all_pages gs) i
+owner_of gs p i g there is = ap (λ x. owned_at (group_pages x) (i % group_size)) is ∙ ⊎_elim
+    (λ h. sym (at_group gs p i h is_owned false g))
+    (λ past. get_or_past (map is_owned (group_pages (get_or gs (i / group_size) g))) (i % group_size) false (omega (arith, past, length-map (group_pages (get_or gs (i / group_size) g)) is_owned, length_to gs (i / group_size) g (around_of gs p (i / group_size) g there)))
+    ∙ sym (get_or_past (map is_owned (all_pages gs)) i false (omega (arith, past, length-map (all_pages gs) is_owned))))
+    (cases_lt i (length (all_pages gs)))
+
+pub owner_past : (gs : List Group) → IsPacked gs → (i : ℕ) → length gs ≤ i / group_size → owned_at (all_pages gs) i ≡ false
+owner_past gs p i h = get_or_past (map is_owned (all_pages gs)) i false (omega (arith, h, length_most gs p.most, length-map (all_pages gs) is_owned))
+
 -- the group of a page that only this value has
 module _ (gs : List Group) (p : IsPacked gs) (i : ℕ) (own : owned_at (all_pages gs) i ≡ true) where
   pub own_there : i < length (all_pages gs)

@@ -315,6 +315,19 @@ laid_over a b n o x fits l = same_bytes _ _ (omega (arith, fits, length-bytes_in
     other : (p : ℕ) → p < n → (p < o) ⊎ (o + length x ≤ p) → byte_at b p ≡ get_or (overlay (bytes_in a n) o x) p 0
     other p h out = l.outside p out ∙ sym (at_bytes_in a n p h) ∙ sym (at_other (bytes_in a n) o x (λ _. true) p (λ ge u. ⊎_elim (λ low. absurd (omega (arith, low, ge))) (λ past. absurd (omega (arith, past, u))) out))
 
+-- a run written from within the length on
+pub laid_at : (a b : List Page) (n m o : ℕ) (x : List ℕ) → o ≤ n → m ≡ max n (o + length x) → 0 < length x → Lays a b o x → bytes_in b m ≡ overlay (bytes_in a n) o x
+laid_at a b n m o x le is some l = same_bytes _ _ (omega (arith, is, length-bytes_in b m, length-bytes_in a n, length-overlay_by (bytes_in a n) o x (λ _. true), reach_all o (length x) some)) (λ p. ⊎_elim
+    (λ low. at_bytes_in b m p (omega (arith, low, le, is)) ∙ l.outside p (inl low) ∙ sym (at_bytes_in a n p (omega (arith, low, le))) ∙ sym (at_other (bytes_in a n) o x (λ _. true) p (λ ge _. absurd (omega (arith, low, ge)))))
+    (λ ge. ⊎_elim
+    (λ lt. at_bytes_in b m p (omega (arith, lt, is)) ∙ l.within p ge lt ∙ sym (at_chosen (bytes_in a n) o x (λ _. true) p ge lt refl))
+    (λ past. let other = at_other (bytes_in a n) o x (λ _. true) p (λ _ u. absurd (omega (arith, past, u))) in ⊎_elim
+    (λ h. at_bytes_in b m p (omega (arith, h, is)) ∙ l.outside p (inr past) ∙ sym (at_bytes_in a n p h) ∙ sym other)
+    (λ h. past_bytes_in b m p (omega (arith, h, past, is)) ∙ sym (past_bytes_in a n p h) ∙ sym other)
+    (cases_lt p n))
+    (cases_lt p (o + length x)))
+    (cases_lt p o))
+
 -- after one more page is shared
 pub shared_more : {X Y : Type 0} (f : X → Y) (t u : List X) (i : ℕ) (x q : X) → map f u ≡ map f t → i < length u → x ≡ get_or u i x → f q ≡ f x → map f (set u i q) ≡ map f t
 shared_more f t u i x q k h is eq = map-set f u i q ∙ ap (set (map f u) i) (eq ∙ ap f is ∙ sym (get_or-map f u i x (f q) h)) ∙ set-get_or (map f u) i (f q) ∙ k

@@ -31,6 +31,20 @@ impl Group {
         }
     }
 
+    /// Returns whether only this value has a page. A group that others share has no such page.
+    pub fn is_owned(&self, i: usize) -> bool
+        requires { IsSound self.now }
+        ensures { result ≡ owned_at (group_pages self.now) i }
+    {
+        match self {
+            Group::Open(pages) => match pages.get(i) {
+                Some(page) => page.is_owned(),
+                None => false,
+            },
+            Group::Closed(_) => false,
+        }
+    }
+
     /// Returns whether only this value has the group.
     fn is_open(&self) -> bool
         ensures { result ≡ is_open self.now }

@@ -29,7 +29,7 @@ impl Page {
     }
 
     /// Returns whether only this value has the page.
-    fn is_owned(&self) -> bool
+    pub fn is_owned(&self) -> bool
         ensures { result ≡ is_owned self.now }
     {
         matches!(self, Page::Owned(_))

@@ -129,6 +129,11 @@ pub fn lay_over(
     ensures changes { WritesRun result pages.old pages.new old offset run.now }
 {
     let end = offset + run.len();
+    let at = offset % PAGE;
+    if offset <= old && run.len() <= PAGE - at && pages.is_owned(offset / PAGE) {
+        pages.put(offset / PAGE, at, run);
+        return Ok(old.max(end));
+    }
     take_room(alloc, pages, std::cmp::min(offset, old), end)?;
     let len = blank_to(pages, old, end);
     lay(pages, offset, run);

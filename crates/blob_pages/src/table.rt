@@ -52,6 +52,13 @@ impl Table {
         bytes_of(self.groups.as_slice(), i)
     }
 
+    /// Returns whether page `i` exists and only this value has it.
+    pub fn is_owned(&self, i: usize) -> bool
+        ensures { result ≡ owned_at self.now i }
+    {
+        is_owned_in(self.groups.as_slice(), i)
+    }
+
     /// Appends a page of zeros. The only error is out of memory. The bytes are unchanged then.
     pub fn add(&mut self, alloc: Global) -> Result<(), AllocError>
         ensures extends { Extends self.old self.new }
@@ -140,6 +147,17 @@ fn bytes_of(groups: &[Group], i: usize) -> &[u8]
 {
     let pages = groups[i / GROUP].pages();
     pages[i % GROUP].bytes()
+}
+
+/// Returns whether page `i` exists and only this value has it.
+fn is_owned_in(groups: &[Group], i: usize) -> bool
+    requires { IsPacked groups.now }
+    ensures { result ≡ owned_at (all_pages groups.now) i }
+{
+    if i / GROUP >= groups.len() {
+        return false;
+    }
+    groups[i / GROUP].is_owned(i % GROUP)
 }
 
 /// Appends a page to the last group, which is not full. The only error is out of memory. The bytes are unchanged then.
