@@ -46,13 +46,13 @@ pub struct Exploration {
     alloc: Global,
     setting: Setting,
     states: Vec<State>,
+    /// The calls of the transactions without a power loss.
+    pub calls: u64,
     /// The outcomes of power losses in the transactions, and in opens.
     pub outcomes: u64,
     pub opens: u64,
-    /// The states in which a transaction was lost or is there in part, or what was found before isn't found again.
-    pub wrong: u64,
-    /// The first of them.
-    pub first: Option<Loss>,
+    /// The first state in which a transaction is lost or there in part, or in which what was found isn't found again.
+    pub wrong: Option<Loss>,
 }
 
 /// Increments a count.
@@ -124,10 +124,10 @@ impl Exploration {
             alloc,
             setting,
             states: Vec::new(alloc),
+            calls: 0,
             outcomes: 0,
             opens: 0,
-            wrong: 0,
-            first: None,
+            wrong: None,
         }
     }
 
@@ -136,13 +136,13 @@ impl Exploration {
         self.states.len()
     }
 
-    /// Explores the transactions, and an open of each state, until there is no new one.
+    /// Explores the transactions, and an open of each state, until there is no new state or one is wrong.
     pub fn explore(&mut self) -> Result<()> {
         let prepared = self.prepare()?;
         self.explore_session(&prepared, Visit::Run, None)?;
         for at in 0..MOST_OUTCOMES {
             let at = at as usize;
-            if at >= self.states.len() {
+            if at >= self.states.len() || self.wrong.is_some() {
                 return Ok(());
             }
             let image = self.states[at].image.copy(self.alloc)?;
@@ -178,9 +178,8 @@ impl Exploration {
                 bail!("a run can't be repeated");
             }
             self.note(image, ran, loss)?;
-            match tree.next(&mut choices) {
-                Some(true) => {}
-                _ => return Ok(()),
+            if self.wrong.is_some() || tree.next(&mut choices) != Some(true) {
+                return Ok(());
             }
         }
         bail!("a session has too many outcomes")
@@ -195,6 +194,9 @@ impl Exploration {
 
     fn note_transactions(&mut self, ran: Ran) -> Result<(), AllocError> {
         add(&mut self.outcomes);
+        if ran.failed.is_none() {
+            self.calls = ran.calls;
+        }
         self.keep(State {
             image: ran.left,
             loss: Loss {
@@ -215,13 +217,10 @@ impl Exploration {
             None => ran.failed.is_some(),
         };
         if !is_right || (loss.found.is_some() && rows.is_some() && loss.found != rows) {
-            add(&mut self.wrong);
-            if self.first.is_none() {
-                self.first = Some(Loss {
-                    found: rows,
-                    ..loss
-                });
-            }
+            self.wrong = Some(Loss {
+                found: rows,
+                ..loss
+            });
             return Ok(());
         }
         if &ran.left == image {

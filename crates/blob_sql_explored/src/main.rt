@@ -3,10 +3,11 @@
 //! again, until no new state of the files is found. Each state must have the acknowledged transactions, and of the next
 //! one all or nothing.
 //!
-//! Prints a line for each setting: the outcomes of power losses in the transactions, the different states of the files,
-//! the outcomes of their opens, and the wrong states. Then a line for each mistake, with the first wrong state.
+//! Prints a line for each setting: the calls of the transactions, the outcomes of power losses at each and at none, the
+//! different states of the files that were found, and the outcomes of their opens. Then a line for each mistake, up to
+//! its first wrong state, and that state.
 //!
-//! Exit statuses: 0 if states were wrong in each mistake and in no other setting, 1 if not, 3 if the exploration
+//! Exit statuses: 0 if a state was wrong in each mistake and none in the other settings, 1 if not, 3 if the exploration
 //! couldn't be done.
 #![tactic(auto)]
 
@@ -58,10 +59,10 @@ fn print_loss<R: Print>(rt: &R, loss: Loss) -> Result<()> {
 fn explore<R: Print>(rt: &R, alloc: Global, setting: &Setting) -> Result<bool> {
     let mut exploration = Exploration::new(alloc, *setting);
     exploration.explore()?;
-    let (name, outcomes) = (setting.name, exploration.outcomes);
-    let (states, opens, wrong) = (exploration.states(), exploration.opens, exploration.wrong);
-    println!(rt; "{name:<30} {outcomes:>8} {states:>8} {opens:>8} {wrong:>8}")?;
-    match exploration.first {
+    let (name, calls, outcomes) = (setting.name, exploration.calls, exploration.outcomes);
+    let (states, opens) = (exploration.states(), exploration.opens);
+    println!(rt; "{name:<30} {calls:>8} {outcomes:>8} {states:>8} {opens:>8}")?;
+    match exploration.wrong {
         None => Ok(false),
         Some(loss) => {
             print_loss(rt, loss)?;
@@ -73,7 +74,7 @@ fn explore<R: Print>(rt: &R, alloc: Global, setting: &Setting) -> Result<bool> {
 /// Explores all settings. Returns whether each is as it must be.
 fn explore_all<R: Print>(rt: &R, alloc: Global) -> Result<bool> {
     let mut is_right = true;
-    println!(rt; "setting                        outcomes   states    opens    wrong")?;
+    println!(rt; "setting                           calls outcomes   states    opens")?;
     for setting in &RIGHT {
         is_right = !explore(rt, alloc, setting)? && is_right;
     }

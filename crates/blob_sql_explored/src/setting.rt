@@ -25,7 +25,7 @@ pub struct Setting {
 /// Larger than the files, so that a crash keeps or loses each write as a whole.
 const WHOLE: u64 = 1 << 30;
 
-/// In the first commit of the two transactions the log has eight frames. Then it is copied into the file.
+/// With so few frames the log is copied into the file between the two transactions.
 const COPIED: usize = 8;
 
 const TWO: Setting = Setting {
