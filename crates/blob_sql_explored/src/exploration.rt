@@ -7,7 +7,7 @@ use anyhow::{Result, bail};
 use blob_tree::{Choice, Traversal};
 use std::alloc::{AllocError, Global};
 
-/// Where the power fails: not at all, or at one of the calls.
+/// The call at which the power fails, or none.
 const POWER: u32 = 1;
 
 /// A draw of the log, and one of the file.
@@ -106,7 +106,8 @@ fn choose(tree: &mut Traversal, choices: &mut [Choice], kind: u32, count: u64) -
     true
 }
 
-/// Makes the choices of a run, in a session of so many calls. Returns whether they were those of its path.
+/// Makes the choices of a run. Without a power loss its session has `calls` calls. Returns whether the choices are those
+/// of the path.
 fn make(tree: &mut Traversal, choices: &mut [Choice], ran: &Ran, calls: u64) -> bool {
     tree.begin(0);
     if tree

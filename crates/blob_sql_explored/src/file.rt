@@ -12,7 +12,7 @@ use std::alloc::Global;
 use std::io;
 use std::rc::Rc;
 
-/// A disk whose calls fail once the power of its machine has failed, and whose syncs the machine may forget.
+/// A disk of a machine. Its calls fail once the power has failed, and the machine may forget its syncs.
 ///
 /// Its contract says that a crash leaves all written bytes, synced or not. That satisfies `Disk`, also if a sync does
 /// nothing. It doesn't implement `Crash`, because a crash leaves what its inner disk leaves.

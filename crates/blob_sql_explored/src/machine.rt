@@ -1,4 +1,4 @@
-//! A machine with two files, whose power fails at one call.
+//! A machine with two files. Its power fails at one call.
 ghost use Rattle.std.specs.Prelude.{◌≡◌, false};
 ghost use Rattle.sqlite_disk.specs.Refusal.{finds_no_room};
 

@@ -43,7 +43,7 @@ fn name_of(call: Option<Call>) -> (&'static str, &'static str) {
     }
 }
 
-/// Prints where the power failed, and what was found.
+/// Prints at which call the power failed, and what was found.
 fn print_loss<R: Print>(rt: &R, loss: Loss) -> Result<()> {
     let (kind, name) = name_of(loss.failed);
     let (calls, done) = (loss.calls, loss.done);

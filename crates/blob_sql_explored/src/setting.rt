@@ -12,9 +12,9 @@ pub struct Setting {
     /// A commit needs one sync instead of two, since the disk guarantees that a crash leaves each byte of a write old
     /// or new.
     pub is_mixing: bool,
-    /// A crash keeps or loses each sector of a write, of so many bytes.
+    /// The size of a sector. A crash keeps or loses each sector of a write.
     pub sector: u64,
-    /// After so many frames the log is copied into the file, as the next transaction commits.
+    /// After how many frames the log is copied into the file.
     pub frames: usize,
     /// The syncs of the transactions that do nothing.
     pub forgotten: Forgotten,
