@@ -3,11 +3,13 @@
 //! again, until no new state of the files is found. Each state must have the acknowledged transactions, and of the next
 //! one all or nothing.
 //!
-//! Prints a line for each setting: the calls of the transactions, the outcomes of power losses at each and at none, the
-//! different states of the files that were found, and the outcomes of their opens. Then a line for each mistake, up to
-//! its first wrong state, and that state.
+//!     blob_sql_explored right|mistakes
 //!
-//! Exit statuses: 0 if a state was wrong in each mistake and none in the other settings, 1 if not, 3 if the exploration
+//! `right` prints a line for each setting without a mistake: the calls of the transactions, the outcomes of power losses
+//! at each and at none, the different states of the files that were found, and the outcomes of their opens. `mistakes`
+//! does so for each mistake, up to its first wrong state, and prints that state.
+//!
+//! Exit statuses: 0 if no state was wrong, or one of each mistake, 1 if not, 2 for other arguments, 3 if the exploration
 //! couldn't be done.
 #![tactic(auto)]
 
@@ -24,6 +26,7 @@ use exploration::{Exploration, Loss};
 use machine::{Call, Kind, Name};
 use setting::{MISTAKES, RIGHT, Setting};
 use std::alloc::Global;
+use std::env;
 use std::process::ExitCode;
 
 fn name_of(call: Option<Call>) -> (&'static str, &'static str) {
@@ -71,22 +74,42 @@ fn explore<R: Print>(rt: &R, alloc: Global, setting: &Setting) -> Result<bool> {
     }
 }
 
-/// Explores all settings. Returns whether each is as it must be.
-fn explore_all<R: Print>(rt: &R, alloc: Global) -> Result<bool> {
+/// Explores the settings. Returns whether a state was wrong in each, for mistakes, or in none.
+fn explore_all<R: Print>(rt: &R, alloc: Global, are_mistakes: bool) -> Result<bool> {
+    let settings: &[Setting] = if are_mistakes { &MISTAKES } else { &RIGHT };
     let mut is_right = true;
     println!(rt; "setting                           calls outcomes   states    opens")?;
-    for setting in &RIGHT {
-        is_right = !explore(rt, alloc, setting)? && is_right;
-    }
-    println!(rt; "mistakes")?;
-    for setting in &MISTAKES {
-        is_right = explore(rt, alloc, setting)? && is_right;
+    for setting in settings {
+        is_right = explore(rt, alloc, setting)? == are_mistakes && is_right;
     }
     Ok(is_right)
 }
 
+/// Parses the arguments: whether the mistakes are explored.
+fn asked(words: &[String]) -> Option<bool> {
+    match words {
+        [word] if word.as_str() == "right" => Some(false),
+        [word] if word.as_str() == "mistakes" => Some(true),
+        _ => None,
+    }
+}
+
+fn arguments(rt: &HostRuntime) -> Result<Vec<String>> {
+    let mut args = env::args(rt)?;
+    let _program = args.next();
+    Ok(args.collect(rt.alloc())?)
+}
+
 fn main(rt: HostRuntime) -> ExitCode {
-    match explore_all(&rt, rt.alloc()) {
+    let asked = match arguments(&rt) {
+        Ok(words) => asked(&words),
+        Err(_) => None,
+    };
+    let Some(are_mistakes) = asked else {
+        let _ = eprintln!(rt; "usage: blob_sql_explored right|mistakes");
+        return ExitCode::from(2);
+    };
+    match explore_all(&rt, rt.alloc(), are_mistakes) {
         Ok(true) => ExitCode::from(0),
         Ok(false) => ExitCode::from(1),
         Err(error) => {
