@@ -32,8 +32,6 @@ pub struct Call {
 #[derive(Clone, Copy)]
 pub enum Forgotten {
     Nothing,
-    /// Those of both files.
-    All,
     /// Those of one file.
     Of(Name),
 }
@@ -93,7 +91,6 @@ impl Machine {
     pub fn forgets(&self, name: Name) -> bool {
         match self.forgotten {
             Forgotten::Nothing => false,
-            Forgotten::All => true,
             Forgotten::Of(of) => of == name,
         }
     }

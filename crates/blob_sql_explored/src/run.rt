@@ -65,7 +65,7 @@ fn file(
     bytes: &[u8],
 ) -> Result<File> {
     let words = Words::new(words, name, machine.clone()?);
-    let disk = BlobDisk::new(alloc, words, setting.config(), setting.is_mixing)?;
+    let disk = BlobDisk::new(alloc, words, setting.config(name), setting.is_mixing)?;
     Ok(File::new(disk, bytes, name, machine.clone()?)?)
 }
 

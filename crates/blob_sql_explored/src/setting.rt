@@ -12,8 +12,9 @@ pub struct Setting {
     /// A commit needs one sync instead of two, since the disk guarantees that a crash leaves each byte of a write old
     /// or new.
     pub is_mixing: bool,
-    /// The size of a sector. A crash keeps or loses each sector of a write.
-    pub sector: u64,
+    /// The sizes of the sectors of the log and of the file. A crash keeps or loses each sector of a write.
+    pub log_sector: u64,
+    pub file_sector: u64,
     /// After how many frames the log is copied into the file.
     pub frames: usize,
     /// The syncs of the transactions that do nothing.
@@ -25,13 +26,15 @@ pub struct Setting {
 /// Larger than the files, so that a crash keeps or loses each write as a whole.
 const WHOLE: u64 = 1 << 30;
 
-/// With so few frames the log is copied into the file between the two transactions.
+/// With two syncs the log is then copied into the file between the two transactions. With one sync it has fewer frames,
+/// and isn't copied.
 const COPIED: usize = 8;
 
 const TWO: Setting = Setting {
     name: "two syncs, whole writes",
     is_mixing: false,
-    sector: WHOLE,
+    log_sector: WHOLE,
+    file_sector: WHOLE,
     frames: COPIED,
     forgotten: Forgotten::Nothing,
     is_early: false,
@@ -48,24 +51,19 @@ pub static RIGHT: [Setting; 4] = [
     TWO,
     ONE,
     Setting {
-        name: "two syncs, sectors of 4096",
-        sector: 4096,
+        name: "two syncs, halves of pages",
+        file_sector: 2048,
         ..TWO
     },
     Setting {
-        name: "one sync, sectors of 4096",
-        sector: 4096,
+        name: "one sync, sectors of the log",
+        log_sector: 8192,
         ..ONE
     },
 ];
 
 /// Something must be lost in each of these.
-pub static MISTAKES: [Setting; 7] = [
-    Setting {
-        name: "two syncs, no sync syncs",
-        forgotten: Forgotten::All,
-        ..TWO
-    },
+pub static MISTAKES: [Setting; 6] = [
     Setting {
         name: "two syncs, none of the log",
         forgotten: Forgotten::Of(Name::Log),
@@ -89,6 +87,7 @@ pub static MISTAKES: [Setting; 7] = [
     Setting {
         name: "one sync, none of the file",
         forgotten: Forgotten::Of(Name::File),
+        frames: 1,
         ..ONE
     },
     Setting {
@@ -116,10 +115,14 @@ impl Setting {
     }
 
     /// Returns the rates of a file. No call fails by a draw. A crash keeps each sector with a rate of 1/2.
-    pub fn config(&self) -> Config
+    pub fn config(&self, name: Name) -> Config
         ensures { IsNever (partial_resizes result.resize_rate) }
     {
-        let mode = match SectorSize::new(self.sector) {
+        let size = match name {
+            Name::Log => self.log_sector,
+            Name::File => self.file_sector,
+        };
+        let mode = match SectorSize::new(size) {
             Some(size) => PartialWriteMode::Sectors(size),
             None => PartialWriteMode::Subset,
         };
