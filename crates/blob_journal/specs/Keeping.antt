@@ -10,6 +10,7 @@ use Rattle.blob_directory.specs.Sectors.{sector_of}
 use Rattle.blob_directory.specs.Tables.{bound}
 use Rattle.blob_journal.specs.declared.journal.Journal.{Journal}
 use Rattle.blob_journal.specs.declared.journaled.Journaled.{Journaled}
+use Rattle.blob_journal.specs.Found.{with_kept}
 
 -- the table of the names that calls see
 abbrev pub table_in : {R : Type 0} → Journaled R → Table
@@ -25,7 +26,7 @@ generator_in j = rng_of j.store
 
 -- with another generator; all else stays
 abbrev pub with_generator : {R : Type 0} → Journaled R → R → Journaled R
-with_generator j rng = record j { store = with_rng j.store rng; current = j.current }
+with_generator j rng = record j { store = with_rng j.store rng; current = j.current; given = j.given; kept = with_kept j.store rng j.journal j.unsettled.items j.kept }
 
 -- nothing has happened to the names
 abbrev pub KeepsTable : {R : Type 0} → Journaled R → Journaled R → Type 0
@@ -50,3 +51,7 @@ with_sector journal edit = write_live (bytes_in journal) (journal.sectors * 1024
 -- the journal has one more sector, of this edit
 abbrev pub AddsSector : {R : Type 0} → Edit → Journaled R → Journaled R → Type 0
 AddsSector edit j j' = (bytes_in j'.journal ≡ with_sector j.journal edit) × (j'.journal.sectors ≡ j.journal.sectors + 1)
+
+-- only the number up to which blobs of files were opened has changed
+abbrev pub NotesOpened : {R : Type 0} → Journaled R → Journaled R → Type 0
+NotesOpened j j' = (j'.store ≡ j.store) × (j'.journal ≡ j.journal) × (j'.names ≡ j.names) × (j'.unsettled ≡ j.unsettled)

@@ -4,6 +4,7 @@ ghost use Rattle.std.specs.Prelude.{IfOk, OnOk};
 use crate::journaled::Journaled;
 use blob_base::Error;
 use blob_faulty::Selections;
+use blob_faulty::laws::leaves;
 use rand_core::Rng;
 
 impl<R: Rng + Drop> Journaled<R> {
@@ -23,6 +24,8 @@ impl<R: Rng + Drop> Journaled<R> {
         ensures gives { OnOk result (GivesNames self.old → GivesNames self.new) }
         ensures names { KeepsTable self.old self.new }
     {
+        leaves::crashed::<R>();
+        leaves::same_bytes::<blob_memory::Storage, R>();
         let rows = self.store.crash()?;
         Ok(rows)
     }

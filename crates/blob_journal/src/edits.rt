@@ -4,6 +4,7 @@ ghost use Rattle.blob_memory.specs.Store.{place};
 ghost use Rattle.blob_faulty.specs.Wrapper.{inside};
 ghost use Rattle.blob_directory.specs.Names.{Same, edit_of};
 ghost use Rattle.blob_journal.specs.Currents.{SameDirectory};
+ghost use Rattle.blob_journal.specs.Found.{IsKept};
 ghost use Rattle.blob_journal.specs.Settling.{Changes, all_settled};
 
 use crate::journal::Journal;
@@ -29,6 +30,7 @@ fn settle_marked<R: Rng>(
     ensures generation { journal.new.generation ≡ journal.old.generation }
     ensures directory { SameDirectory store.old store.new }
     ensures settled { OnOk result (Changes store.old store.new (place (inside journal.old.blob)) (all_settled edits.now)) }
+    ensures kept { IsKept store.old journal.old edits.now → IsKept store.new journal.new edits.now }
 {
     for edit in edits {
         if edit.is_wanted {
@@ -60,6 +62,7 @@ impl<R: Rng + Drop> Journaled<R> {
             names: Table::new(alloc),
             unsettled: Vec::new(alloc),
             next_edit: 0,
+            opened: 0,
         })
     }
 
@@ -136,7 +139,7 @@ impl<R: Rng + Drop> Journaled<R> {
         let sector = self.journal.add(self.alloc, &mut self.store, &edit, rate)?;
         self.names.apply(&edit);
         self.next_edit = next;
-        let _ = self.unsettled.push(Unsettled {
+        self.unsettled.push_reserved(Unsettled {
             edit,
             sector,
             number,

@@ -12,6 +12,7 @@ use blob_directory::checkpoint::checkpoint;
 use blob_directory::profile::Keeps;
 use blob_directory::tree::{Tree, kept_names, reached};
 use blob_faulty::Config;
+use blob_faulty::laws::leaves;
 use rand_core::Rng;
 use std::alloc::AllocError;
 use std::collections::BTreeMap;
@@ -64,6 +65,7 @@ impl<R: Rng + Drop> Journaled<R> {
         ensures gives { OnOk result (FitsJournal tree → Represents (store_of self.old) → GivesNames self.new) }
         ensures refused { OnErr result (KeepsTable self.old self.new) }
     {
+        leaves::same_bytes::<blob_memory::Storage, R>();
         let old = self.journal.generation;
         let Some(generation) = old.checked_add(1) else {
             return Err(Error::OffsetOverflow);

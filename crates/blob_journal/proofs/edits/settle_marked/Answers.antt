@@ -1,3 +1,4 @@
+use Rattle.blob_journal.proofs.Found.{refused_kept, same_kept, settled_kept}
 use Rattle.std.proofs.Common.{◌+◌, ap, sym, subst, take, ◌∙◌}
 use Rattle.blob_model.specs.Places.{Place}
 use Rattle.blob_memory.specs.Store.{directory, place}
@@ -26,6 +27,8 @@ loop-edit-preserved g c =
             generation = ap (λ (j : Journal). j.generation) w.journal-is ∙ s.generation ∙ i.generation;
             directory = ap (λ (x : OverMemory g.row.R.Denot). directory (inner_of x)) w.store-is ∙ s.directory ∙ i.directory;
             place = ap (λ (j : Journal). place (inside j.blob)) w.journal-is ∙ s.place ∙ i.place;
+            kept = λ h. same_kept _ w.settle.new.store _ w.settle.new.self edits w.store-is w.journal-is
+                (settled_kept c.loop-edit.store w.settle.new.store c.loop-edit.journal w.settle.new.self edits k item c.loop-edit-test.true c.edit-item.is s.sectors s.bytes (λ low. s.left low) (i.kept h));
           }
       | else-edit w ↦
           record {
@@ -34,5 +37,12 @@ loop-edit-preserved g c =
             generation = ap (λ (j : Journal). j.generation) w.journal-is ∙ i.generation;
             directory = ap (λ (x : OverMemory g.row.R.Denot). directory (inner_of x)) w.store-is ∙ i.directory;
             place = ap (λ (j : Journal). place (inside j.blob)) w.journal-is ∙ i.place;
+            kept = λ h. same_kept _ c.loop-edit.store _ c.loop-edit.journal edits w.store-is w.journal-is (i.kept h);
           }
     ]
+
+pub returns-in_err-settle-clause-kept : goal.returns-in_err-settle-clause-kept
+returns-in_err-settle-clause-kept g c = λ h.
+    let s = c.in_err-settle.ensures in
+    refused_kept c.loop-edit.store c.settle.new.store c.loop-edit.journal c.settle.new.self c.args.edits.now c.loop-edit.edit-index c.edit-item.result c.loop-edit-test.true c.edit-item.is
+    s.sectors s.refused (λ low. s.left low) (c.loop-edit.invariant.kept h)

@@ -1,6 +1,7 @@
 use Rattle.std.proofs.Common.{◌≡◌, take}
 use Rattle.blob_memory.specs.Store.{directory, place}
 use Rattle.blob_faulty.specs.Wrapper.{inner_of, inside}
+use Rattle.blob_journal.specs.Found.{IsKept}
 use Rattle.blob_journal.specs.Settling.{Changes, all_settled}
 use Rattle.blob_journal.proofs.edits.settle_marked.Given as goal
 
@@ -10,4 +11,5 @@ invariant-loop-edit g l = record {
   generation : l.journal.generation ≡ l.fn.journal.generation;
   directory : directory (inner_of l.store) ≡ directory (inner_of l.fn.store);
   place : place (inside l.journal.blob) ≡ place (inside l.fn.journal.blob);
+  kept : IsKept l.fn.store l.fn.journal l.edits → IsKept l.store l.journal l.edits;
 }

@@ -1,3 +1,7 @@
+use Rattle.std.proofs.Common.{◌≤◌, subst}
+use Rattle.blob_model.specs.Directory.{is_current}
+use Rattle.blob_journal.specs.Currents.{KeepsNext}
+use Rattle.blob_journal.proofs.Found.{no_more_set, still_given, still_kept}
 use Rattle.std.proofs.Common.{◌≡◌, List, ℕ, Some, ap, ap₂, refl, sym, ◌∙◌}
 use Rattle.std.specs.Prelude.{codes}
 use Rattle.std.specs.Int.{w64, to_be_bytes}
@@ -62,3 +66,19 @@ returns-clause-again g c = λ gives.
 
 pub returns-clause-files : goal.returns-clause-files
 returns-clause-files g c = λ r. c.open.ensures.files (r.0, c.set_config.ensures.files r.0 r.1)
+
+pub invariant_of-self : goal.invariant_of-self
+invariant_of-self g c =
+    let self = c.args.self.now in
+    let mid = c.set_config.new.self in
+    let new = c.open.new.store in
+    let at : Place = place (inside self.journal.blob) in
+    let inner : inner_of mid ≡ inner_of self.store = ap (λ (s : OverMemory g.row.R.Denot). inner_of s) c.set_config.ensures.set in
+    let next : KeepsNext self.store new = subst (λ (s : memory.Storage). (directory s).next ≤ (directory (inner_of new)).next) inner c.open.ensures.next in
+    record {
+      partition = self.partition;
+      name = self.name;
+      current = c.open.ensures.kept at (ap (λ (s : memory.Storage). is_current (directory s) at) inner ∙ self.current);
+      given = still_given self.store new self.opened next self.given;
+      kept = still_kept self.store new self.journal self.unsettled.items (λ test k. c.open.ensures.left at test (no_more_set self.store mid c.default.result c.set_config.ensures.set at test k)) self.kept;
+    }
