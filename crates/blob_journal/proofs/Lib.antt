@@ -1,6 +1,7 @@
 pub mod Sectors
 pub mod Listed
 pub mod Told
+pub mod Growing
 pub mod Draws
 pub mod Currents
 pub mod Overlays
@@ -8,3 +9,4 @@ pub mod Standing
 pub mod Settling
 pub mod Kept
 pub mod Found
+pub mod Telling

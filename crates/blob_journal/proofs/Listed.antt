@@ -12,10 +12,10 @@ use Rattle.blob_journal.specs.Sectors.{HasEdit, InSectors, is_settled, sector_at
 use Rattle.blob_journal.proofs.Sectors.{live_overlay, other_sector, written_sector}
 
 -- the sectors of live bytes after one is written
-live_other : (w : List ℕ) (k : ℕ) (b : List ℕ) (i : ℕ) → k * 1024 ≤ length w → length b ≡ 1024 → (i ≡ k → ⊥) → sector_at (write_live w (k * 1024) b) i ≡ sector_at w i
+pub live_other : (w : List ℕ) (k : ℕ) (b : List ℕ) (i : ℕ) → k * 1024 ≤ length w → length b ≡ 1024 → (i ≡ k → ⊥) → sector_at (write_live w (k * 1024) b) i ≡ sector_at w i
 live_other w k b i there is other = ap (λ (l : List ℕ). sector_at l i) (live_overlay w (k * 1024) b there) ∙ other_sector w k b (λ _. true) i is other
 
-live_written : (w : List ℕ) (k : ℕ) (b : List ℕ) → k * 1024 ≤ length w → length b ≡ 1024 → sector_at (write_live w (k * 1024) b) k ≡ b
+pub live_written : (w : List ℕ) (k : ℕ) (b : List ℕ) → k * 1024 ≤ length w → length b ≡ 1024 → sector_at (write_live w (k * 1024) b) k ≡ b
 live_written w k b there is = ap (λ (l : List ℕ). sector_at l k) (live_overlay w (k * 1024) b there) ∙ written_sector w k b is
 
 pub in_marked : (wants : Unsettled → Bool) (from n : ℕ) (w : List ℕ) (edits : List Unsettled) → InSectors from n w edits → InSectors from n w (map (marked wants) edits)
@@ -72,6 +72,11 @@ in_at from n w (e ∷ edits) (suc k) d low h =
     let rest = in_at (suc e.sector) n w edits k d (omega (arith, low)) h.3 in
     let more = rest.above in
     record { above = omega (arith, above, more); below = rest.below }
+
+pub in_has : (from n : ℕ) (w : List ℕ) (edits : List Unsettled) (k : ℕ) (d : Unsettled) → k < length edits → InSectors from n w edits → HasEdit w (get_or edits k d)
+in_has from n w [] k d low h = absurd (omega (arith, low))
+in_has from n w (e ∷ edits) zero d low h = h.2
+in_has from n w (e ∷ edits) (suc k) d low h = in_has (suc e.sector) n w edits k d (omega (arith, low)) h.3
 
 -- one of them is settled
 pub in_settled : (from n : ℕ) (w : List ℕ) (edits : List Unsettled) (k : ℕ) (item : Unsettled) → k < length edits → item ≡ get_or edits k item → length w ≡ n * 1024

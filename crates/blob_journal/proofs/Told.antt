@@ -19,10 +19,10 @@ use Rattle.blob_journal.proofs.Sectors.{found_parts, is_sector, length_sector, p
 zero_add : (j : ℕ) → 0 * 1024 + j ≡ j
 zero_add j = omega arith
 
-first_sector : (x : List ℕ) → 1024 ≤ length x → sector_at x 0 ≡ take 1024 x
+pub first_sector : (x : List ℕ) → 1024 ≤ length x → sector_at x 0 ≡ take 1024 x
 first_sector x long = is_sector x 0 (take 1024 x) (length-take 1024 x ∙ omega (arith, long)) (λ j low. ap (λ (p : ℕ). get_or x p 0) (zero_add j) ∙ sym (get_or-take 1024 x j 0 low))
 
-next_sector : (x : List ℕ) (i : ℕ) → sector_at (drop 1024 x) i ≡ sector_at x (suc i)
+pub next_sector : (x : List ℕ) (i : ℕ) → sector_at (drop 1024 x) i ≡ sector_at x (suc i)
 next_sector x i = is_sector (drop 1024 x) i (sector_at x (suc i)) (length_sector x (suc i))
     (λ j low. get_or-drop 1024 x (i * 1024 + j) 0 ∙ ap (λ (p : ℕ). get_or x p 0) (omega arith) ∙ sym (sector_byte x (suc i) j low))
 

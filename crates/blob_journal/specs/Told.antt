@@ -1,7 +1,9 @@
 -- The edits of a journal as they were told, and those of them that a crash keeps.
-use Rattle.std.specs.Prelude.{ℕ, zero, suc, Bool, true, false, ◌||◌, List, [], ◌∷◌, Some, None, if◌then◌else◌}
+use Rattle.std.specs.Prelude.{◌≡◌, ℕ, suc, Bool, true, false, ◌&&◌, ◌||◌, List, [], ◌∷◌, Option, Some, None, option_map, if◌then◌else◌, nat_eq}
+use Rattle.std.specs.List.{list_any}
 use Rattle.std.specs.Str.{bytes_eq}
 use Rattle.blob_directory.specs.declared.profile.Keeps.{Keeps}
+use Rattle.blob_directory.specs.declared.unsettled.Unsettled.{Unsettled}
 use Rattle.blob_directory.specs.Names.{Edit, Names, all_edited}
 use Rattle.blob_directory.specs.Profiles.{kept_edits}
 use Rattle.blob_directory.specs.Sectors.{Found}
@@ -25,3 +27,34 @@ names_kept keeps chosen told = all_edited (λ _. None) (edits_kept keeps chosen 
 -- the sectors of a journal that are found as they were written
 abbrev pub chosen_of : List ℕ → List ℕ → ℕ → Bool
 chosen_of written found n = bytes_eq (sector_at found n) (sector_at written n)
+
+-- a sync settles the edits of some sectors
+abbrev pub settle_one : Bool → Found → Found
+settle_one now None = None
+settle_one now (Some (edit, settled)) = Some (edit, settled || now)
+
+abbrev pub settled_in : (ℕ → Bool) → ℕ → List Found → List Found
+settled_in which n [] = []
+settled_in which n (found ∷ told) = settle_one (which n) found ∷ settled_in which (suc n) told
+
+-- those of the edits that are marked
+abbrev pub is_marked_in : List Unsettled → ℕ → Bool
+is_marked_in edits n = list_any (λ e. e.is_wanted && nat_eq e.sector n) edits
+
+-- the edit of a sector, and whether it is settled
+abbrev pub edit_in : Found → Option Edit
+edit_in found = option_map (λ f. f.0) found
+
+abbrev pub was_settled : Found → Bool
+was_settled None = false
+was_settled (Some (edit, settled)) = settled
+
+-- the same edit, settled if it was
+abbrev pub Stays : Found → Found → Type 0
+Stays found found' = (edit_in found' ≡ edit_in found) × (was_settled found ≡ true → was_settled found' ≡ true)
+
+-- later calls add edits behind these, and settle some; no edit changes, and none is unsettled again
+abbrev pub Grows : List Found → List Found → Type 0
+Grows [] told' = Unit {0}
+Grows (found ∷ told) [] = ⊥
+Grows (found ∷ told) (found' ∷ told') = Stays found found' × Grows told told'

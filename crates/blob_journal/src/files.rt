@@ -29,7 +29,7 @@ fn number_of<R: Rng>(blob: &Handle) -> u64
 impl<R: Rng + Drop> Journaled<R> {
     ghost use Rattle.blob_journal.specs.Currents.{IsGiven, KeepsFiles};
     ghost use Rattle.blob_journal.specs.Journals.{GivesNames, HasFile, KeepsFile, KeepsFilesOf, KeepsGiven, durable_file, store_of};
-    ghost use Rattle.blob_journal.specs.Keeping.{KeepsTable, NotesOpened};
+    ghost use Rattle.blob_journal.specs.Keeping.{KeepsTable, KeepsTold, NotesOpened};
     ghost use Rattle.blob_journal.specs.Settling.{KeepsJournal};
 
     /// Opens the blob of a file's number. A missing one is created, empty.
@@ -39,6 +39,7 @@ impl<R: Rng + Drop> Journaled<R> {
     /// Those of the layer's open.
     pub fn open_file(&mut self, inode: u64) -> Result<FileBlob, Error>
         ensures names { KeepsTable self.old self.new }
+        ensures told { KeepsTold self.old self.new }
         ensures files { KeepsFiles (store_of self.old) (store_of self.new) }
         ensures given { IfOk result (λ file. HasFile self.new file) }
     {
@@ -53,7 +54,8 @@ impl<R: Rng + Drop> Journaled<R> {
     ///
     /// Those of the layer's open. Nothing is discarded.
     pub fn reopen_file(&mut self, inode: u64) -> Result<FileBlob, Error>
-        ensures { KeepsTable self.old self.new }
+        ensures names { KeepsTable self.old self.new }
+        ensures told { KeepsTold self.old self.new }
     {
         let blob = reopen(&mut self.store, FILES, &inode.to_be_bytes())?;
         self.note(&blob);
@@ -90,6 +92,7 @@ impl<R: Rng + Drop> Journaled<R> {
     /// Those of the layer's removal. Nothing has changed.
     pub fn remove_file(&mut self, inode: u64) -> Result<(), Error>
         ensures names { KeepsTable self.old self.new }
+        ensures told { KeepsTold self.old self.new }
         ensures gives { GivesNames self.old → GivesNames self.new }
         ensures journal { KeepsJournal self.old self.new }
     {
@@ -103,6 +106,7 @@ impl<R: Rng + Drop> Journaled<R> {
     /// Those of the layer's read, and `Memory`.
     pub fn read_whole(&mut self, file: &FileBlob) -> Result<Vec<u8>, Error>
         ensures names { KeepsTable self.old self.new }
+        ensures told { KeepsTold self.old self.new }
         ensures files { KeepsFiles (store_of self.old) (store_of self.new) }
         ensures given { KeepsGiven self.old self.new }
     {
@@ -128,7 +132,8 @@ impl<R: Rng + Drop> Journaled<R> {
     ///
     /// Those of the layer's read.
     pub fn read_file(&mut self, file: &FileBlob, offset: u64, buf: &mut [u8]) -> Result<(), Error>
-        ensures { KeepsTable self.old self.new }
+        ensures names { KeepsTable self.old self.new }
+        ensures told { KeepsTold self.old self.new }
     {
         leaves::same_bytes::<blob_memory::Storage, R>();
         file.blob.read_into(&mut self.store, offset, buf)
@@ -145,7 +150,8 @@ impl<R: Rng + Drop> Journaled<R> {
         offset: u64,
         bytes: &[u8],
     ) -> Result<(), Error>
-        ensures { KeepsTable self.old self.new }
+        ensures names { KeepsTable self.old self.new }
+        ensures told { KeepsTold self.old self.new }
     {
         self.check(file)?;
         leaves::other_blobs::<blob_memory::Storage, R>();
@@ -161,6 +167,7 @@ impl<R: Rng + Drop> Journaled<R> {
     /// `Closed` for a blob whose number this store hasn't given. Those of the layer's resize, which may leave a part of it.
     pub fn resize_file(&mut self, file: &mut FileBlob, length: u64) -> Result<(), Error>
         ensures names { KeepsTable self.old self.new }
+        ensures told { KeepsTold self.old self.new }
         ensures files { KeepsFilesOf file.old self.old self.new }
         ensures given { KeepsFile file.old self.old file.new self.new }
     {
@@ -176,6 +183,7 @@ impl<R: Rng + Drop> Journaled<R> {
     /// `Closed` for a blob whose number this store hasn't given. Those of the layer's sync. Nothing is durable that was not.
     pub fn sync_file(&mut self, file: &mut FileBlob) -> Result<(), Error>
         ensures names { KeepsTable self.old self.new }
+        ensures told { KeepsTold self.old self.new }
         ensures files { KeepsFiles (store_of self.old) (store_of self.new) }
         ensures journal { KeepsJournal self.old self.new }
         ensures given { KeepsFile file.old self.old file.new self.new }

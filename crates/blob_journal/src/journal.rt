@@ -1,17 +1,17 @@
 //! The journal: a blob with one edit in each sector.
-ghost use Rattle.std.specs.Prelude.{◌≡◌, ◌+◌, ◌*◌, ◌<◌, ◌/◌, Some, None, [], true, codes, length, IfOk, OnOk, OnErr};
+ghost use Rattle.std.specs.Prelude.{◌≡◌, ◌+◌, ◌*◌, ◌++◌, ◌∷◌, ◌<◌, ◌/◌, Some, None, [], true, false, codes, length, IfOk, OnOk, OnErr};
 ghost use Rattle.std.specs.Int.{w64, to_be_bytes};
 ghost use Rattle.blob_model.specs.Bytes.{write_live};
 ghost use Rattle.blob_model.specs.Directory.{current, is_current};
 ghost use Rattle.blob_model.specs.Places.{Place};
 ghost use Rattle.blob_directory.specs.Names.{edit_of};
-ghost use Rattle.blob_directory.specs.Sectors.{sector_of};
+ghost use Rattle.blob_directory.specs.Sectors.{found_in, sector_of};
 ghost use Rattle.blob_memory.specs.Store.{directory, durable, place};
 ghost use Rattle.blob_faulty.specs.Wrapper.{inner_of, inside};
 ghost use Rattle.blob_journal.specs.Currents.{BeginsAs, FindsNoMore, FindsNoMoreBut, FixesBytes, IsGiven, KeepsCurrent, KeepsFiles, KeepsNext, SameDirectory, SamePending};
 ghost use Rattle.blob_journal.specs.Draws.{DrawsSectors};
 ghost use Rattle.blob_journal.specs.Found.{HasSectors};
-ghost use Rattle.blob_journal.specs.Keeping.{bytes_in, with_sector};
+ghost use Rattle.blob_journal.specs.Keeping.{bytes_in, told_by, with_sector};
 ghost use Rattle.blob_journal.specs.Settling.{Changes, with_settled};
 
 use crate::store::{Handle, JOURNALS, Store, open, read_all};
@@ -106,6 +106,7 @@ impl Journal {
         ensures sector { IfOk result (λ sector. sector ≡ self.old.sectors) }
         ensures refused { OnErr result (bytes_in self.new ≡ bytes_in self.old) }
         ensures unmoved { OnErr result (self.new.sectors ≡ self.old.sectors) }
+        ensures told { OnOk result (HasSectors store.old self.old → told_by self.new ≡ told_by self.old ++ found_in (sector_of (edit_of edit.now) false) ∷ []) }
         ensures left { HasSectors store.old self.old → HasSectors store.new self.new }
     {
         let sector = self.sectors;

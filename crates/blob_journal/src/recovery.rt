@@ -20,7 +20,7 @@ use std::collections::BTreeMap;
 impl<R: Rng + Drop> Journaled<R> {
     ghost use Rattle.blob_journal.specs.Currents.{KeepsFiles, Represents};
     ghost use Rattle.blob_journal.specs.Journals.{FindsNames, GivesNames, store_of};
-    ghost use Rattle.blob_journal.specs.Keeping.{KeepsTable, names_in, table_in};
+    ghost use Rattle.blob_journal.specs.Keeping.{FindsTold, KeepsTable, KeepsTold, names_in, table_in};
 
     /// Returns the names that the journal gives and the root reaches, and of each edit that nothing settled whether the
     /// journal has it. Calls still see the names of before. From here on the store draws nothing.
@@ -34,6 +34,8 @@ impl<R: Rng + Drop> Journaled<R> {
         ensures again { IfOk result (λ r. GivesNames self.old → Finds (bound r.0.names) (names_in self.old)) }
         ensures names { KeepsTable self.old self.new }
         ensures files { KeepsFiles (store_of self.old) (store_of self.new) }
+        ensures told { KeepsTold self.old self.new }
+        ensures kept { IfOk result (λ r. FindsTold self.old keeps (bound r.0.names)) }
     {
         self.store.set_config(Config::default());
         let generation = self.journal.generation;
@@ -64,6 +66,7 @@ impl<R: Rng + Drop> Journaled<R> {
         ensures done { OnOk result (table_in self.new ≡ tree.names) }
         ensures gives { OnOk result (FitsJournal tree → Represents (store_of self.old) → GivesNames self.new) }
         ensures refused { OnErr result (KeepsTable self.old self.new) }
+        ensures untold { OnErr result (KeepsTold self.old self.new) }
     {
         leaves::same_bytes::<blob_memory::Storage, R>();
         let old = self.journal.generation;

@@ -1,5 +1,5 @@
 use Rattle.blob_journal.proofs.Draws.{IsLoose}
-use Rattle.std.proofs.Common.{◌≡◌, ◌+◌, ◌*◌, ℕ, List, Bool, false, None, Some, length, ap, ap₂, refl, sym, subst, ◌∙◌, rules}
+use Rattle.std.proofs.Common.{◌≡◌, ◌++◌, ◌∷◌, [], ◌+◌, ◌*◌, ℕ, List, Bool, false, None, Some, length, ap, ap₂, refl, sym, subst, ◌∙◌, rules}
 use Rattle.blob_base.specs.Options.{is_sync}
 use Rattle.blob_header.specs.Refusals.{refusal_of}
 use Rattle.blob_model.specs.Places.{Place}
@@ -10,13 +10,15 @@ use Rattle.blob_draws.specs.declared.config.Config.{Config}
 use Rattle.blob_faulty.specs.Keeps.{OverMemory}
 use Rattle.blob_faulty.specs.Wrapper.{config_of, inner_of, inside, next_write_of, rng_of}
 use Rattle.blob_directory.specs.Names.{edit_of}
-use Rattle.blob_directory.specs.Sectors.{sector_of}
+use Rattle.blob_directory.specs.Profiles.{found_in_all}
+use Rattle.blob_directory.specs.Sectors.{found_in, sector_of}
 use Rattle.blob_directory.proofs.Checkpoints.{sector_long}
 use Rattle.blob_journal.specs.Currents.{FindsOnly}
 use Rattle.blob_journal.specs.Draws.{DrawsSectors}
 use Rattle.blob_journal.specs.Sectors.{is_settled, may_be_found}
 use Rattle.blob_journal.proofs.Draws.{done_entries, refused_entries, refused_live}
 use Rattle.blob_journal.proofs.Found.{no_more_set, nothing_added, on_err, sector_added}
+use Rattle.blob_journal.proofs.Growing.{told_added}
 use Rattle.blob_journal.proofs.Listed.{unset}
 use Rattle.blob_journal.proofs.Sectors.{long_added}
 use Rattle.blob_journal.proofs.journal.Journal.add.Goals as goal
@@ -86,3 +88,16 @@ returns-clause-left g c = λ h.
           (subst (λ (l : List ℕ). FindsOnly new (place (inside c.write_from.new.self)) (may_be_found (n + 1) l)) (sym now)
           (subst (λ (o : Place). FindsOnly new o (may_be_found (n + 1) (write_live old (n * 1024) bytes))) (sym w.place) found));
     }
+
+pub returns-clause-told : goal.returns-clause-told
+returns-clause-told g c = λ h.
+    let bytes = c.deref.result.now in
+    let n = c.args.self.now.sectors in
+    let old : List ℕ = live (inside c.args.self.now.blob) in
+    let new : List ℕ = live (inside c.write_from.new.self) in
+    let same : bytes ≡ sector_of (edit_of c.args.edit.now) false = c.deref.ensures.value ∙ c.in_ok-bytes.ensures in
+    let size : length bytes ≡ 1024 = ap (λ (l : List ℕ). length l) same ∙ sector_long (edit_of c.args.edit.now) false in
+    let now : new ≡ write_live old (n * 1024) bytes = first_of (search rules, cc) in
+    let next : c.in-Some-checked_add.next ≡ n + 1 = (c.in-Some-checked_add.ensures).1 in
+    let long : length new ≡ (n + 1) * 1024 = ap (λ (l : List ℕ). length l) now ∙ long_added n old bytes h.whole size in
+    ap (λ (m : ℕ). found_in_all m new) next ∙ told_added n old new bytes h.whole long size now ∙ ap (λ (l : List ℕ). found_in_all n old ++ found_in l ∷ []) same

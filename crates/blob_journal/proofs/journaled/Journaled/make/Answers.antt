@@ -1,3 +1,8 @@
+use Rattle.std.proofs.Common.{List}
+use Rattle.std.proofs.Math.Logic.{∥∥₁_elim}
+use Rattle.blob_directory.specs.Profiles.{found_in_all}
+use Rattle.blob_journal.proofs.Growing.{told_prop}
+use Rattle.blob_journal.proofs.Found.{on_err}
 use Rattle.std.proofs.Math.Logic.{∥∥₁_map}
 use Rattle.blob_memory.specs.Store.{directory}
 use Rattle.blob_faulty.specs.Wrapper.{inner_of}
@@ -28,3 +33,9 @@ invariant_of-self-2 g c = record {
       c.push_reserved.ensures.items c.reserve.ensures.items
       c.in_ok-sector.ensures.bytes c.in_ok-sector.ensures.sectors c.in_ok-sector.ensures.sector (c.add.ensures.left k.sectors) k);
 }
+
+pub returns-in_err-sector-clause-untold : goal.returns-in_err-sector-clause-untold
+returns-in_err-sector-clause-untold g c = on_err _ _ (ap₂ (λ (n : ℕ) (l : List ℕ). found_in_all n l) c.in_err-sector.ensures.unmoved c.in_err-sector.ensures.refused)
+
+pub returns-clause-told : goal.returns-clause-told
+returns-clause-told g c = ∥∥₁_elim c.args.self.now.kept (told_prop _ _) (λ k. c.in_ok-sector.ensures.told k.sectors)

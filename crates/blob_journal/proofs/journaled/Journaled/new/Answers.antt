@@ -5,7 +5,8 @@ use Rattle.blob_model.specs.Directory.{Directory}
 use Rattle.blob_model.specs.Files.{wrap}
 use Rattle.blob_model.specs.Pending.{Pending}
 use Rattle.blob_model.specs.Places.{Place}
-use Rattle.blob_memory.specs.Store.{directory, durable, place}
+use Rattle.blob_directory.specs.Profiles.{found_in_all}
+use Rattle.blob_memory.specs.Store.{directory, durable, live, place}
 use Rattle.blob_memory.specs.declared.storage.Storage as memory
 use Rattle.blob_faulty.specs.Keeps.{bytes_found}
 use Rattle.blob_faulty.specs.Wrapper.{inner_of, inside, next_marker_of, next_write_of}
@@ -35,3 +36,14 @@ invariant_of-result g c =
       given = omega arith;
       kept = ∣ fixed_kept opened journal _ [] files o.current o.given fixed (o.bytes ∙ none) refl (o.sectors ∙ ap (λ (l : List ℕ). length l / 1024) none) c.new-2.ensures.items ∣₁;
     }
+
+pub returns-clause-told : goal.returns-clause-told
+returns-clause-told g c =
+    let store = c.new-store.result in
+    let journal = c.in_ok-journal.journal in
+    let bytes = c.in_ok-journal.field-0-1 in
+    let o = c.in_ok-journal.ensures in
+    let empty : (directory (inner_of store)).file (codes "j") (to_be_bytes w64 0) ≡ None =
+    ap (λ (s : memory.Storage). (directory s).file (codes "j") (to_be_bytes w64 0)) c.new-store.ensures.inner ∙ ap (λ (d : Directory). d.file (codes "j") (to_be_bytes w64 0)) c.new-memory.ensures.directory in
+    let none : bytes.items ≡ [] = o.begun empty in
+    ap (λ (n : ℕ). found_in_all n (live (inside journal.blob))) (o.sectors ∙ ap (λ (l : List ℕ). length l / 1024) none)

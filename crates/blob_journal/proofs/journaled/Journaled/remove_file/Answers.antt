@@ -44,6 +44,7 @@ returns-clause-journal g c =
       pending = c.remove.ensures.pending at other;
       files = c.remove.ensures.files;
       unsettled = refl;
+      told = refl;
     }
 
 pub invariant_of-self : goal.invariant_of-self

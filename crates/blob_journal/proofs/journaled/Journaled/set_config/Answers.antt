@@ -21,6 +21,7 @@ returns-clause-journal g c =
       pending = ap (λ (s : OverMemory g.row.R.Denot). pending_at s at) set;
       files = λ r. (r.0, c.set_config.ensures.files r.0 r.1);
       unsettled = refl;
+      told = refl;
     }
 
 pub invariant_of-self : goal.invariant_of-self

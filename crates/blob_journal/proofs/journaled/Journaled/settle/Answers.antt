@@ -1,9 +1,12 @@
 use Rattle.std.proofs.Common.{not, rules}
-use Rattle.std.proofs.Math.Logic.{∥∥₁_map}
+use Rattle.std.proofs.Math.Logic.{∥∥₁_elim, ∥∥₁_map}
 use Rattle.std.proofs.lemmas.Fn.{filter_same}
 use Rattle.blob_memory.specs.Store.{directory}
 use Rattle.blob_faulty.specs.Wrapper.{inner_of}
 use Rattle.blob_journal.specs.Found.{IsKept}
+use Rattle.blob_journal.specs.Keeping.{told_by}
+use Rattle.blob_journal.specs.Told.{is_marked_in, settled_in}
+use Rattle.blob_journal.proofs.Growing.{grows_prop, grows_same, told_prop}
 use Rattle.blob_journal.proofs.Found.{filtered_kept, marked_kept, same_next, still_given}
 use Rattle.std.proofs.Common.{ap, ap₂, sym, ◌∙◌, ℕ}
 use Rattle.std.specs.Int.{w64, to_be_bytes}
@@ -99,4 +102,33 @@ returns-clause-settled g c =
       wants = m.wants;
       exactly = subst (λ (l : List Unsettled). Wants c.args.settles c.args.synced l m.wants) value m.exactly;
       journal = subst (λ (l : List Unsettled). Changes self.store c.settle_marked.new.store (place (inside self.journal.blob)) (all_settled l)) same c.in_ok-settle_marked.ensures.settled;
+      told = ∥∥₁_elim self.kept (told_prop _ _) (λ k. c.in_ok-settle_marked.ensures.told (marked_kept self.store self.journal edits c.deref.result.now m.wants same k)
+          ∙ ap (λ (es : List Unsettled). settled_in (is_marked_in es) 0 (told_by self.journal)) same);
     }
+
+pub returns-in_err-want-clause-grows : goal.returns-in_err-want-clause-grows
+returns-in_err-want-clause-grows g c = grows_same (told_by c.args.self.now.journal)
+
+pub returns-in_err-settle_marked-clause-grows : goal.returns-in_err-settle_marked-clause-grows
+returns-in_err-settle_marked-clause-grows g c =
+    let self = c.args.self.now in
+    let edits : List Unsettled = self.unsettled.items in
+    let m = c.in_ok-want.ensures.marks in
+    let value : c.deref_mut.result.now ≡ edits = c.deref_mut.ensures.value in
+    let same : c.deref.result.now ≡ map (marked m.wants) edits =
+    c.deref.ensures.value
+    ∙ whole c.want.new.edits edits self.unsettled.len (ap (λ (l : List Unsettled). length l) m.is ∙ length-map c.deref_mut.result.now (marked m.wants) ∙ ap (λ (l : List Unsettled). length l) value) self.unsettled.ok.0
+    ∙ m.is ∙ ap (map (marked m.wants)) value in
+    ∥∥₁_elim self.kept (grows_prop _ _) (λ k. c.settle_marked.ensures.grows (marked_kept self.store self.journal edits c.deref.result.now m.wants same k))
+
+pub returns-clause-grows : goal.returns-clause-grows
+returns-clause-grows g c =
+    let self = c.args.self.now in
+    let edits : List Unsettled = self.unsettled.items in
+    let m = c.in_ok-want.ensures.marks in
+    let value : c.deref_mut.result.now ≡ edits = c.deref_mut.ensures.value in
+    let same : c.deref.result.now ≡ map (marked m.wants) edits =
+    c.deref.ensures.value
+    ∙ whole c.want.new.edits edits self.unsettled.len (ap (λ (l : List Unsettled). length l) m.is ∙ length-map c.deref_mut.result.now (marked m.wants) ∙ ap (λ (l : List Unsettled). length l) value) self.unsettled.ok.0
+    ∙ m.is ∙ ap (map (marked m.wants)) value in
+    ∥∥₁_elim self.kept (grows_prop _ _) (λ k. c.settle_marked.ensures.grows (marked_kept self.store self.journal edits c.deref.result.now m.wants same k))

@@ -61,6 +61,7 @@ returns-in_err-sync-clause-journal g c =
       pending = (c.in_err-sync.ensures.leaves.unrecorded refl).pending at;
       files = λ r. (r.0, c.in_err-sync.ensures.leaves.same_files refl r.0 r.1);
       unsettled = refl;
+      told = refl;
     }
 
 pub returns-clause-journal : goal.returns-clause-journal
@@ -79,4 +80,5 @@ returns-clause-journal g c =
             (c.in_ok-sync.ensures.leaves.published refl r.0 r.1),
       );
       unsettled = refl;
+      told = refl;
     }
