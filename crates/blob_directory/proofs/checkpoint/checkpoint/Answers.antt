@@ -5,7 +5,7 @@ use Rattle.blob_directory.specs.Checkpoints.{bindings_in, settled_sectors}
 use Rattle.blob_directory.specs.Names.{Names}
 use Rattle.blob_directory.specs.Tables.{bound}
 use Rattle.blob_directory.specs.Trees.{has_directory}
-use Rattle.blob_directory.proofs.Checkpoints.{AmongKeys, Listed, among_keys, written_all, written_more, written_none, written_whole}
+use Rattle.blob_directory.proofs.Checkpoints.{AmongKeys, Listed, among_keys, written_all, written_more, written_none, written_settled, written_whole}
 use Rattle.blob_directory.proofs.checkpoint.checkpoint.Goals as goal
 
 pub loop-directory-init : goal.loop-directory-init
@@ -37,3 +37,6 @@ returns-clause-gives c =
 
 pub returns-clause-whole : goal.returns-clause-whole
 returns-clause-whole c = written_whole (bound c.args.tree.now.names) (has_directory c.args.tree.now) c.loop-directory.directory-iterator c.loop-directory.bytes.items c.loop-directory.invariant
+
+pub returns-clause-settled : goal.returns-clause-settled
+returns-clause-settled c = λ fits. written_settled (bound c.args.tree.now.names) (has_directory c.args.tree.now) c.loop-directory.directory-iterator c.loop-directory.bytes.items c.loop-directory.invariant fits.sectors
