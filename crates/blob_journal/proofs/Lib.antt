@@ -2,6 +2,7 @@ pub mod Sectors
 pub mod Listed
 pub mod Told
 pub mod Growing
+pub mod Lasting
 pub mod Draws
 pub mod Currents
 pub mod Overlays

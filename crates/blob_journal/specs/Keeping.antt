@@ -8,6 +8,7 @@ use Rattle.blob_directory.specs.declared.table.Table.{Table}
 use Rattle.blob_directory.specs.Names.{Edit, Names, Same, edited}
 use Rattle.blob_directory.specs.Profiles.{found_in_all}
 use Rattle.blob_directory.specs.Sectors.{Found, found_in, sector_of}
+use Rattle.blob_directory.specs.Settled.{AreSettled}
 use Rattle.blob_directory.specs.Tables.{bound}
 use Rattle.blob_directory.specs.Trees.{Finds}
 use Rattle.blob_directory.specs.declared.profile.Keeps.{Keeps}
@@ -83,3 +84,8 @@ GrowsTold j j' = Grows (told_in j) (told_in j')
 pub record FindsTold {R : Type 0} (j : Journaled R) (keeps : Keeps) (names : Names) : Type 0 where
   pub chosen : ℕ → Bool
   pub finds : Finds names (names_kept keeps chosen (told_in j))
+
+-- all edits that were told are settled, and they give the names that calls see, by every profile, whatever a crash loses
+pub record GivesTold {R : Type 0} (j : Journaled R) : Type 0 where
+  pub settled : AreSettled (told_in j)
+  pub names : (keeps : Keeps) (chosen : ℕ → Bool) → Same (names_kept keeps chosen (told_in j)) (names_in j)

@@ -1,12 +1,13 @@
 -- The edits of a journal as they were told, and those of them that a crash keeps.
-use Rattle.std.specs.Prelude.{◌≡◌, ℕ, suc, Bool, true, false, ◌&&◌, ◌||◌, List, [], ◌∷◌, Option, Some, None, option_map, if◌then◌else◌, nat_eq}
+use Rattle.std.specs.Prelude.{◌≡◌, ℕ, suc, Bool, true, false, ◌&&◌, ◌||◌, List, [], ◌∷◌, ◌++◌, length, drop, Option, Some, None, option_map, if◌then◌else◌, nat_eq}
 use Rattle.std.specs.List.{list_any}
 use Rattle.std.specs.Str.{bytes_eq}
 use Rattle.blob_directory.specs.declared.profile.Keeps.{Keeps}
 use Rattle.blob_directory.specs.declared.unsettled.Unsettled.{Unsettled}
-use Rattle.blob_directory.specs.Names.{Edit, Names, all_edited}
+use Rattle.blob_directory.specs.Names.{Edit, Names, all_edited, edited}
 use Rattle.blob_directory.specs.Profiles.{kept_edits}
 use Rattle.blob_directory.specs.Sectors.{Found}
+use Rattle.blob_directory.specs.Settled.{IsBeside, changes_entry}
 use Rattle.blob_journal.specs.Sectors.{sector_at}
 
 -- a crash loses no settled edit, and of the others those in sectors that it doesn't choose
@@ -58,3 +59,28 @@ abbrev pub Grows : List Found → List Found → Type 0
 Grows [] told' = Unit {0}
 Grows (found ∷ told) [] = ⊥
 Grows (found ∷ told) (found' ∷ told') = Stays found found' × Grows told told'
+
+-- of the edits that were told this one is settled and changes the entry, and no later one does
+pub record IsLastTold (told : List Found) (edit : Edit) (e : List ℕ) : Type 0 where
+  pub before : List Found
+  pub after : List Found
+  pub is : told ≡ before ++ Some (edit, true) ∷ after
+  pub changes : changes_entry e edit ≡ true
+  pub beside : IsBeside e after
+
+-- then the entry has what this edit made of it, whatever a crash loses
+abbrev pub SettledIsKept : Type 0
+SettledIsKept = (keeps : Keeps) (chosen : ℕ → Bool) (told : List Found) (edit : Edit) (e : List ℕ) → IsLastTold told edit e
+    → names_kept keeps chosen told e ≡ edited (λ _. None) edit e
+
+-- and it stays so through later calls, unless one of their edits changes the entry
+abbrev pub SettledStays : Type 0
+SettledStays = (told told' : List Found) (edit : Edit) (e : List ℕ) → IsLastTold told edit e → Grows told told' → IsBeside e (drop (length told) told')
+    → IsLastTold told' edit e
+
+-- calls one after another
+abbrev pub GrowsOn : Type 0
+GrowsOn = (a b c : List Found) → Grows a b → Grows b c → Grows a c
+
+abbrev pub GrowsSame : Type 0
+GrowsSame = (told : List Found) → Grows told told

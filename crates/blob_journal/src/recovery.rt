@@ -20,7 +20,7 @@ use std::collections::BTreeMap;
 impl<R: Rng + Drop> Journaled<R> {
     ghost use Rattle.blob_journal.specs.Currents.{KeepsFiles, Represents};
     ghost use Rattle.blob_journal.specs.Journals.{FindsNames, GivesNames, store_of};
-    ghost use Rattle.blob_journal.specs.Keeping.{FindsTold, KeepsTable, KeepsTold, names_in, table_in};
+    ghost use Rattle.blob_journal.specs.Keeping.{FindsTold, GivesTold, KeepsTable, KeepsTold, names_in, table_in};
 
     /// Returns the names that the journal gives and the root reaches, and of each edit that nothing settled whether the
     /// journal has it. Calls still see the names of before. From here on the store draws nothing.
@@ -65,6 +65,7 @@ impl<R: Rng + Drop> Journaled<R> {
     pub fn renew(&mut self, tree: Tree) -> Result<BTreeMap<u64, u64>, Error>
         ensures done { OnOk result (table_in self.new ≡ tree.names) }
         ensures gives { OnOk result (FitsJournal tree → Represents (store_of self.old) → GivesNames self.new) }
+        ensures told { OnOk result (FitsJournal tree → GivesTold self.new) }
         ensures refused { OnErr result (KeepsTable self.old self.new) }
         ensures untold { OnErr result (KeepsTold self.old self.new) }
     {

@@ -1,3 +1,10 @@
+use Rattle.std.proofs.Common.{None}
+use Rattle.blob_directory.specs.Names.{all_edited}
+use Rattle.blob_directory.specs.Profiles.{found_in_all, kept_edits}
+use Rattle.blob_directory.specs.Sectors.{Found}
+use Rattle.blob_directory.specs.Settled.{AreSettled}
+use Rattle.blob_journal.specs.Told.{names_kept}
+use Rattle.blob_journal.proofs.Lasting.{none_lost}
 use Rattle.std.proofs.Common.{◌<◌, ◌≤◌, ◌/◌, length}
 use Rattle.std.proofs.Math.Logic.{∥∥₁_map}
 use Rattle.blob_model.specs.Places.{same_place}
@@ -182,4 +189,24 @@ returns-clause-gives g c =
         fixed = fixed_same c.begin.new.store c.remove.new.store at c.in_ok-bytes.bytes.items (c.remove.ensures.bytes at other) (c.remove.ensures.pending at other) bytes;
       };
       gives = c.in_ok-bytes.ensures.gives fits;
+    }
+
+pub returns-clause-told : goal.returns-clause-told
+returns-clause-told g c = λ fits.
+    let b = c.in_ok-begin.ensures in
+    let found = c.in_ok-journal.found in
+    let bytes : List ℕ = c.in_ok-bytes.bytes.items in
+    let empty : c.is_empty.result ≡ true = search rules in
+    let none : vec_len found ≡ 0 = eqb-true (vec_len found) 0 (sym c.is_empty.ensures ∙ empty) in
+    let nothing : found.items ≡ [] = nil_from_length found.items (sym found.ok.0 ∙ none) in
+    let there : live (inside c.begin.new.self.blob) ≡ bytes = b.live (c.in_ok-journal.ensures.bytes ∙ nothing) ∙ c.deref.ensures.value in
+    let count : c.begin.new.self.sectors ≡ length bytes / 1024 = b.sectors ∙ ap (λ (l : List ℕ). length l / 1024) c.deref.ensures.value in
+    let told : found_in_all c.begin.new.self.sectors (live (inside c.begin.new.self.blob)) ≡ found_in_all (length bytes / 1024) bytes =
+    ap₂ (λ (n : ℕ) (l : List ℕ). found_in_all n l) count there in
+    let settled : AreSettled (found_in_all (length bytes / 1024) bytes) = c.in_ok-bytes.ensures.settled fits in
+    record {
+      settled = subst AreSettled (sym told) settled;
+      names = λ keeps chosen e. ap (λ (l : List Found). names_kept keeps chosen l e) told
+          ∙ ap (λ (l : List Found). all_edited (λ _. None) (kept_edits keeps false l) e) (none_lost chosen 0 (found_in_all (length bytes / 1024) bytes) settled)
+          ∙ c.in_ok-bytes.ensures.gives fits keeps e;
     }
