@@ -14,8 +14,9 @@ use Rattle.std.proofs.lemmas.List.{length-replicate, length-take, take_more}
 use Rattle.std.proofs.lemmas.List.Elements.{All-append, All-cons, All-contains, All-head, All-nil, All-tail, Contains-append_cases, Contains-append_left, Contains-append_right, Contains-push}
 use Rattle.blob_directory.specs.declared.edit.Binding.{Binding}
 use Rattle.blob_directory.specs.declared.profile.Keeps.{Keeps}
-use Rattle.blob_directory.specs.Checkpoints.{Bindings, FitSectors, bindings_in, settled_sectors}
+use Rattle.blob_directory.specs.Checkpoints.{Bindings, FitSectors, HasWholeSectors, bindings_in, settled_sectors}
 use Rattle.blob_directory.specs.Names.{Edit, Names, Same, all_edited, changed, entry}
+use Rattle.blob_directory.specs.Settled.{AreSettled}
 use Rattle.blob_directory.specs.Tables.{HasName}
 use Rattle.blob_directory.specs.Profiles.{edits_of, found_in_all, kept_edits, names_told}
 use Rattle.blob_directory.specs.Sectors.{FitsSector, Found, edit_bytes, filled, found_in, sector_of}
@@ -245,3 +246,21 @@ written_all names has left bytes none w fit places keeps =
     subst (λ k. Contains w.list (k, to)) (sym at.2)
     (⊎_elim (λ x. x) (λ x. absurd (subst (λ l. AmongKeys l at.0) none x)) (w.all at.0 at.1 to at.3 (ap names (sym at.2) ∙ h))))
     keeps)
+
+whole_by : (n m : ℕ) → n ≡ m * 1024 → n / 1024 * 1024 ≡ n
+whole_by n m e = omega (arith, e)
+
+pub written_whole : (names : Names) (has : ℕ → Bool) (left : List (ℕ × ℕ)) (bytes : List ℕ) → Written names has left bytes → HasWholeSectors bytes
+written_whole names has left bytes w = whole_by (length bytes) (length w.list) (ap (λ (l : List ℕ). length l) w.is ∙ sectors_long w.list)
+
+founds_settled : (bs : Bindings) → AreSettled (founds_for bs)
+founds_settled [] = tt
+founds_settled (b ∷ bs) = (refl, founds_settled bs)
+
+pub written_settled : (names : Names) (has : ℕ → Bool) (left : List (ℕ × ℕ)) (bytes : List ℕ) → Written names has left bytes → FitSectors names → AreSettled (found_in_all (length bytes / 1024) bytes)
+written_settled names has left bytes w fit =
+    let fits : All (λ b. FitsSector (edit_for b)) w.list = λ k d h. fit _ _ (w.sound k d h) in
+    let found : found_in_all (length bytes / 1024) bytes ≡ founds_for w.list =
+    ap (λ (l : List ℕ). found_in_all (length l / 1024) l) w.is ∙ ap (λ (n : ℕ). found_in_all (n / 1024) (settled_sectors w.list)) (sectors_long w.list)
+    ∙ ap (λ (n : ℕ). found_in_all n (settled_sectors w.list)) (whole (length w.list)) ∙ all_sectors w.list fits in
+    subst AreSettled (sym found) (founds_settled w.list)

@@ -1,10 +1,10 @@
 -- A settled edit counts, and later edits of other entries don't change what it made of its own.
-use Rattle.std.proofs.Common.{◌≡◌, ℕ, Bool, true, false, ◌||◌, not, List, [], ◌∷◌, ◌++◌, Some, None, refl, sym, ap, ◌∙◌, ⊎_elim}
+use Rattle.std.proofs.Common.{◌≡◌, ◌/◌, ℕ, length, Bool, true, false, ◌||◌, not, List, [], ◌∷◌, ◌++◌, Some, None, refl, sym, ap, ◌∙◌, ⊎_elim}
 use Rattle.std.specs.Str.{bytes_eq}
 use Rattle.std.proofs.lemmas.Bool.{cases_Bool, cond-false, cond-true, or_cases, or_parts, both_ways}
 use Rattle.blob_directory.specs.declared.profile.Keeps.{Keeps}
 use Rattle.blob_directory.specs.Names.{Edit, Names, all_edited, changed, edited}
-use Rattle.blob_directory.specs.Profiles.{edits_of, is_prefix, kept_edits}
+use Rattle.blob_directory.specs.Profiles.{found_in_all, is_prefix, kept_edits}
 use Rattle.blob_directory.specs.Sectors.{Found}
 use Rattle.blob_directory.specs.Settled.{IsBeside, SettledIsFound, changes_entry}
 
@@ -60,15 +60,20 @@ behind_beside keeps lost (Some (edit, settled) ∷ found) names e (other, beside
     (λ n. ap (λ l. all_edited names l e) (cond-false counts (edit ∷ more) more n) ∙ behind_beside keeps lost found names e beside)
     (cases_Bool counts)
 
-pub settled_is_found : SettledIsFound
-settled_is_found keeps journal edit e last =
+-- of any edits that were found
+pub settled_counts : (keeps : Keeps) (found before after : List Found) (edit : Edit) (e : List ℕ) → found ≡ before ++ Some (edit, true) ∷ after → changes_entry e edit ≡ true → IsBeside e after
+    → all_edited (λ _. None) (kept_edits keeps false found) e ≡ edited (λ _. None) edit e
+settled_counts keeps found before after edit e is changes beside =
     let none : Names = λ _. None in
-    let rest : List Found = Some (edit, true) ∷ last.after in
-    let parts = kept_parts keeps false last.before rest in
-    let front : List Edit = kept_edits keeps false last.before in
-    let back : List Edit = kept_edits keeps parts.0 last.after in
-    let edits : edits_of keeps journal ≡ front ++ edit ∷ back = ap (kept_edits keeps false) last.sectors ∙ parts.1 in
+    let rest : List Found = Some (edit, true) ∷ after in
+    let parts = kept_parts keeps false before rest in
+    let front : List Edit = kept_edits keeps false before in
+    let back : List Edit = kept_edits keeps parts.0 after in
+    let edits : kept_edits keeps false found ≡ front ++ edit ∷ back = ap (kept_edits keeps false) is ∙ parts.1 in
     ap (λ l. all_edited none l e) edits
     ∙ ap (λ (n : Names). n e) (all_parts none front (edit ∷ back))
-    ∙ behind_beside keeps parts.0 last.after (edited (all_edited none front) edit) e last.beside
-    ∙ edit_here (all_edited none front) none edit e last.changes
+    ∙ behind_beside keeps parts.0 after (edited (all_edited none front) edit) e beside
+    ∙ edit_here (all_edited none front) none edit e changes
+
+pub settled_is_found : SettledIsFound
+settled_is_found keeps journal edit e last = settled_counts keeps (found_in_all (length journal / 1024) journal) last.before last.after edit e last.sectors last.changes last.beside

@@ -1,5 +1,5 @@
 -- A journal that settles names.
-use Rattle.std.specs.Prelude.{◌≡◌, ℕ, true, List, [], ◌∷◌, ◌++◌, Some, Vec}
+use Rattle.std.specs.Prelude.{◌≡◌, ℕ, ◌*◌, ◌/◌, true, List, [], ◌∷◌, ◌++◌, length, Some, Vec}
 use Rattle.std.specs.Global.{Global}
 use Rattle.blob_directory.specs.declared.edit.Binding.{Binding}
 use Rattle.blob_directory.specs.declared.profile.Keeps.{Keeps}
@@ -36,3 +36,7 @@ pub record FitsJournal (tree : Tree) : Type 0 where
 -- a journal gives exactly these names, by every profile
 abbrev pub Gives : List ℕ → Names → Type 0
 Gives journal names = (keeps : Keeps) → Same (names_told keeps journal) names
+
+-- the bytes end with a whole sector
+abbrev pub HasWholeSectors : List ℕ → Type 0
+HasWholeSectors bytes = length bytes / 1024 * 1024 ≡ length bytes

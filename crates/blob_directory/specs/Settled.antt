@@ -29,3 +29,9 @@ pub record IsLastSettled (journal : List ℕ) (edit : Edit) (e : List ℕ) : Typ
 abbrev pub SettledIsFound : Type 0
 SettledIsFound = (keeps : Keeps) (journal : List ℕ) (edit : Edit) (e : List ℕ) → IsLastSettled journal edit e
     → names_told keeps journal e ≡ edited (λ _. None) edit e
+
+-- each edit that was found is settled
+abbrev pub AreSettled : List Found → Type 0
+AreSettled [] = Unit {0}
+AreSettled (None ∷ found) = AreSettled found
+AreSettled (Some (edit, settled) ∷ found) = (settled ≡ true) × AreSettled found

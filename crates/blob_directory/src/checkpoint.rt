@@ -1,6 +1,8 @@
 //! A journal that settles the names of a tree.
-ghost use Rattle.std.specs.Prelude.{◌≡◌, ◌++◌, IfOk, OnOk};
-ghost use Rattle.blob_directory.specs.Checkpoints.{FitsJournal, Gives, bindings_in, settled_sectors};
+ghost use Rattle.std.specs.Prelude.{◌≡◌, ◌++◌, ◌/◌, length, IfOk, OnOk};
+ghost use Rattle.blob_directory.specs.Checkpoints.{FitsJournal, Gives, HasWholeSectors, bindings_in, settled_sectors};
+ghost use Rattle.blob_directory.specs.Profiles.{found_in_all};
+ghost use Rattle.blob_directory.specs.Settled.{AreSettled};
 ghost use Rattle.blob_directory.specs.Tables.{bound};
 
 use crate::edit::{Binding, Edit, entry_of};
@@ -27,7 +29,9 @@ fn put_names(
 
 /// Returns the bytes of a journal that settles the names of a tree. Fails only if memory runs out.
 pub fn checkpoint(alloc: Global, tree: &Tree) -> Result<Vec<u8>, AllocError>
-    ensures { IfOk result (λ bytes. FitsJournal tree.now → Gives bytes.items (bound tree.now.names)) }
+    ensures gives { IfOk result (λ bytes. FitsJournal tree.now → Gives bytes.items (bound tree.now.names)) }
+    ensures whole { IfOk result (λ bytes. HasWholeSectors bytes.items) }
+    ensures settled { IfOk result (λ bytes. FitsJournal tree.now → AreSettled (found_in_all (length bytes.items / 1024) bytes.items)) }
 {
     let mut bytes = Vec::new(alloc);
     for (directory, _) in &tree.directories {

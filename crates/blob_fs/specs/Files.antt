@@ -1,9 +1,10 @@
 -- The names of a file system, and what its calls leave of them.
-use Rattle.std.specs.Prelude.{◌≡◌, ℕ, List, Bool, Option, Some}
+use Rattle.std.specs.Prelude.{◌≡◌, ℕ, List, Bool, Option, None, Some, if◌then◌else◌, option_and_then, option_map, unwrap_or}
 use Rattle.std.specs.BTreeMap.{get}
 use Rattle.std.specs.Ordering.{nat_cmp}
 use Rattle.blob_draws.specs.declared.selections.Selections.{Selections}
 use Rattle.blob_fs.specs.declared.file_system.Descriptor.{Descriptor}
+use Rattle.blob_fs.specs.declared.file_system.File.{File}
 use Rattle.blob_fs.specs.declared.file_system.FileSystem.{FileSystem}
 use Rattle.blob_fs.specs.declared.switches.Syncs.{Syncs}
 use Rattle.blob_fs.specs.declared.switches.Syncs.TheVariants.{Honest}
@@ -14,13 +15,14 @@ use Rattle.blob_directory.specs.declared.unsettled.Synced.TheVariants as synced
 use Rattle.blob_directory.specs.declared.profile.Keeps.{Keeps}
 use Rattle.blob_directory.specs.declared.table.Table.{Table}
 use Rattle.blob_directory.specs.Names.{Edit, Names, Same, edited}
+use Rattle.blob_directory.specs.Sectors.{Found}
 use Rattle.blob_directory.specs.Tables.{bound}
 use Rattle.blob_directory.specs.Trees.{Finds}
 use Rattle.blob_journal.specs.declared.journaled.Journaled.{Journaled}
 use Rattle.blob_journal.specs.Currents.{Represents}
 use Rattle.blob_journal.specs.Journals.{FindsKept as finds_kept, durable_file, FindsNames as finds_names, GivesNames as gives_names, store_of}
 use Rattle.blob_journal.specs.Settling.{KeepsJournal as keeps_journal, SettlesEdits as settles_edits}
-use Rattle.blob_journal.specs.Keeping.{generator_in, table_in, with_generator as with_generator_in}
+use Rattle.blob_journal.specs.Keeping.{AddsTold as adds_told, FindsTold as finds_told, GivesTold as gives_told, GrowsTold as grows_told, KeepsTold as keeps_told, generator_in, table_in, told_in, with_generator as with_generator_in}
 
 -- the names, their journal and the store
 abbrev pub journaled_of : {R : Type 0} → FileSystem R → Journaled R
@@ -140,3 +142,50 @@ SyncsDirectory fs directory fs' = SettlesEdits (settles_of fs) (synced.Directory
 -- all
 abbrev pub SyncsAll : {R : Type 0} → FileSystem R → FileSystem R → Type 0
 SyncsAll fs fs' = SettlesEdits All (synced.Directory 0) fs fs'
+
+-- The edits that the journal was told.
+
+abbrev pub told_of : {R : Type 0} → FileSystem R → List Found
+told_of fs = told_in (journaled_of fs)
+
+-- the same edits were told, and the same are settled
+abbrev pub KeepsTold : {R : Type 0} → FileSystem R → FileSystem R → Type 0
+KeepsTold fs fs' = keeps_told (journaled_of fs) (journaled_of fs')
+
+-- one more edit was told, which nothing has settled
+abbrev pub AddsTold : {R : Type 0} → Edit → FileSystem R → FileSystem R → Type 0
+AddsTold edit fs fs' = adds_told edit (journaled_of fs) (journaled_of fs')
+
+-- edits may have been told, and some settled; no edit has changed, and none is unsettled again
+abbrev pub GrowsTold : {R : Type 0} → FileSystem R → FileSystem R → Type 0
+GrowsTold fs fs' = grows_told (journaled_of fs) (journaled_of fs')
+
+-- after a crash the names are those that it finds by the edits that were told: by all that were settled, and by some of the others, as the profile keeps them
+abbrev pub FindsTold : {R : Type 0} → FileSystem R → FileSystem R → Type 0
+FindsTold fs fs' = finds_told (journaled_of fs) (keeps_of fs) (names_of fs')
+
+-- all edits that were told are settled, and they give the names
+abbrev pub GivesTold : {R : Type 0} → FileSystem R → Type 0
+GivesTold fs = gives_told (journaled_of fs)
+
+-- after some calls, in which no edit was unsettled, a crash found the names by the edits that were told until then
+pub record RunsAndCrashes {R : Type 0} (fs fs' : FileSystem R) : Type 0 where
+  pub between : FileSystem R
+  pub grows : GrowsTold fs between
+  pub finds : FindsTold between fs'
+
+-- A file that isn't gone, by its number, and its sizes.
+
+abbrev pub shown : File → Option File
+shown file = if file.is_gone then None else Some file
+
+abbrev pub file_of : {R : Type 0} → FileSystem R → ℕ → Option File
+file_of fs inode = option_and_then shown (get nat_cmp fs.files inode)
+
+-- its size at its last sync or crash, 0 if there is none
+abbrev pub synced_size : {R : Type 0} → FileSystem R → ℕ → ℕ
+synced_size fs inode = unwrap_or (option_map (λ f. f.synced) (file_of fs inode)) 0
+
+-- its size that the last crash found
+abbrev pub found_size : {R : Type 0} → FileSystem R → ℕ → ℕ
+found_size fs inode = unwrap_or (option_map (λ f. f.found) (file_of fs inode)) 0

@@ -1,6 +1,6 @@
 //! What a client in another language needs: descriptors by their numbers, and the generator.
 ghost use Rattle.std.specs.Prelude.{◌≡◌};
-ghost use Rattle.blob_fs.specs.Files.{KeepsNames, descriptor_number, generator_of, with_generator};
+ghost use Rattle.blob_fs.specs.Files.{KeepsNames, KeepsTold, descriptor_number, generator_of, with_generator};
 
 use crate::file_system::{Descriptor, FileSystem};
 use rand_core::Rng;
@@ -34,6 +34,7 @@ impl<R: Rng + Drop> FileSystem<R> {
         ensures before { result ≡ generator_of self.old }
         ensures set { self.new ≡ with_generator self.old rng }
         ensures names { KeepsNames self.old self.new }
+        ensures told { KeepsTold self.old self.new }
     {
         self.store.replace_rng(rng)
     }

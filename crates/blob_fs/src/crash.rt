@@ -1,6 +1,6 @@
 //! The crash, and the recovery after it.
 ghost use Rattle.std.specs.Prelude.{IfOk, OnErr, OnOk};
-ghost use Rattle.blob_fs.specs.Files.{FindsKept, GivesNames, IsRecovered, KeepsNames, SameNames};
+ghost use Rattle.blob_fs.specs.Files.{FindsKept, FindsTold, GivesNames, GivesTold, IsRecovered, KeepsNames, KeepsTold, SameNames};
 
 use crate::error::FsError;
 use crate::file_system::FileSystem;
@@ -43,6 +43,9 @@ impl<R: Rng + Drop> FileSystem<R> {
         ensures recovered { OnOk result (IsRecovered self.new) }
         ensures again { OnOk result (IsRecovered self.old → SameNames self.old self.new) }
         ensures refused { OnErr result (KeepsNames self.old self.new) }
+        ensures kept { OnOk result (FindsTold self.old self.new) }
+        ensures told { OnOk result (GivesTold self.new) }
+        ensures untold { OnErr result (KeepsTold self.old self.new) }
     {
         found();
         let pending = self.pending_places()?;

@@ -1,6 +1,6 @@
 //! A sync that fails and drops what was unsynced: what reads return after it.
-ghost use Rattle.blob_fs.specs.Files.{KeepsNames};
-ghost use Rattle.blob_journal.specs.Keeping.{KeepsTable};
+ghost use Rattle.blob_fs.specs.Files.{KeepsNames, KeepsTold};
+ghost use Rattle.blob_journal.specs.Keeping.{KeepsTable, KeepsTold as keeps_told};
 
 use crate::error::FsError;
 use crate::file_system::{File, FileSystem};
@@ -17,7 +17,8 @@ impl File {
         alloc: Global,
         store: &mut Journaled<R>,
     ) -> Result<Vec<u8>, Error>
-        ensures { KeepsTable store.old store.new }
+        ensures names { KeepsTable store.old store.new }
+        ensures told { keeps_told store.old store.new }
     {
         let mut bytes = Vec::new(alloc);
         bytes.resize(self.size() as usize, 0)?;
@@ -33,7 +34,8 @@ impl File {
         offset: u64,
         buf: &mut [u8],
     ) -> Result<(), Error>
-        ensures { KeepsTable store.old store.new }
+        ensures names { KeepsTable store.old store.new }
+        ensures told { keeps_told store.old store.new }
     {
         let Some(shown) = &self.shown else {
             return store.read_file(&self.blob, offset, buf);
@@ -89,7 +91,8 @@ impl<R: Rng + Drop> FileSystem<R> {
     ///
     /// `Memory`. The bytes are unsynced as before.
     pub(crate) fn drop_unsynced(&mut self, inode: u64) -> Result<(), FsError>
-        ensures { KeepsNames self.old self.new }
+        ensures names { KeepsNames self.old self.new }
+        ensures told { KeepsTold self.old self.new }
     {
         self.store.set_config(Config::default());
         let Some(file) = self.files.get_mut(&inode) else {
@@ -103,7 +106,8 @@ impl<R: Rng + Drop> FileSystem<R> {
 
     /// Lets reads return the blob's bytes again.
     pub(crate) fn show_blob(&mut self, inode: u64)
-        ensures { KeepsNames self.old self.new }
+        ensures names { KeepsNames self.old self.new }
+        ensures told { KeepsTold self.old self.new }
     {
         let Some(file) = self.files.get_mut(&inode) else {
             return;

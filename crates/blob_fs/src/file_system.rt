@@ -1,6 +1,6 @@
 //! A file system over the fault wrapper.
-ghost use Rattle.std.specs.Prelude.{◌≡◌, None, Some, OnOk, OnErr, IfOk};
-ghost use Rattle.blob_fs.specs.Files.{KeepsJournal, KeepsNames, MakesEdit, SameFiles, SameNames, names_of};
+ghost use Rattle.std.specs.Prelude.{◌≡◌, [], None, Some, OnOk, OnErr, IfOk, option_copied};
+ghost use Rattle.blob_fs.specs.Files.{AddsTold, KeepsJournal, KeepsNames, KeepsTold, MakesEdit, SameFiles, SameNames, file_of, names_of, told_of};
 ghost use Rattle.blob_directory.specs.Names.{Same, edit_of, entry};
 
 use crate::error::FsError;
@@ -106,7 +106,8 @@ impl<R: Rng + Drop> FileSystem<R> {
     ///
     /// `Memory` only.
     pub fn new(alloc: Global, rng: R, options: Options) -> Result<FileSystem<R>, FsError>
-        ensures { IfOk result (λ fs. Same (names_of fs) (λ _. None)) }
+        ensures names { IfOk result (λ fs. Same (names_of fs) (λ _. None)) }
+        ensures told { IfOk result (λ fs. told_of fs ≡ []) }
     {
         let store = Journaled::new(alloc, rng)?;
         let mut directories = BTreeMap::new(alloc);
@@ -138,7 +139,8 @@ impl<R: Rng + Drop> FileSystem<R> {
 
     /// Replaces the options. A write or an edit that is pending keeps the mode and the rate of its issue.
     pub fn set_options(&mut self, options: Options)
-        ensures { KeepsNames self.old self.new }
+        ensures names { KeepsNames self.old self.new }
+        ensures told { KeepsTold self.old self.new }
     {
         self.options = options;
     }
@@ -146,6 +148,7 @@ impl<R: Rng + Drop> FileSystem<R> {
     /// Refuses calls after a recovery that ran out of memory, and lets the wrapper draw the faults of files.
     pub(crate) fn begin_call(&mut self) -> Result<(), FsError>
         ensures names { KeepsNames self.old self.new }
+        ensures told { KeepsTold self.old self.new }
         ensures journal { OnOk result (KeepsJournal self.old self.new) }
         ensures files { SameFiles self.old self.new }
     {
@@ -180,6 +183,8 @@ impl<R: Rng + Drop> FileSystem<R> {
     pub(crate) fn make(&mut self, edit: Edit, about: About) -> Result<(), FsError>
         ensures made { OnOk result (MakesEdit (edit_of edit) self.old self.new) }
         ensures refused { OnErr result (SameNames self.old self.new) }
+        ensures told { OnOk result (AddsTold (edit_of edit) self.old self.new) }
+        ensures untold { OnErr result (KeepsTold self.old self.new) }
     {
         self.gone.reserve(1)?;
         self.store.make(edit, about, self.options.edit_rate)?;
@@ -205,7 +210,9 @@ impl<R: Rng + Drop> FileSystem<R> {
     }
 
     /// Returns a file that isn't gone.
-    pub(crate) fn file(&self, inode: u64) -> Option<&File> {
+    pub(crate) fn file(&self, inode: u64) -> Option<&File>
+        ensures { option_copied result ≡ file_of self.now inode }
+    {
         match self.files.get(&inode) {
             Some(file) if !file.is_gone => Some(file),
             _ => None,

@@ -1,6 +1,6 @@
 //! Open files: their bytes and sizes.
 ghost use Rattle.std.specs.Prelude.{◌≡◌, IfOk, Some};
-ghost use Rattle.blob_fs.specs.Files.{KeepsNames, inode_opened};
+ghost use Rattle.blob_fs.specs.Files.{KeepsNames, KeepsTold, inode_opened};
 
 use crate::error::FsError;
 use crate::file_system::{Descriptor, File, FileSystem};
@@ -44,7 +44,8 @@ impl<R: Rng + Drop> FileSystem<R> {
     ///
     /// `IsDirectory`, `NotFound`, `NoSpace` if no number of a descriptor is left, `Memory`.
     pub fn open_inode(&mut self, inode: u64) -> Result<Descriptor, FsError>
-        ensures { KeepsNames self.old self.new }
+        ensures names { KeepsNames self.old self.new }
+        ensures told { KeepsTold self.old self.new }
     {
         if self.directories.contains_key(&inode) {
             return Err(FsError::IsDirectory);
@@ -68,7 +69,8 @@ impl<R: Rng + Drop> FileSystem<R> {
     /// Opens a file by its number and makes it empty. If that fails, the file isn't open, and its bytes are as the layer's
     /// resize left them. The errors are those of `open_inode` and of `truncate`.
     pub fn open_inode_truncated(&mut self, inode: u64) -> Result<Descriptor, FsError>
-        ensures { KeepsNames self.old self.new }
+        ensures names { KeepsNames self.old self.new }
+        ensures told { KeepsTold self.old self.new }
     {
         self.begin_call()?;
         let file = self.open_inode(inode)?;
@@ -101,7 +103,8 @@ impl<R: Rng + Drop> FileSystem<R> {
     ///
     /// `Stale`, `Memory`. The file is still open.
     pub fn close(&mut self, file: Descriptor) -> Result<(), FsError>
-        ensures { KeepsNames self.old self.new }
+        ensures names { KeepsNames self.old self.new }
+        ensures told { KeepsTold self.old self.new }
     {
         self.begin_call()?;
         let inode = self.inode_of(file)?;
@@ -127,7 +130,8 @@ impl<R: Rng + Drop> FileSystem<R> {
 
     /// Makes a file's bytes durable, and draws nothing.
     pub(crate) fn flush(&mut self, inode: u64) -> Result<(), FsError>
-        ensures { KeepsNames self.old self.new }
+        ensures names { KeepsNames self.old self.new }
+        ensures told { KeepsTold self.old self.new }
     {
         if self.options.syncs == Syncs::Lie {
             return Ok(());
@@ -169,7 +173,8 @@ impl<R: Rng + Drop> FileSystem<R> {
     ///
     /// `Stale`, and `Injected` of the layer's read.
     pub fn read(&mut self, file: Descriptor, offset: u64, buf: &mut [u8]) -> Result<usize, FsError>
-        ensures { KeepsNames self.old self.new }
+        ensures names { KeepsNames self.old self.new }
+        ensures told { KeepsTold self.old self.new }
     {
         self.begin_call()?;
         let inode = self.inode_of(file)?;
@@ -197,7 +202,8 @@ impl<R: Rng + Drop> FileSystem<R> {
 
     /// Counts a file that had one size and has another.
     pub(crate) fn count(&mut self, size: u64, now: u64)
-        ensures { KeepsNames self.old self.new }
+        ensures names { KeepsNames self.old self.new }
+        ensures told { KeepsTold self.old self.new }
     {
         self.used = self.used.saturating_sub(size).saturating_add(now);
     }
@@ -208,7 +214,8 @@ impl<R: Rng + Drop> FileSystem<R> {
     ///
     /// `Stale`; `NoSpace` beyond the limit of bytes; those of the layer's write, which may leave a part of it.
     pub fn write(&mut self, file: Descriptor, offset: u64, bytes: &[u8]) -> Result<(), FsError>
-        ensures { KeepsNames self.old self.new }
+        ensures names { KeepsNames self.old self.new }
+        ensures told { KeepsTold self.old self.new }
     {
         self.begin_call()?;
         let inode = self.inode_of(file)?;
@@ -247,7 +254,8 @@ impl<R: Rng + Drop> FileSystem<R> {
     ///
     /// `Stale`; `NoSpace` beyond the limit of bytes; those of the layer's resize, which may leave a part of it.
     pub fn truncate(&mut self, file: Descriptor, length: u64) -> Result<(), FsError>
-        ensures { KeepsNames self.old self.new }
+        ensures names { KeepsNames self.old self.new }
+        ensures told { KeepsTold self.old self.new }
     {
         self.begin_call()?;
         let inode = self.inode_of(file)?;
@@ -271,7 +279,8 @@ impl<R: Rng + Drop> FileSystem<R> {
 
     /// Truncates a file that an open made empty.
     pub(crate) fn clear(&mut self, file: Descriptor) -> Result<(), FsError>
-        ensures { KeepsNames self.old self.new }
+        ensures names { KeepsNames self.old self.new }
+        ensures told { KeepsTold self.old self.new }
     {
         self.truncate(file, 0)?;
         let inode = self.inode_of(file)?;

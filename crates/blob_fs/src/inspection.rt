@@ -1,6 +1,7 @@
 //! What is unsynced and unsettled, and what a crash found, for a reader that explains a run.
-ghost use Rattle.std.specs.Prelude.{◌≡◌, Some, IfOk};
-ghost use Rattle.blob_fs.specs.Files.{durable_of, journaled_of};
+ghost use Rattle.std.specs.Prelude.{◌≡◌, ◌⊎◌, None, Some, IfErr, IfOk, IsSome, OnOk};
+ghost use Rattle.blob_fs.specs.declared.error.FsError.TheVariants.{NotFound};
+ghost use Rattle.blob_fs.specs.Files.{durable_of, file_of, found_size, journaled_of, synced_size};
 ghost use Rattle.blob_journal.specs.Settling.{unsettled_of};
 
 use crate::error::FsError;
@@ -24,7 +25,9 @@ impl<R: Rng + Drop> FileSystem<R> {
     ///
     /// `NotFound`, `Memory`.
     pub fn durable_bytes_of(&self, inode: u64) -> Result<Vec<u8>, FsError>
-        ensures { IfOk result (λ bytes. durable_of self.now inode ≡ Some bytes.items) }
+        ensures bytes { IfOk result (λ bytes. durable_of self.now inode ≡ Some bytes.items) }
+        ensures found { OnOk result (IsSome (file_of self.now inode)) }
+        ensures missing { IfErr result (λ e. e ≡ NotFound → (file_of self.now inode ≡ None) ⊎ (durable_of self.now inode ≡ None)) }
     {
         if self.file(inode).is_none() {
             return Err(FsError::NotFound);
@@ -36,13 +39,17 @@ impl<R: Rng + Drop> FileSystem<R> {
     }
 
     /// Returns a file's size in bytes at its last sync or crash by its number, 0 if there is no such file.
-    pub fn synced_size_of(&self, inode: u64) -> u64 {
+    pub fn synced_size_of(&self, inode: u64) -> u64
+        ensures { result ≡ synced_size self.now inode }
+    {
         self.file(inode).map_or(0, |file| file.synced)
     }
 
     /// Returns the size in bytes that the last crash found of a file, before the profile truncated it. 0 if the file is newer or
     /// there is no such file.
-    pub fn found_size_of(&self, inode: u64) -> u64 {
+    pub fn found_size_of(&self, inode: u64) -> u64
+        ensures { result ≡ found_size self.now inode }
+    {
         self.file(inode).map_or(0, |file| file.found)
     }
 

@@ -1,6 +1,6 @@
 //! Names by directory: files are created, linked and unlinked, directories are made, removed and listed.
 ghost use Rattle.std.specs.Prelude.{◌≡◌, ◌∷◌, [], None, Some, OnOk, OnErr, IfOk};
-ghost use Rattle.blob_fs.specs.Files.{KeepsNames, MakesEdit, SameNames, fresh_inode, names_of};
+ghost use Rattle.blob_fs.specs.Files.{AddsTold, KeepsNames, KeepsTold, MakesEdit, SameNames, fresh_inode, names_of};
 ghost use Rattle.blob_directory.specs.Names.{binds, directory_at, entry, file, frees};
 ghost use Rattle.blob_directory.specs.Tables.{HasAll, HasOnly};
 
@@ -56,6 +56,8 @@ impl<R: Rng + Drop> FileSystem<R> {
         ensures made { OnOk result (MakesEdit (binds directory name.now (file (fresh_inode self.old))) self.old self.new) }
         ensures free { OnOk result (names_of self.old (entry directory name.now) ≡ None) }
         ensures refused { OnErr result (SameNames self.old self.new) }
+        ensures told { OnOk result (AddsTold (binds directory name.now (file (fresh_inode self.old))) self.old self.new) }
+        ensures untold { OnErr result (KeepsTold self.old self.new) }
     {
         let inode = self.next_inode;
         self.begin_call()?;
@@ -77,7 +79,8 @@ impl<R: Rng + Drop> FileSystem<R> {
 
     /// Adds a new file and opens it.
     fn open_new(&mut self, inode: u64, blob: FileBlob) -> Result<Descriptor, FsError>
-        ensures { KeepsNames self.old self.new }
+        ensures names { KeepsNames self.old self.new }
+        ensures told { KeepsTold self.old self.new }
     {
         self.files.insert(inode, File::new(blob))?;
         match self.open_inode(inode) {
@@ -98,6 +101,8 @@ impl<R: Rng + Drop> FileSystem<R> {
         ensures made { IfOk result (λ d. MakesEdit (binds directory name.now (directory_at d)) self.old self.new) }
         ensures free { OnOk result (names_of self.old (entry directory name.now) ≡ None) }
         ensures refused { OnErr result (SameNames self.old self.new) }
+        ensures told { IfOk result (λ d. AddsTold (binds directory name.now (directory_at d)) self.old self.new) }
+        ensures untold { OnErr result (KeepsTold self.old self.new) }
     {
         self.begin_call()?;
         let entry = self.entry_in(directory, name)?;
@@ -124,6 +129,8 @@ impl<R: Rng + Drop> FileSystem<R> {
         ensures made { OnOk result (MakesEdit (binds directory name.now (file inode)) self.old self.new) }
         ensures free { OnOk result (names_of self.old (entry directory name.now) ≡ None) }
         ensures refused { OnErr result (SameNames self.old self.new) }
+        ensures told { OnOk result (AddsTold (binds directory name.now (file inode)) self.old self.new) }
+        ensures untold { OnErr result (KeepsTold self.old self.new) }
     {
         self.begin_call()?;
         if self.directories.contains_key(&inode) {
@@ -146,7 +153,8 @@ impl<R: Rng + Drop> FileSystem<R> {
     }
 
     pub(crate) fn set_links(&mut self, inode: u64, links: u32)
-        ensures { KeepsNames self.old self.new }
+        ensures names { KeepsNames self.old self.new }
+        ensures told { KeepsTold self.old self.new }
     {
         if let Some(file) = self.files.get_mut(&inode) {
             file.links = links;
@@ -155,7 +163,8 @@ impl<R: Rng + Drop> FileSystem<R> {
 
     /// Takes one name off a file's count. An edit was made just before, so `gone` has capacity.
     pub(crate) fn drop_link(&mut self, inode: u64)
-        ensures { KeepsNames self.old self.new }
+        ensures names { KeepsNames self.old self.new }
+        ensures told { KeepsTold self.old self.new }
     {
         if let Some(file) = self.files.get_mut(&inode) {
             file.links = file.links.saturating_sub(1);
@@ -171,6 +180,8 @@ impl<R: Rng + Drop> FileSystem<R> {
     pub fn unlink_at(&mut self, directory: u64, name: &[u8]) -> Result<(), FsError>
         ensures made { OnOk result (MakesEdit (frees directory name.now) self.old self.new) }
         ensures refused { OnErr result (SameNames self.old self.new) }
+        ensures told { OnOk result (AddsTold (frees directory name.now) self.old self.new) }
+        ensures untold { OnErr result (KeepsTold self.old self.new) }
     {
         self.begin_call()?;
         let entry = self.entry_in(directory, name)?;
@@ -192,6 +203,8 @@ impl<R: Rng + Drop> FileSystem<R> {
     pub fn remove_directory_at(&mut self, directory: u64, name: &[u8]) -> Result<(), FsError>
         ensures made { OnOk result (MakesEdit (frees directory name.now) self.old self.new) }
         ensures refused { OnErr result (SameNames self.old self.new) }
+        ensures told { OnOk result (AddsTold (frees directory name.now) self.old self.new) }
+        ensures untold { OnErr result (KeepsTold self.old self.new) }
     {
         self.begin_call()?;
         let entry = self.entry_in(directory, name)?;

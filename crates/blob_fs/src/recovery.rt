@@ -1,9 +1,9 @@
 //! The recovery: the names from the journal, and the files from their blobs.
 ghost use Rattle.std.specs.Prelude.{◌≡◌, OnOk, OnErr};
-ghost use Rattle.blob_fs.specs.Files.{FindsAgain, FindsNames, GivesNames, KeepsNames, RepresentsFiles};
+ghost use Rattle.blob_fs.specs.Files.{FindsAgain, FindsNames, FindsTold, GivesNames, GivesTold, KeepsNames, KeepsTold, RepresentsFiles};
 ghost use Rattle.blob_journal.specs.Currents.{KeepsFiles};
 ghost use Rattle.blob_journal.specs.Journals.{GivesNames as gives_names, KeepsFilesOf, store_of};
-ghost use Rattle.blob_journal.specs.Keeping.{KeepsTable};
+ghost use Rattle.blob_journal.specs.Keeping.{KeepsTable, KeepsTold as keeps_told};
 
 use crate::error::FsError;
 use crate::file_system::{File, FileSystem};
@@ -39,6 +39,7 @@ fn cut_to<R: Rng + Drop>(
     length: u64,
 ) -> Result<(), Error>
     ensures names { KeepsTable store.old store.new }
+    ensures told { keeps_told store.old store.new }
     ensures files { KeepsFilesOf blob.old store.old store.new }
 {
     store.resize_file(blob, length)?;
@@ -53,6 +54,7 @@ fn cut<R: Rng + Drop>(
     old: &File,
 ) -> Result<(), Error>
     ensures names { KeepsTable store.old store.new }
+    ensures told { keeps_told store.old store.new }
     ensures files { KeepsFilesOf blob.old store.old store.new }
 {
     let size = blob.size();
@@ -76,6 +78,7 @@ fn open_left<R: Rng + Drop>(
     cuts: bool,
 ) -> Result<(FileBlob, u64), Error>
     ensures names { KeepsTable store.old store.new }
+    ensures told { keeps_told store.old store.new }
     ensures files { KeepsFiles (store_of store.old) (store_of store.new) }
 {
     let mut blob = store.open_file(inode)?;
@@ -96,6 +99,7 @@ fn reopen<R: Rng + Drop>(
     cuts: bool,
 ) -> Result<File, Error>
     ensures names { KeepsTable store.old store.new }
+    ensures told { keeps_told store.old store.new }
     ensures files { KeepsFiles (store_of store.old) (store_of store.new) }
 {
     let (blob, found) = open_left(store, inode, old, cuts)?;
@@ -116,6 +120,7 @@ fn reopen_all<R: Rng + Drop>(
     cuts: bool,
 ) -> Result<BTreeMap<u64, File>, FsError>
     ensures names { KeepsTable store.old store.new }
+    ensures told { keeps_told store.old store.new }
     ensures files { KeepsFiles (store_of store.old) (store_of store.new) }
 {
     let mut files = BTreeMap::new(alloc);
@@ -135,6 +140,7 @@ fn remove_unnamed<R: Rng + Drop>(
     files: &BTreeMap<u64, File>,
 )
     ensures names { KeepsTable store.old store.new }
+    ensures told { keeps_told store.old store.new }
     ensures gives { gives_names store.old → gives_names store.new }
 {
     for (inode, _) in old {
@@ -151,6 +157,9 @@ impl<R: Rng + Drop> FileSystem<R> {
         ensures gives { OnOk result (RepresentsFiles self.old → GivesNames self.new) }
         ensures again { OnOk result (FindsAgain self.old self.new) }
         ensures refused { OnErr result (KeepsNames self.old self.new) }
+        ensures kept { OnOk result (FindsTold self.old self.new) }
+        ensures told { OnOk result (GivesTold self.new) }
+        ensures untold { OnErr result (KeepsTold self.old self.new) }
     {
         let (tree, edits) = self.store.find_names(self.options.profile.keeps)?;
         let cuts = self.options.profile.cuts;
@@ -163,7 +172,9 @@ impl<R: Rng + Drop> FileSystem<R> {
     /// Takes the new directories and files. Removes the blobs of files that no name reaches.
     fn begin_life(&mut self, directories: BTreeMap<u64, u64>, files: BTreeMap<u64, File>)
         ensures names { KeepsNames self.old self.new }
+        ensures told { KeepsTold self.old self.new }
         ensures gives { GivesNames self.old → GivesNames self.new }
+        ensures settled { GivesTold self.old → GivesTold self.new }
     {
         remove_unnamed(&mut self.store, &self.files, &files);
         self.used = used_by(&files);

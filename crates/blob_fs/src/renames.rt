@@ -1,6 +1,6 @@
 //! Renames, in one step.
 ghost use Rattle.std.specs.Prelude.{OnOk, OnErr};
-ghost use Rattle.blob_fs.specs.Files.{KeepsNames, MakesEdit, SameNames};
+ghost use Rattle.blob_fs.specs.Files.{AddsTold, GrowsTold, KeepsNames, KeepsTold, MakesEdit, SameNames};
 ghost use Rattle.blob_directory.specs.Names.{exchanges, moves};
 
 use crate::error::FsError;
@@ -64,13 +64,16 @@ impl<R: Rng + Drop> FileSystem<R> {
     ///
     /// `NotFound`; `Exists` for `NoReplace`; `NotDirectory`, `IsDirectory` and `NotEmpty` of what is replaced; `Loop` if
     /// a directory would come below itself; `NotFound` and `NotDirectory` of the directories; those of `check_name`; `Memory`.
+    #[tactic(auto, using(crate::proofs::Growing::grows_kept, crate::proofs::Growing::grows_made, crate::proofs::Growing::grows_from))]
     pub fn rename_at(
         &mut self,
         from: (u64, &[u8]),
         to: (u64, &[u8]),
         how: Rename,
     ) -> Result<(), FsError>
-        ensures { OnErr result (SameNames self.old self.new) }
+        ensures refused { OnErr result (SameNames self.old self.new) }
+        ensures grows { GrowsTold self.old self.new }
+        ensures untold { OnErr result (KeepsTold self.old self.new) }
     {
         self.begin_call()?;
         let old = self.entry_in(from.0, from.1)?;
@@ -92,7 +95,8 @@ impl<R: Rng + Drop> FileSystem<R> {
 
     /// Records that a directory is in another one now.
     fn place(&mut self, binding: Binding, directory: u64)
-        ensures { KeepsNames self.old self.new }
+        ensures names { KeepsNames self.old self.new }
+        ensures told { KeepsTold self.old self.new }
     {
         if let Some(above) = self.directories.get_mut(&binding.inode) {
             *above = directory;
@@ -107,6 +111,8 @@ impl<R: Rng + Drop> FileSystem<R> {
     ) -> Result<(), FsError>
         ensures made { OnOk result (MakesEdit (moves from.0.items to.0.items moved) self.old self.new) }
         ensures refused { OnErr result (SameNames self.old self.new) }
+        ensures told { OnOk result (AddsTold (moves from.0.items to.0.items moved) self.old self.new) }
+        ensures untold { OnErr result (KeepsTold self.old self.new) }
     {
         let about = About {
             inode: moved.inode,
@@ -128,6 +134,8 @@ impl<R: Rng + Drop> FileSystem<R> {
     ) -> Result<(), FsError>
         ensures made { OnOk result (MakesEdit (moves from.0.items to.0.items moved) self.old self.new) }
         ensures refused { OnErr result (SameNames self.old self.new) }
+        ensures told { OnOk result (AddsTold (moves from.0.items to.0.items moved) self.old self.new) }
+        ensures untold { OnErr result (KeepsTold self.old self.new) }
     {
         self.check_replaces(was, moved)?;
         if self.options.profile.flushes {
@@ -148,6 +156,8 @@ impl<R: Rng + Drop> FileSystem<R> {
     ) -> Result<(), FsError>
         ensures made { OnOk result (MakesEdit (exchanges from.0.items to.0.items moved was) self.old self.new) }
         ensures refused { OnErr result (SameNames self.old self.new) }
+        ensures told { OnOk result (AddsTold (exchanges from.0.items to.0.items moved was) self.old self.new) }
+        ensures untold { OnErr result (KeepsTold self.old self.new) }
     {
         if was.kind == Kind::Directory {
             self.check_not_below(was.inode, from.1)?;

@@ -1,5 +1,5 @@
 //! Files that no name and no descriptor refers to.
-ghost use Rattle.blob_fs.specs.Files.{KeepsJournal, KeepsNames};
+ghost use Rattle.blob_fs.specs.Files.{KeepsJournal, KeepsNames, KeepsTold};
 
 use crate::file_system::FileSystem;
 use blob_faulty::Config;
@@ -17,7 +17,8 @@ pub(crate) struct Gone {
 impl<R: Rng + Drop> FileSystem<R> {
     /// Lets a file go if no name and no descriptor refers to it: its bytes don't count any more. `gone` has capacity.
     pub(crate) fn let_go(&mut self, inode: u64)
-        ensures { KeepsNames self.old self.new }
+        ensures names { KeepsNames self.old self.new }
+        ensures told { KeepsTold self.old self.new }
     {
         let edit = self.store.next_edit();
         let Some(file) = self.files.get_mut(&inode) else {
@@ -35,6 +36,7 @@ impl<R: Rng + Drop> FileSystem<R> {
     /// Removes the files that are gone, if all edits from before that are settled. Makes no draw.
     pub(crate) fn remove_gone(&mut self)
         ensures names { KeepsNames self.old self.new }
+        ensures told { KeepsTold self.old self.new }
         ensures journal { KeepsJournal self.old self.new }
     {
         settling::<R>();
@@ -54,6 +56,7 @@ impl<R: Rng + Drop> FileSystem<R> {
     /// Removes a file and its blob. If memory is refused, the blob stays until the next crash.
     pub(crate) fn remove_file(&mut self, inode: u64)
         ensures names { KeepsNames self.old self.new }
+        ensures told { KeepsTold self.old self.new }
         ensures journal { KeepsJournal self.old self.new }
     {
         settling::<R>();

@@ -1,5 +1,5 @@
 //! All files and directories at once, for a reader that looks at the outcome of a test.
-ghost use Rattle.blob_fs.specs.Files.{KeepsNames};
+ghost use Rattle.blob_fs.specs.Files.{KeepsNames, KeepsTold};
 
 use crate::error::FsError;
 use crate::file_system::{FileSystem, ROOT};
@@ -49,7 +49,8 @@ impl<R: Rng + Drop> FileSystem<R> {
     ///
     /// `NotFound`, `Crashed`, `Memory`.
     pub fn bytes_of(&mut self, inode: u64) -> Result<Vec<u8>, FsError>
-        ensures { KeepsNames self.old self.new }
+        ensures names { KeepsNames self.old self.new }
+        ensures told { KeepsTold self.old self.new }
     {
         self.begin_call()?;
         self.store.set_config(Config::default());
@@ -74,7 +75,8 @@ impl<R: Rng + Drop> FileSystem<R> {
     ///
     /// `Crashed`, `Memory`.
     pub fn tree(&mut self) -> Result<Vec<TreeEntry>, FsError>
-        ensures { KeepsNames self.old self.new }
+        ensures names { KeepsNames self.old self.new }
+        ensures told { KeepsTold self.old self.new }
     {
         let mut found = Vec::new(self.alloc);
         let mut left = Vec::new(self.alloc);

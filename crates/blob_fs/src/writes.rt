@@ -1,5 +1,5 @@
 //! Writes of a blob, by which bytes of a failed one are written.
-ghost use Rattle.blob_journal.specs.Keeping.{KeepsTable};
+ghost use Rattle.blob_journal.specs.Keeping.{KeepsTable, KeepsTold};
 
 use crate::file_system::copy_of;
 use crate::switches::FailedWrite;
@@ -26,7 +26,8 @@ pub(crate) fn write_blob<R: Rng + Drop>(
     offset: u64,
     bytes: &[u8],
 ) -> Result<(), Error>
-    ensures { KeepsTable store.old store.new }
+    ensures names { KeepsTable store.old store.new }
+    ensures told { KeepsTold store.old store.new }
 {
     let (FailedWrite::Prefix, Some(writes)) = (how, faults.write_rate) else {
         return store.write_file(blob, offset, bytes);

@@ -70,7 +70,7 @@ file_current d p n (Some (Incarnation k layout version)) o e h =
 pub named_current : (d : Directory) (p n : List ℕ) (o : Place) → current d p n ≡ Some o → is_current d o ≡ true
 named_current d p n o h = file_current d p n (d.file p n) o refl h
 
-same_number : (g : ℕ) → g < 2 ^ 64 → g + 1 < 2 ^ 64 → to_be_bytes w64 g ≡ to_be_bytes w64 (g + 1) → ⊥
+pub same_number : (g : ℕ) → g < 2 ^ 64 → g + 1 < 2 ^ 64 → to_be_bytes w64 g ≡ to_be_bytes w64 (g + 1) → ⊥
 same_number g s t e =
     let same : g ≡ g + 1 = sym (from_be_bytes-to_be_bytes_8 g s) ∙ ap (λ b. from_be_bytes w64 b) e ∙ from_be_bytes-to_be_bytes_8 (g + 1) t in
     absurd (omega arith)

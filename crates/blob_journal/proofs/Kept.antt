@@ -1,15 +1,17 @@
 -- Calls that keep the journal, one after another, and with a sync.
-use Rattle.std.proofs.Common.{◌≡◌, List, ℕ, map, true, subst, ◌∙◌}
+use Rattle.std.proofs.Common.{◌≡◌, List, ℕ, map, true, ap₂, subst, ◌∙◌}
 use Rattle.blob_model.specs.Directory.{is_current}
 use Rattle.blob_model.specs.Places.{Place}
 use Rattle.blob_memory.specs.Store.{directory, durable}
 use Rattle.blob_faulty.specs.Wrapper.{inner_of}
 use Rattle.blob_directory.specs.declared.unsettled.Unsettled.{Unsettled}
+use Rattle.blob_directory.specs.Sectors.{Found}
 use Rattle.blob_directory.specs.Syncs.{Wants, marked}
 use Rattle.blob_journal.specs.declared.journaled.Journaled.{Journaled}
 use Rattle.blob_journal.specs.Currents.{pending_at}
 use Rattle.blob_journal.specs.Journals.{store_of}
 use Rattle.blob_journal.specs.Settling.{Changes, KeepsJournal, KeptTwice, SettledAfter, SettledBefore, all_settled, place_of}
+use Rattle.blob_journal.specs.Told.{is_marked_in, settled_in}
 use Rattle.blob_journal.proofs.Settling.{changes_before, changes_then}
 
 -- the durable bytes of an incarnation, and what is pending of it, stay
@@ -30,6 +32,7 @@ kept_twice R a b c h k =
       pending = x.pending ∙ h.pending;
       files = λ r. k.files (h.files r);
       unsettled = k.unsettled ∙ h.unsettled;
+      told = k.told ∙ h.told;
     }
 
 pub settled_after : (R : Type 0) → SettledAfter R
@@ -44,6 +47,7 @@ settled_after R settles synced a b c h s =
       journal = subst (λ (l : List Unsettled). Changes (store_of a) (store_of c) o (change l)) h.unsettled
           (changes_before (store_of a) (store_of b) (store_of c) o (change b.unsettled.items) h.durable h.pending h.files now
           (subst (λ (p : Place). Changes (store_of b) (store_of c) p (change b.unsettled.items)) h.place s.journal));
+      told = s.told ∙ ap₂ (λ (l : List Unsettled) (told : List Found). settled_in (is_marked_in (map (marked s.wants) l)) 0 told) h.unsettled h.told;
     }
 
 pub settled_before : (R : Type 0) → SettledBefore R
@@ -54,4 +58,5 @@ settled_before R settles synced a b c s k =
       wants = s.wants;
       exactly = s.exactly;
       journal = changes_then (store_of a) (store_of b) (store_of c) (place_of a) (all_settled (map (marked s.wants) a.unsettled.items)) x.durable x.pending k.files s.journal;
+      told = k.told ∙ s.told;
     }

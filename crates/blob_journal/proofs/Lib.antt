@@ -1,5 +1,13 @@
+pub mod Sectors
+pub mod Listed
+pub mod Told
+pub mod Growing
+pub mod Lasting
+pub mod Draws
 pub mod Currents
 pub mod Overlays
 pub mod Standing
 pub mod Settling
 pub mod Kept
+pub mod Found
+pub mod Telling

@@ -1,13 +1,14 @@
 -- What calls leave of a store's current incarnations.
-use Rattle.std.specs.Prelude.{◌≡◌, ◌&&◌, ◌<◌, [], List, ℕ, Option, Some, false, option_map, true}
+use Rattle.std.specs.Prelude.{◌≡◌, ◌&&◌, ◌<◌, ◌≤◌, [], List, ℕ, Option, Some, false, option_map, true}
 use Rattle.std.specs.Str.{bytes_eq}
 use Rattle.blob_model.specs.Directory.{is_current}
 use Rattle.blob_model.specs.Files.{Files}
 use Rattle.blob_model.specs.Log.{Choices}
 use Rattle.blob_model.specs.Pending.{Pending}
-use Rattle.blob_model.specs.Places.{Place}
+use Rattle.blob_model.specs.Places.{Place, same_place}
 use Rattle.blob_memory.specs.Store.{directory, durable}
 use Rattle.blob_faulty.specs.Keeps.{IsFor, OverMemory}
+use Rattle.blob_faulty.specs.Leaves.{LeavesOnly, Test}
 use Rattle.blob_faulty.specs.Outcomes.{left_of}
 use Rattle.blob_faulty.specs.Wrapper.{inner_of, pending_of}
 
@@ -78,3 +79,23 @@ pub record IsEmpty {R : Type 0} (store : OverMemory R) (o : Place) : Type 0 wher
 -- has these bytes from then on
 abbrev pub FixesBytes : {R : Type 0} → Place → List ℕ → OverMemory R → OverMemory R → Type 0
 FixesBytes o bytes before after = Represents before → IsEmpty before o → IsFixed after o bytes
+
+-- all that may be found of an incarnation, now or after any crash that the wrapper may draw, passes the test
+abbrev pub FindsOnly : {R : Type 0} → OverMemory R → Place → Test → Type 0
+FindsOnly store o test = LeavesOnly (λ o. o) directory durable store o test
+
+-- of each incarnation no more may be found than before
+abbrev pub FindsNoMore : {R : Type 0} → OverMemory R → OverMemory R → Type 0
+FindsNoMore before after = (o : Place) (test : Test) → FindsOnly before o test → FindsOnly after o test
+
+-- of each of any other name
+abbrev pub FindsNoMoreBeside : {R : Type 0} → List ℕ → List ℕ → OverMemory R → OverMemory R → Type 0
+FindsNoMoreBeside p n before after = (o : Place) (test : Test) → (bytes_eq p o.partition && bytes_eq n o.name) ≡ false → FindsOnly before o test → FindsOnly after o test
+
+-- of each incarnation but this one, whose number was given
+abbrev pub FindsNoMoreBut : {R : Type 0} → Place → OverMemory R → OverMemory R → Type 0
+FindsNoMoreBut a before after = IsGiven before a → (o : Place) (test : Test) → same_place a o ≡ false → FindsOnly before o test → FindsOnly after o test
+
+-- no number that was given is given again
+abbrev pub KeepsNext : {R : Type 0} → OverMemory R → OverMemory R → Type 0
+KeepsNext before after = (directory (inner_of before)).next ≤ (directory (inner_of after)).next

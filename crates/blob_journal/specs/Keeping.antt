@@ -1,15 +1,21 @@
 -- The names that calls see, and what calls leave of them.
-use Rattle.std.specs.Prelude.{◌≡◌, ℕ, ◌+◌, ◌*◌, List, false}
+use Rattle.std.specs.Prelude.{◌≡◌, ℕ, ◌+◌, ◌*◌, ◌++◌, List, [], ◌∷◌, Bool, false}
 use Rattle.blob_faulty.specs.Lends.{with_rng}
 use Rattle.blob_faulty.specs.Wrapper.{inside, rng_of}
 use Rattle.blob_memory.specs.Store.{live}
 use Rattle.blob_model.specs.Bytes.{write_live}
 use Rattle.blob_directory.specs.declared.table.Table.{Table}
 use Rattle.blob_directory.specs.Names.{Edit, Names, Same, edited}
-use Rattle.blob_directory.specs.Sectors.{sector_of}
+use Rattle.blob_directory.specs.Profiles.{found_in_all}
+use Rattle.blob_directory.specs.Sectors.{Found, found_in, sector_of}
+use Rattle.blob_directory.specs.Settled.{AreSettled}
 use Rattle.blob_directory.specs.Tables.{bound}
+use Rattle.blob_directory.specs.Trees.{Finds}
+use Rattle.blob_directory.specs.declared.profile.Keeps.{Keeps}
 use Rattle.blob_journal.specs.declared.journal.Journal.{Journal}
 use Rattle.blob_journal.specs.declared.journaled.Journaled.{Journaled}
+use Rattle.blob_journal.specs.Found.{with_kept}
+use Rattle.blob_journal.specs.Told.{Grows, names_kept}
 
 -- the table of the names that calls see
 abbrev pub table_in : {R : Type 0} → Journaled R → Table
@@ -25,7 +31,7 @@ generator_in j = rng_of j.store
 
 -- with another generator; all else stays
 abbrev pub with_generator : {R : Type 0} → Journaled R → R → Journaled R
-with_generator j rng = record j { store = with_rng j.store rng; current = j.current }
+with_generator j rng = record j { store = with_rng j.store rng; current = j.current; given = j.given; kept = with_kept j.store rng j.journal j.unsettled.items j.kept }
 
 -- nothing has happened to the names
 abbrev pub KeepsTable : {R : Type 0} → Journaled R → Journaled R → Type 0
@@ -50,3 +56,36 @@ with_sector journal edit = write_live (bytes_in journal) (journal.sectors * 1024
 -- the journal has one more sector, of this edit
 abbrev pub AddsSector : {R : Type 0} → Edit → Journaled R → Journaled R → Type 0
 AddsSector edit j j' = (bytes_in j'.journal ≡ with_sector j.journal edit) × (j'.journal.sectors ≡ j.journal.sectors + 1)
+
+-- only the number up to which blobs of files were opened has changed
+abbrev pub NotesOpened : {R : Type 0} → Journaled R → Journaled R → Type 0
+NotesOpened j j' = (j'.store ≡ j.store) × (j'.journal ≡ j.journal) × (j'.names ≡ j.names) × (j'.unsettled ≡ j.unsettled)
+
+-- the edits that the journal was told, in its sectors, each settled or not
+abbrev pub told_by : Journal → List Found
+told_by journal = found_in_all journal.sectors (bytes_in journal)
+
+abbrev pub told_in : {R : Type 0} → Journaled R → List Found
+told_in j = told_by j.journal
+
+-- the same edits were told, and the same are settled
+abbrev pub KeepsTold : {R : Type 0} → Journaled R → Journaled R → Type 0
+KeepsTold j j' = told_in j' ≡ told_in j
+
+-- one more edit was told, which nothing has settled
+abbrev pub AddsTold : {R : Type 0} → Edit → Journaled R → Journaled R → Type 0
+AddsTold edit j j' = told_in j' ≡ told_in j ++ found_in (sector_of edit false) ∷ []
+
+-- edits may have been settled, and no other change was made
+abbrev pub GrowsTold : {R : Type 0} → Journaled R → Journaled R → Type 0
+GrowsTold j j' = Grows (told_in j) (told_in j')
+
+-- The names are those that a recovery finds by the edits that were told: by all that were settled, and by some of the others, as the profile keeps them.
+pub record FindsTold {R : Type 0} (j : Journaled R) (keeps : Keeps) (names : Names) : Type 0 where
+  pub chosen : ℕ → Bool
+  pub finds : Finds names (names_kept keeps chosen (told_in j))
+
+-- all edits that were told are settled, and they give the names that calls see, by every profile, whatever a crash loses
+pub record GivesTold {R : Type 0} (j : Journaled R) : Type 0 where
+  pub settled : AreSettled (told_in j)
+  pub names : (keeps : Keeps) (chosen : ℕ → Bool) → Same (names_kept keeps chosen (told_in j)) (names_in j)

@@ -1,3 +1,7 @@
+pub mod Sectors
+pub mod Found
+pub mod Told
+pub mod Draws
 pub mod Currents
 pub mod Journals
 pub mod Keeping

@@ -16,6 +16,8 @@ use Rattle.blob_directory.specs.Syncs.{Wants, marked}
 use Rattle.blob_journal.specs.declared.journaled.Journaled.{Journaled}
 use Rattle.blob_journal.specs.Currents.{KeepsFiles, LeftAs, Represents, pending_at}
 use Rattle.blob_journal.specs.Journals.{store_of}
+use Rattle.blob_journal.specs.Keeping.{KeepsTold, told_in}
+use Rattle.blob_journal.specs.Told.{is_marked_in, settled_in}
 
 -- the edits that nothing settled
 abbrev pub unsettled_of : {R : Type 0} → Journaled R → List Unsettled
@@ -48,6 +50,7 @@ pub record SettlesEdits {R : Type 0} (settles : Settles) (synced : Synced) (j j'
   pub wants : Unsettled → Bool
   pub exactly : Wants settles synced (unsettled_of j) wants
   pub journal : Changes (store_of j) (store_of j') (place_of j) (all_settled (map (marked wants) (unsettled_of j)))
+  pub told : told_in j' ≡ settled_in (is_marked_in (map (marked wants) (unsettled_of j))) 0 (told_in j)
 
 -- no edit is made or settled: the journal has the same bytes, and the same is pending of it
 pub record KeepsJournal {R : Type 0} (j j' : Journaled R) : Type 0 where
@@ -56,6 +59,7 @@ pub record KeepsJournal {R : Type 0} (j j' : Journaled R) : Type 0 where
   pub pending : pending_at (store_of j') (place_of j) ≡ pending_at (store_of j) (place_of j)
   pub files : KeepsFiles (store_of j) (store_of j')
   pub unsettled : unsettled_of j' ≡ unsettled_of j
+  pub told : KeepsTold j j'
 
 -- Calls that keep the journal, before and after a sync.
 

@@ -4,12 +4,13 @@ ghost use Rattle.std.specs.Prelude.{IfOk, OnOk};
 use crate::journaled::Journaled;
 use blob_base::Error;
 use blob_faulty::Selections;
+use blob_faulty::laws::leaves;
 use rand_core::Rng;
 
 impl<R: Rng + Drop> Journaled<R> {
     ghost use Rattle.blob_journal.specs.Currents.{Represents};
     ghost use Rattle.blob_journal.specs.Journals.{CrashKeeps, GivesNames, store_of};
-    ghost use Rattle.blob_journal.specs.Keeping.{KeepsTable};
+    ghost use Rattle.blob_journal.specs.Keeping.{KeepsTable, KeepsTold};
 
     /// Crashes the store. The draws decide which unsynced bytes and which unsettled edits are kept. Handles keep their live
     /// bytes, and calls see the same names, until a recovery.
@@ -22,7 +23,10 @@ impl<R: Rng + Drop> Journaled<R> {
         ensures files { OnOk result (Represents (store_of self.new)) }
         ensures gives { OnOk result (GivesNames self.old → GivesNames self.new) }
         ensures names { KeepsTable self.old self.new }
+        ensures told { KeepsTold self.old self.new }
     {
+        leaves::crashed::<R>();
+        leaves::same_bytes::<blob_memory::Storage, R>();
         let rows = self.store.crash()?;
         Ok(rows)
     }

@@ -1,10 +1,13 @@
 //! Edits of the names, each in the journal, and the syncs that settle them.
-ghost use Rattle.std.specs.Prelude.{◌≡◌, None, IfOk, OnOk, OnErr};
+ghost use Rattle.std.specs.Prelude.{◌≡◌, None, [], IfOk, OnOk, OnErr};
 ghost use Rattle.blob_memory.specs.Store.{place};
 ghost use Rattle.blob_faulty.specs.Wrapper.{inside};
 ghost use Rattle.blob_directory.specs.Names.{Same, edit_of};
 ghost use Rattle.blob_journal.specs.Currents.{SameDirectory};
+ghost use Rattle.blob_journal.specs.Found.{IsKept};
+ghost use Rattle.blob_journal.specs.Keeping.{told_by};
 ghost use Rattle.blob_journal.specs.Settling.{Changes, all_settled};
+ghost use Rattle.blob_journal.specs.Told.{Grows, is_marked_in, settled_in};
 
 use crate::journal::Journal;
 use crate::journaled::Journaled;
@@ -29,6 +32,9 @@ fn settle_marked<R: Rng>(
     ensures generation { journal.new.generation ≡ journal.old.generation }
     ensures directory { SameDirectory store.old store.new }
     ensures settled { OnOk result (Changes store.old store.new (place (inside journal.old.blob)) (all_settled edits.now)) }
+    ensures kept { IsKept store.old journal.old edits.now → IsKept store.new journal.new edits.now }
+    ensures told { OnOk result (IsKept store.old journal.old edits.now → told_by journal.new ≡ settled_in (is_marked_in edits.now) 0 (told_by journal.old)) }
+    ensures grows { IsKept store.old journal.old edits.now → Grows (told_by journal.old) (told_by journal.new) }
 {
     for edit in edits {
         if edit.is_wanted {
@@ -40,7 +46,7 @@ fn settle_marked<R: Rng>(
 
 impl<R: Rng + Drop> Journaled<R> {
     ghost use Rattle.blob_journal.specs.Settling.{KeepsJournal, SettlesEdits, unsettled_of};
-    ghost use Rattle.blob_journal.specs.Keeping.{AddsSector, Edits, KeepsTable, SameBindings, generator_in, names_in, table_in, with_generator};
+    ghost use Rattle.blob_journal.specs.Keeping.{AddsSector, AddsTold, Edits, GrowsTold, KeepsTable, KeepsTold, SameBindings, generator_in, names_in, table_in, told_in, with_generator};
 
     /// Returns no names over a new store, with faults drawn from the generator.
     ///
@@ -48,7 +54,8 @@ impl<R: Rng + Drop> Journaled<R> {
     ///
     /// `Memory` only.
     pub fn new(alloc: Global, rng: R) -> Result<Journaled<R>, Error>
-        ensures { IfOk result (λ j. Same (names_in j) (λ _. None)) }
+        ensures names { IfOk result (λ j. Same (names_in j) (λ _. None)) }
+        ensures told { IfOk result (λ j. told_in j ≡ []) }
     {
         let memory = blob_memory::Storage::new(alloc);
         let mut store = blob_faulty::Storage::new(alloc, memory, rng, Config::default());
@@ -60,6 +67,7 @@ impl<R: Rng + Drop> Journaled<R> {
             names: Table::new(alloc),
             unsettled: Vec::new(alloc),
             next_edit: 0,
+            opened: 0,
         })
     }
 
@@ -80,6 +88,7 @@ impl<R: Rng + Drop> Journaled<R> {
         ensures before { result ≡ generator_in self.old }
         ensures set { self.new ≡ with_generator self.old rng }
         ensures names { KeepsTable self.old self.new }
+        ensures told { KeepsTold self.old self.new }
     {
         self.store.replace_rng(rng)
     }
@@ -126,6 +135,8 @@ impl<R: Rng + Drop> Journaled<R> {
         ensures made { OnOk result (Edits (edit_of edit) self.old self.new) }
         ensures sector { OnOk result (AddsSector (edit_of edit) self.old self.new) }
         ensures refused { OnErr result (SameBindings self.old self.new) }
+        ensures told { OnOk result (AddsTold (edit_of edit) self.old self.new) }
+        ensures untold { OnErr result (KeepsTold self.old self.new) }
     {
         self.names.prepare(&edit)?;
         self.unsettled.reserve(1)?;
@@ -136,7 +147,7 @@ impl<R: Rng + Drop> Journaled<R> {
         let sector = self.journal.add(self.alloc, &mut self.store, &edit, rate)?;
         self.names.apply(&edit);
         self.next_edit = next;
-        let _ = self.unsettled.push(Unsettled {
+        self.unsettled.push_reserved(Unsettled {
             edit,
             sector,
             number,
@@ -154,6 +165,7 @@ impl<R: Rng + Drop> Journaled<R> {
     pub fn settle(&mut self, settles: Settles, synced: Synced) -> Result<(), Error>
         ensures names { KeepsTable self.old self.new }
         ensures settled { OnOk result (SettlesEdits settles synced self.old self.new) }
+        ensures grows { GrowsTold self.old self.new }
     {
         want(self.alloc, &mut self.unsettled, settles, synced)?;
         settle_marked(

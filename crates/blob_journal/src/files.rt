@@ -1,11 +1,13 @@
 //! The blobs of files, beside the journal.
-ghost use Rattle.std.specs.Prelude.{◌≡◌, IfOk};
+ghost use Rattle.std.specs.Prelude.{◌≡◌, IfOk, OnOk};
+ghost use Rattle.blob_memory.specs.Store.{place};
 ghost use Rattle.blob_memory.specs.Contents.{items_of};
-ghost use Rattle.blob_faulty.specs.Wrapper.{size_of};
+ghost use Rattle.blob_faulty.specs.Wrapper.{inside, size_of};
 
 use crate::journaled::Journaled;
 use crate::store::{FILES, FileBlob, Handle, Store, open, read_all, remove, reopen};
 use blob_base::{Blob, Durable, Error, WriteOptions};
+use blob_faulty::laws::leaves;
 use rand_core::Rng;
 
 impl FileBlob {
@@ -17,10 +19,17 @@ impl FileBlob {
     }
 }
 
+/// Returns the number of a blob's incarnation.
+fn number_of<R: Rng>(blob: &Handle) -> u64
+    ensures { result ≡ (place (inside blob.now)).number }
+{
+    Store::<R>::number_of(<Handle as Blob<Store<R>>>::origin_ref(blob))
+}
+
 impl<R: Rng + Drop> Journaled<R> {
-    ghost use Rattle.blob_journal.specs.Currents.{KeepsFiles};
+    ghost use Rattle.blob_journal.specs.Currents.{IsGiven, KeepsFiles};
     ghost use Rattle.blob_journal.specs.Journals.{GivesNames, HasFile, KeepsFile, KeepsFilesOf, KeepsGiven, durable_file, store_of};
-    ghost use Rattle.blob_journal.specs.Keeping.{KeepsTable};
+    ghost use Rattle.blob_journal.specs.Keeping.{KeepsTable, KeepsTold, NotesOpened};
     ghost use Rattle.blob_journal.specs.Settling.{KeepsJournal};
 
     /// Opens the blob of a file's number. A missing one is created, empty.
@@ -30,10 +39,12 @@ impl<R: Rng + Drop> Journaled<R> {
     /// Those of the layer's open.
     pub fn open_file(&mut self, inode: u64) -> Result<FileBlob, Error>
         ensures names { KeepsTable self.old self.new }
+        ensures told { KeepsTold self.old self.new }
         ensures files { KeepsFiles (store_of self.old) (store_of self.new) }
         ensures given { IfOk result (λ file. HasFile self.new file) }
     {
         let (blob, _) = open(&mut self.store, FILES, &inode.to_be_bytes())?;
+        self.note(&blob);
         Ok(FileBlob { blob })
     }
 
@@ -43,16 +54,35 @@ impl<R: Rng + Drop> Journaled<R> {
     ///
     /// Those of the layer's open. Nothing is discarded.
     pub fn reopen_file(&mut self, inode: u64) -> Result<FileBlob, Error>
-        ensures { KeepsTable self.old self.new }
+        ensures names { KeepsTable self.old self.new }
+        ensures told { KeepsTold self.old self.new }
     {
         let blob = reopen(&mut self.store, FILES, &inode.to_be_bytes())?;
+        self.note(&blob);
         Ok(FileBlob { blob })
     }
 
     /// Returns the number of the incarnation of a file's blob, which the pending list of its writes has too.
     pub fn number_of_file(&self, file: &FileBlob) -> u64 {
-        let origin = <Handle as Blob<Store<R>>>::origin_ref(&file.blob);
-        Store::<R>::number_of(origin)
+        number_of::<R>(&file.blob)
+    }
+
+    /// Counts a blob that was opened.
+    fn note(&mut self, blob: &Handle)
+        requires { IsGiven (store_of self.old) (place (inside blob.now)) }
+        ensures noted { NotesOpened self.old self.new }
+    {
+        self.opened = self.opened.max(number_of::<R>(blob).saturating_add(1));
+    }
+
+    /// Refuses a blob with a number that this store hasn't given.
+    fn check(&self, file: &FileBlob) -> Result<(), Error>
+        ensures { OnOk result (HasFile self.now file.now) }
+    {
+        if number_of::<R>(&file.blob) >= self.opened {
+            return Err(Error::Closed);
+        }
+        Ok(())
     }
 
     /// Removes the blob of a file's number.
@@ -62,6 +92,7 @@ impl<R: Rng + Drop> Journaled<R> {
     /// Those of the layer's removal. Nothing has changed.
     pub fn remove_file(&mut self, inode: u64) -> Result<(), Error>
         ensures names { KeepsTable self.old self.new }
+        ensures told { KeepsTold self.old self.new }
         ensures gives { GivesNames self.old → GivesNames self.new }
         ensures journal { KeepsJournal self.old self.new }
     {
@@ -75,6 +106,7 @@ impl<R: Rng + Drop> Journaled<R> {
     /// Those of the layer's read, and `Memory`.
     pub fn read_whole(&mut self, file: &FileBlob) -> Result<Vec<u8>, Error>
         ensures names { KeepsTable self.old self.new }
+        ensures told { KeepsTold self.old self.new }
         ensures files { KeepsFiles (store_of self.old) (store_of self.new) }
         ensures given { KeepsGiven self.old self.new }
     {
@@ -100,8 +132,10 @@ impl<R: Rng + Drop> Journaled<R> {
     ///
     /// Those of the layer's read.
     pub fn read_file(&mut self, file: &FileBlob, offset: u64, buf: &mut [u8]) -> Result<(), Error>
-        ensures { KeepsTable self.old self.new }
+        ensures names { KeepsTable self.old self.new }
+        ensures told { KeepsTold self.old self.new }
     {
+        leaves::same_bytes::<blob_memory::Storage, R>();
         file.blob.read_into(&mut self.store, offset, buf)
     }
 
@@ -109,15 +143,18 @@ impl<R: Rng + Drop> Journaled<R> {
     ///
     /// # Errors
     ///
-    /// Those of the layer's write, which may leave a part of it.
+    /// `Closed` for a blob whose number this store hasn't given. Those of the layer's write, which may leave a part of it.
     pub fn write_file(
         &mut self,
         file: &mut FileBlob,
         offset: u64,
         bytes: &[u8],
     ) -> Result<(), Error>
-        ensures { KeepsTable self.old self.new }
+        ensures names { KeepsTable self.old self.new }
+        ensures told { KeepsTold self.old self.new }
     {
+        self.check(file)?;
+        leaves::other_blobs::<blob_memory::Storage, R>();
         let options = WriteOptions::default();
         file.blob
             .write_from(&mut self.store, offset, bytes, options)
@@ -127,12 +164,15 @@ impl<R: Rng + Drop> Journaled<R> {
     ///
     /// # Errors
     ///
-    /// Those of the layer's resize, which may leave a part of it.
+    /// `Closed` for a blob whose number this store hasn't given. Those of the layer's resize, which may leave a part of it.
     pub fn resize_file(&mut self, file: &mut FileBlob, length: u64) -> Result<(), Error>
         ensures names { KeepsTable self.old self.new }
+        ensures told { KeepsTold self.old self.new }
         ensures files { KeepsFilesOf file.old self.old self.new }
         ensures given { KeepsFile file.old self.old file.new self.new }
     {
+        self.check(file)?;
+        leaves::other_blobs::<blob_memory::Storage, R>();
         file.blob.resize(&mut self.store, length)
     }
 
@@ -140,13 +180,17 @@ impl<R: Rng + Drop> Journaled<R> {
     ///
     /// # Errors
     ///
-    /// Those of the layer's sync. Nothing is durable that was not.
+    /// `Closed` for a blob whose number this store hasn't given. Those of the layer's sync. Nothing is durable that was not.
     pub fn sync_file(&mut self, file: &mut FileBlob) -> Result<(), Error>
         ensures names { KeepsTable self.old self.new }
+        ensures told { KeepsTold self.old self.new }
         ensures files { KeepsFiles (store_of self.old) (store_of self.new) }
         ensures journal { KeepsJournal self.old self.new }
         ensures given { KeepsFile file.old self.old file.new self.new }
     {
+        self.check(file)?;
+        leaves::other_blobs::<blob_memory::Storage, R>();
+        leaves::same_bytes::<blob_memory::Storage, R>();
         file.blob.sync(&mut self.store)?;
         Ok(())
     }

@@ -1,9 +1,10 @@
 //! Names with their journal, over a store.
-ghost use Rattle.std.specs.Prelude.{◌≡◌, true, codes};
+ghost use Rattle.std.specs.Prelude.{◌≡◌, ◌≤◌, true, codes};
 ghost use Rattle.std.specs.Int.{w64, to_be_bytes};
 ghost use Rattle.blob_model.specs.Directory.{is_current};
 ghost use Rattle.blob_memory.specs.Store.{directory, place};
 ghost use Rattle.blob_faulty.specs.Wrapper.{inner_of, inside};
+ghost use Rattle.blob_journal.specs.Found.{IsKept};
 
 use crate::journal::Journal;
 use crate::store::Store;
@@ -21,8 +22,15 @@ pub struct Journaled<R> {
     pub(crate) unsettled: Vec<Unsettled>,
     /// The number of the next edit, counted from the start.
     pub(crate) next_edit: u64,
+    /// Above the number of each blob of a file that was opened.
+    pub(crate) opened: u64,
     // the journal's blob is the current one of its name
     ghost partition: { (place (inside journal.blob)).partition ≡ codes "j" },
     ghost name: { (place (inside journal.blob)).name ≡ to_be_bytes w64 journal.generation },
     ghost current: { is_current (directory (inner_of store)) (place (inside journal.blob)) ≡ true },
+    // the numbers up to there were given in this store
+    ghost given: { opened ≤ (directory (inner_of store)).next },
+    // of the journal's blob no more may be found than its sectors, each whole or lost, the settled ones always,
+    // and each edit that nothing settled has a sector of its own, in order
+    ghost kept: { ∥ IsKept store journal unsettled.items ∥₁ },
 }

@@ -1,5 +1,15 @@
 //! Laws about calls that keep the journal, before and after a sync.
 ghost use Rattle.blob_journal.specs.Settling.{KeptTwice, SettledAfter, SettledBefore};
+ghost use Rattle.blob_journal.specs.Told.{GrowsOn, GrowsSame, SettledIsKept, SettledStays};
+
+/// A settled edit that changes an entry, and that no later edit of the entry follows, stays so through later calls that don't change
+/// the entry. A crash then leaves the entry as this edit made it, by every profile, whatever it loses.
+pub fn told()
+    ensures kept { SettledIsKept }
+    ensures stays { SettledStays }
+    ensures same { GrowsSame }
+    ensures twice { GrowsOn }
+{}
 
 /// Calls that keep the journal, one after another, keep it. A sync settles the same edits if such calls come before it or after it.
 pub fn settling<R>()

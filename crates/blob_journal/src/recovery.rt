@@ -12,6 +12,7 @@ use blob_directory::checkpoint::checkpoint;
 use blob_directory::profile::Keeps;
 use blob_directory::tree::{Tree, kept_names, reached};
 use blob_faulty::Config;
+use blob_faulty::laws::leaves;
 use rand_core::Rng;
 use std::alloc::AllocError;
 use std::collections::BTreeMap;
@@ -19,7 +20,7 @@ use std::collections::BTreeMap;
 impl<R: Rng + Drop> Journaled<R> {
     ghost use Rattle.blob_journal.specs.Currents.{KeepsFiles, Represents};
     ghost use Rattle.blob_journal.specs.Journals.{FindsNames, GivesNames, store_of};
-    ghost use Rattle.blob_journal.specs.Keeping.{KeepsTable, names_in, table_in};
+    ghost use Rattle.blob_journal.specs.Keeping.{FindsTold, GivesTold, KeepsTable, KeepsTold, names_in, table_in};
 
     /// Returns the names that the journal gives and the root reaches, and of each edit that nothing settled whether the
     /// journal has it. Calls still see the names of before. From here on the store draws nothing.
@@ -33,6 +34,8 @@ impl<R: Rng + Drop> Journaled<R> {
         ensures again { IfOk result (λ r. GivesNames self.old → Finds (bound r.0.names) (names_in self.old)) }
         ensures names { KeepsTable self.old self.new }
         ensures files { KeepsFiles (store_of self.old) (store_of self.new) }
+        ensures told { KeepsTold self.old self.new }
+        ensures kept { IfOk result (λ r. FindsTold self.old keeps (bound r.0.names)) }
     {
         self.store.set_config(Config::default());
         let generation = self.journal.generation;
@@ -62,8 +65,11 @@ impl<R: Rng + Drop> Journaled<R> {
     pub fn renew(&mut self, tree: Tree) -> Result<BTreeMap<u64, u64>, Error>
         ensures done { OnOk result (table_in self.new ≡ tree.names) }
         ensures gives { OnOk result (FitsJournal tree → Represents (store_of self.old) → GivesNames self.new) }
+        ensures told { OnOk result (FitsJournal tree → GivesTold self.new) }
         ensures refused { OnErr result (KeepsTable self.old self.new) }
+        ensures untold { OnErr result (KeepsTold self.old self.new) }
     {
+        leaves::same_bytes::<blob_memory::Storage, R>();
         let old = self.journal.generation;
         let Some(generation) = old.checked_add(1) else {
             return Err(Error::OffsetOverflow);

@@ -1,13 +1,14 @@
 //! The store below files, and the blob of a file in it.
-ghost use Rattle.std.specs.Prelude.{◌≡◌, codes, length, IfOk, Some, true};
+ghost use Rattle.std.specs.Prelude.{◌≡◌, codes, length, IfOk, None, Some, [], true};
 ghost use Rattle.blob_model.specs.Directory.{current, is_current};
 ghost use Rattle.blob_model.specs.Places.{Place};
 ghost use Rattle.blob_memory.specs.Store.{directory, durable, live, place};
 ghost use Rattle.blob_faulty.specs.Wrapper.{inner_of, inside};
-ghost use Rattle.blob_journal.specs.Currents.{IsGiven, KeepsBytes, KeepsCurrent, KeepsFiles, KeepsOthers, KeepsPending, SamePending};
+ghost use Rattle.blob_journal.specs.Currents.{FindsNoMore, FindsNoMoreBeside, IsGiven, KeepsBytes, KeepsCurrent, KeepsFiles, KeepsNext, KeepsOthers, KeepsPending, SamePending};
 
 use blob_base::laws::opens::{accepted_opens, numbers_are_given};
 use blob_base::{Blob, Error, Storage};
+use blob_faulty::laws::leaves;
 use blob_faulty::laws::names::{opens, removals};
 use rand_core::Rng;
 use std::alloc::Global;
@@ -40,10 +41,15 @@ pub(crate) fn open<R: Rng>(
     ensures given { IfOk result (λ r. IsGiven store.new (place (inside r.0))) }
     ensures files { KeepsFiles store.old store.new }
     ensures pending { SamePending store.old store.new }
+    ensures begun { IfOk result (λ r. (directory (inner_of store.old)).file partition.now name.now ≡ None → live (inside r.0) ≡ []) }
+    ensures left { FindsNoMore store.old store.new }
+    ensures next { KeepsNext store.old store.new }
 {
     accepted_opens();
     numbers_are_given::<blob_memory::Storage>();
     opens::<blob_memory::Storage, R>();
+    leaves::accepted_opens::<blob_memory::Storage, R>();
+    leaves::same_bytes::<blob_memory::Storage, R>();
     let (blob, size) = store.open(partition, name)?;
     Ok((blob, size))
 }
@@ -56,7 +62,11 @@ pub(crate) fn reopen<R: Rng>(
 ) -> Result<Handle, Error>
     ensures partition { IfOk result (λ blob. (place (inside blob)).partition ≡ partition.now) }
     ensures kept { KeepsCurrent store.old store.new }
+    ensures given { IfOk result (λ blob. IsGiven store.new (place (inside blob))) }
+    ensures left { FindsNoMore store.old store.new }
+    ensures next { KeepsNext store.old store.new }
 {
+    leaves::same_bytes::<blob_memory::Storage, R>();
     let (blob, _) = open(store, partition, name)?;
     let _ = store.admit(partition, name);
     Ok(blob)
@@ -72,7 +82,10 @@ pub(crate) fn remove<R: Rng>(
     ensures bytes { KeepsBytes partition.now name.now store.old store.new }
     ensures pending { KeepsPending partition.now name.now store.old store.new }
     ensures files { KeepsFiles store.old store.new }
+    ensures left { FindsNoMoreBeside partition.now name.now store.old store.new }
+    ensures next { KeepsNext store.old store.new }
 {
+    leaves::same_bytes::<blob_memory::Storage, R>();
     removals::<blob_memory::Storage, R>();
     store.remove(partition, Some(name))?;
     Ok(())
@@ -89,7 +102,9 @@ pub(crate) fn read_all<R: Rng>(
     ensures inner { inner_of store.new ≡ inner_of store.old }
     ensures files { KeepsFiles store.old store.new }
     ensures pending { SamePending store.old store.new }
+    ensures left { FindsNoMore store.old store.new }
 {
+    leaves::same_bytes::<blob_memory::Storage, R>();
     let mut bytes = Vec::new(alloc);
     bytes.resize(size as usize, 0)?;
     let buf = bytes.as_mut_slice();

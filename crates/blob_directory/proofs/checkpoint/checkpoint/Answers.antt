@@ -5,7 +5,7 @@ use Rattle.blob_directory.specs.Checkpoints.{bindings_in, settled_sectors}
 use Rattle.blob_directory.specs.Names.{Names}
 use Rattle.blob_directory.specs.Tables.{bound}
 use Rattle.blob_directory.specs.Trees.{has_directory}
-use Rattle.blob_directory.proofs.Checkpoints.{AmongKeys, Listed, among_keys, written_all, written_more, written_none}
+use Rattle.blob_directory.proofs.Checkpoints.{AmongKeys, Listed, among_keys, written_all, written_more, written_none, written_settled, written_whole}
 use Rattle.blob_directory.proofs.checkpoint.checkpoint.Goals as goal
 
 pub loop-directory-init : goal.loop-directory-init
@@ -29,8 +29,14 @@ loop-directory-preserved c =
     written_more names (has_directory c.args.tree.now) now left at c.loop-directory.bytes.items c.put_names.new.bytes.items ns
     more made c.in_ok-names_in.ensures.told c.in_ok-names_in.ensures.all c.loop-directory.invariant
 
-pub returns : goal.returns
-returns c =
+pub returns-clause-gives : goal.returns-clause-gives
+returns-clause-gives c =
     let now : List (ℕ × ℕ) = c.loop-directory.directory-iterator in
     λ fits. written_all (bound c.args.tree.now.names) (has_directory c.args.tree.now) now c.loop-directory.bytes.items
     (rest_all deref_pair now c.next.new.self c.next.result c.in-None.is c.next.ensures.steps) c.loop-directory.invariant fits.sectors fits.places
+
+pub returns-clause-whole : goal.returns-clause-whole
+returns-clause-whole c = written_whole (bound c.args.tree.now.names) (has_directory c.args.tree.now) c.loop-directory.directory-iterator c.loop-directory.bytes.items c.loop-directory.invariant
+
+pub returns-clause-settled : goal.returns-clause-settled
+returns-clause-settled c = λ fits. written_settled (bound c.args.tree.now.names) (has_directory c.args.tree.now) c.loop-directory.directory-iterator c.loop-directory.bytes.items c.loop-directory.invariant fits.sectors

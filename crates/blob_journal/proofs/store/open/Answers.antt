@@ -1,3 +1,4 @@
+use Rattle.blob_journal.proofs.Found.{begun_empty, opened_next, same_next}
 use Rattle.std.proofs.Common.{ap, ◌∙◌}
 use Rattle.blob_model.specs.Directory.{Directory, is_current}
 use Rattle.blob_memory.specs.Store.{directory, live, place}
@@ -42,3 +43,19 @@ returns-clause-files g c = λ r.
 pub returns-clause-given : goal.returns-clause-given
 returns-clause-given g c = c.numbers_are_given.ensures.durable (inner_of c.open.new.self) (place (inside c.in_ok-blob.blob)) (live (inside c.in_ok-blob.blob))
     (c.accepted_opens.ensures.durable _ _ _ _ _ _ _ _ _ _ _ c.in_ok-blob.ensures.opened)
+
+pub returns-in_err-blob-clause-left : goal.returns-in_err-blob-clause-left
+returns-in_err-blob-clause-left g c = λ o test k. c.same_bytes.ensures.unrecorded c.args.store.now c.open.new.self o test c.in_err-blob.ensures.err.0 c.in_err-blob.ensures.err.1 c.open.ensures.leaves.records k
+
+pub returns-clause-left : goal.returns-clause-left
+returns-clause-left g c = λ o test k. c.accepted_opens-2.ensures c.args.store.now c.open.new.self c.args.partition.now c.args.name.now 0 0 (place (inside c.in_ok-blob.blob)) (live (inside c.in_ok-blob.blob)) 0 o test
+    c.in_ok-blob.ensures.opened c.in_ok-blob.ensures.leaves k
+
+pub returns-clause-begun : goal.returns-clause-begun
+returns-clause-begun g c = λ none. begun_empty _ _ _ _ _ _ _ _ _ _ _ c.in_ok-blob.ensures.opened none
+
+pub returns-in_err-blob-clause-next : goal.returns-in_err-blob-clause-next
+returns-in_err-blob-clause-next g c = same_next (directory (inner_of c.args.store.now)) (directory (inner_of c.open.new.self)) c.in_err-blob.ensures.err.0
+
+pub returns-clause-next : goal.returns-clause-next
+returns-clause-next g c = opened_next _ _ _ _ _ _ _ _ _ _ _ c.in_ok-blob.ensures.opened

@@ -1,3 +1,5 @@
+use Rattle.std.proofs.Common.{◌≤◌, arith, subst, sym}
+use Rattle.blob_journal.proofs.Found.{removed_found, same_next}
 use Rattle.std.proofs.Common.{ap, refl, ◌∙◌}
 use Rattle.blob_model.specs.Directory.{Directory, is_current}
 use Rattle.std.proofs.lemmas.Bool.{cond-false}
@@ -41,3 +43,20 @@ pub returns-in_err-remove-clause-files : goal.returns-in_err-remove-clause-files
 returns-in_err-remove-clause-files g c = λ r.
     let e = c.in_err-remove.ensures in
     unrecorded c.args.store.now c.remove.new.self e.err.0 e.err.1 (record { pending = λ o. e.leaves.kept refl o; numbers = e.leaves.numbers }) r
+
+pub returns-in_err-remove-clause-left : goal.returns-in_err-remove-clause-left
+returns-in_err-remove-clause-left g c =
+    let e = c.in_err-remove.ensures in
+    λ o test other k. c.same_bytes.ensures.unrecorded c.args.store.now c.remove.new.self o test e.err.0 e.err.1 (record { pending = λ a. e.leaves.kept refl a; numbers = e.leaves.numbers }) k
+
+pub returns-clause-left : goal.returns-clause-left
+returns-clause-left g c =
+    let e = c.in_ok-remove.ensures in
+    removed_found c.args.store.now c.remove.new.self c.args.partition.now c.args.name.now e.directory
+    (λ files stands. c.removals.ensures.accepted c.args.store.now c.remove.new.self c.args.partition.now (Some c.args.name.now) e.directory e.durable e.leaves files stands)
+
+pub returns-in_err-remove-clause-next : goal.returns-in_err-remove-clause-next
+returns-in_err-remove-clause-next g c = same_next (directory (inner_of c.args.store.now)) (directory (inner_of c.remove.new.self)) c.in_err-remove.ensures.err.0
+
+pub returns-clause-next : goal.returns-clause-next
+returns-clause-next g c = subst (λ (d : Directory). (directory (inner_of c.args.store.now)).next ≤ d.next) (sym c.in_ok-remove.ensures.directory) (omega arith)

@@ -1,8 +1,11 @@
+use Rattle.std.proofs.Common.{List}
+use Rattle.blob_directory.specs.Sectors.{Found}
+use Rattle.blob_journal.specs.Told.{names_kept}
 use Rattle.std.proofs.Common.{sym, subst}
 use Rattle.blob_directory.specs.declared.table.Table.{Table}
 use Rattle.blob_directory.specs.Tables.{bound}
 use Rattle.blob_directory.specs.Trees.{Finds}
-use Rattle.blob_fs.specs.Files.{IsRecovered, names_of, table_of}
+use Rattle.blob_fs.specs.Files.{IsRecovered, keeps_of, names_of, table_of}
 use Rattle.blob_fs.proofs.file_system.FileSystem.crash.Goals as goal
 
 pub returns-clause-found : goal.returns-clause-found
@@ -23,3 +26,8 @@ returns-clause-again g c = λ before e.
     let again = c.in_ok-edits.ensures.again (c.in_ok-rows.ensures.gives before.gives) in
     sym (c.found.ensures.again (names_of c.recover.new.self) (names_of c.args.self.now) before.told before.finds
     (subst (λ (t : Table). Finds (names_of c.recover.new.self) (bound t)) c.in_ok-rows.ensures.names again) e)
+
+pub returns-clause-kept : goal.returns-clause-kept
+returns-clause-kept g c =
+    let f = c.in_ok-edits.ensures.kept in
+    record { chosen = f.chosen; finds = subst (λ (l : List Found). Finds (names_of c.recover.new.self) (names_kept (keeps_of c.args.self.now) f.chosen l)) c.crash.ensures.told f.finds }

@@ -11,4 +11,5 @@ pub loop-inode-preserved : goal.loop-inode-preserved
 loop-inode-preserved g c = record {
   names = c.sync_bytes.ensures.names ∙ c.loop-inode.invariant.names;
   journal = c.settling.ensures.twice c.args.self.now.store c.loop-inode.self.store c.sync_bytes.new.self.store c.loop-inode.invariant.journal c.in_ok-sync_bytes.ensures.journal;
+  told = c.sync_bytes.ensures.told ∙ c.loop-inode.invariant.told;
 }

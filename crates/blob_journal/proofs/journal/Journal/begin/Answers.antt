@@ -1,3 +1,8 @@
+use Rattle.blob_journal.proofs.Sectors.{live_overlay}
+use Rattle.blob_model.specs.Live.{live_written}
+use Rattle.blob_model.specs.Bytes.{write_live}
+use Rattle.blob_header.specs.Refusals.{refusal_of}
+use Rattle.std.proofs.Common.{◌≡◌, ◌∷◌, List, ℕ, arith}
 use Rattle.std.proofs.Common.{[], None, Some, ap, refl, true, ◌∙◌}
 use Rattle.std.specs.Prelude.{option_map}
 use Rattle.std.proofs.lemmas.Bool.{cond-true}
@@ -5,7 +10,7 @@ use Rattle.blob_model.specs.Bytes.{overlay}
 use Rattle.blob_model.specs.Durable.{Durable}
 use Rattle.blob_model.specs.Places.{Place, same_place}
 use Rattle.blob_model.specs.SamePlace.{same_self}
-use Rattle.blob_memory.specs.Store.{durable, place}
+use Rattle.blob_memory.specs.Store.{durable, live, place}
 use Rattle.blob_faulty.specs.Wrapper.{inner_of, inside}
 use Rattle.blob_draws.specs.Recorded.{recorded_write}
 use Rattle.blob_faulty.specs.Wrapper.{config_of, next_write_of, rng_of}
@@ -41,3 +46,26 @@ returns-clause-fixed g c = λ r e.
           ((fixed_by store at [] e.durable e.pending).left t)
           (c.recorded.ensures.left store c.write_from.new.store at entries r.0 t e.current w.directory r.1 (w.leaves.recorded refl));
     }
+
+pub returns-in_err-write_from-clause-left : goal.returns-in_err-write_from-clause-left
+returns-in_err-write_from-clause-left g c = λ given o test other k.
+    let w = c.in_err-write_from.ensures in
+    let store = c.args.store.now in
+    let stream = g.R.Rng.stream (rng_of store) in
+    c.other_blobs.ensures.recorded store c.write_from.new.store (place (inside c.args.self.now.blob)) o test
+    (recorded_write (config_of store) (next_write_of store) stream true 0 c.args.bytes.now (Some (refusal_of c.in_err-write_from.field-0.0))) given other w.directory (w.leaves.recorded refl) k
+
+pub returns-clause-left : goal.returns-clause-left
+returns-clause-left g c = λ given o test other k.
+    let w = c.in_ok-write_from.ensures in
+    let store = c.args.store.now in
+    let stream = g.R.Rng.stream (rng_of store) in
+    c.other_blobs.ensures.recorded store c.write_from.new.store (place (inside c.args.self.now.blob)) o test
+    (recorded_write (config_of store) (next_write_of store) stream true 0 c.args.bytes.now None) given other w.directory (w.leaves.recorded refl) k
+
+pub returns-clause-live : goal.returns-clause-live
+returns-clause-live g c = λ empty. live_begun (live (inside c.args.self.now.blob)) (live (inside c.write_from.new.self)) c.args.bytes.now (c.in_ok-write_from.ensures.live) empty
+  where
+    live_begun : (old new : List ℕ) (bytes : List ℕ) → new ≡ live_written true old 0 bytes → old ≡ [] → new ≡ bytes
+    live_begun old new [] is empty = is ∙ empty
+    live_begun old new (b ∷ bytes) is empty = is ∙ ap (λ (l : List ℕ). write_live l 0 (b ∷ bytes)) empty ∙ live_overlay [] 0 (b ∷ bytes) (omega arith) ∙ over_nothing (b ∷ bytes)

@@ -1,3 +1,5 @@
+use Rattle.std.proofs.Common.{◌≤◌}
+use Rattle.std.proofs.Common.{◌<◌, subst}
 use Rattle.std.proofs.Common.{ℕ, List, Some, ap, sym, ◌∙◌}
 use Rattle.std.specs.Prelude.{codes}
 use Rattle.blob_model.specs.Directory.{current, is_current}
@@ -25,3 +27,22 @@ returns-clause-durable g c =
     ap (λ (s : memory.Storage). durable s (place (inside c.in_ok-blob.blob))) c.read_all.ensures.inner
     ∙ c.in_ok-blob.ensures.durable
     ∙ ap Some (sym (c.in_ok-bytes.ensures.bytes c.in_ok-blob.ensures.size))
+
+pub returns-in_err-bytes-clause-left : goal.returns-in_err-bytes-clause-left
+returns-in_err-bytes-clause-left g c = λ o test k. c.read_all.ensures.left o test (c.open.ensures.left o test k)
+
+pub returns-clause-left : goal.returns-clause-left
+returns-clause-left g c = λ o test k. c.read_all.ensures.left o test (c.open.ensures.left o test k)
+
+pub returns-clause-begun : goal.returns-clause-begun
+returns-clause-begun g c = λ none. c.in_ok-bytes.ensures.bytes c.in_ok-blob.ensures.size
+    ∙ c.in_ok-blob.ensures.begun (ap (λ (n : List ℕ). (directory (inner_of c.args.store.now)).file (codes "j") n) c.to_be_bytes.ensures ∙ none)
+
+pub returns-clause-given : goal.returns-clause-given
+returns-clause-given g c = subst (λ (s : memory.Storage). (place (inside c.in_ok-blob.blob)).number < (directory s).next) (sym c.read_all.ensures.inner) c.in_ok-blob.ensures.given
+
+pub returns-in_err-bytes-clause-next : goal.returns-in_err-bytes-clause-next
+returns-in_err-bytes-clause-next g c = subst (λ (s : memory.Storage). (directory (inner_of c.args.store.now)).next ≤ (directory s).next) (sym c.read_all.ensures.inner) c.open.ensures.next
+
+pub returns-clause-next : goal.returns-clause-next
+returns-clause-next g c = subst (λ (s : memory.Storage). (directory (inner_of c.args.store.now)).next ≤ (directory s).next) (sym c.read_all.ensures.inner) c.open.ensures.next

@@ -1,3 +1,9 @@
+use Rattle.std.specs.Prelude.{Err, IfOk, Ok, OnErr, Result}
+use Rattle.blob_header.specs.declared.error.Error.{Error}
+use Rattle.blob_draws.specs.declared.selections.Selections.{Selections}
+use Rattle.blob_memory.specs.Store.{directory}
+use Rattle.blob_faulty.specs.Wrapper.{inner_of}
+use Rattle.blob_journal.proofs.Found.{same_next, still_given, still_kept}
 use Rattle.std.proofs.Common.{List, [], ap, ◌∙◌, ◌≡◌}
 use Rattle.std.specs.Prelude.{codes}
 use Rattle.std.specs.Int.{w64, to_be_bytes}
@@ -14,11 +20,24 @@ use Rattle.blob_faulty.specs.Wrapper.{inside}
 use Rattle.blob_journal.proofs.journaled.Journaled.crash.Goals as goal
 
 pub invariant_of-self : goal.invariant_of-self
-invariant_of-self g c = record {
-  partition = c.args.self.now.partition;
-  name = c.args.self.now.name;
-  current = ap (λ (d : Directory). is_current d (place (inside c.args.self.now.journal.blob))) c.crash.ensures.directory ∙ c.args.self.now.current;
-}
+invariant_of-self g c =
+    let self = c.args.self.now in
+    let new = c.crash.new.self in
+    let same = c.crash.ensures.directory in
+    let at : Place = place (inside self.journal.blob) in
+    record {
+      partition = self.partition;
+      name = self.name;
+      current = ap (λ (d : Directory). is_current d at) same ∙ self.current;
+      given = still_given self.store new self.opened (same_next (directory (inner_of self.store)) (directory (inner_of new)) same) self.given;
+      kept = still_kept self.store new self.journal self.unsettled.items (λ test k. by_result c.crash.result c.crash.ensures.rows c.crash.ensures.stands c.crash.ensures.same_files
+          (λ rows drawn left. c.crashed.ensures self.store new at test rows same drawn left k)
+          (λ steps. c.same_bytes.ensures.same self.store new at test same steps k)) self.kept;
+    }
+  where
+    by_result : {A B : Selections → Type 0} {S Q : Type 0} (r : Result Selections Error) → IfOk r A → IfOk r B → OnErr r S → ((rows : Selections) → A rows → B rows → Q) → (S → Q) → Q
+    by_result (Ok rows) a b s ok err = ok rows a b
+    by_result (Err e) a b s ok err = err s
 
 pub returns-clause-files : goal.returns-clause-files
 returns-clause-files g c = nothing_pending c.crash.new.self (λ o. ap (λ (f : Place → List Pending). f o) (c.in_ok-rows.ensures.emptied))

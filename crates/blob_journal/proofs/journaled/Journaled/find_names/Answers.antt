@@ -1,3 +1,15 @@
+use Rattle.std.proofs.Common.{None, true}
+use Rattle.blob_memory.specs.Store.{live}
+use Rattle.blob_directory.specs.Names.{all_edited}
+use Rattle.blob_journal.specs.Keeping.{told_in}
+use Rattle.blob_journal.specs.Sectors.{may_be_found}
+use Rattle.blob_journal.specs.Told.{chosen_of, names_kept}
+use Rattle.blob_journal.proofs.Telling.{found_now, whole_of}
+use Rattle.blob_journal.proofs.Told.{found_edits}
+use Rattle.std.proofs.Common.{◌≤◌, subst}
+use Rattle.blob_model.specs.Directory.{is_current}
+use Rattle.blob_journal.specs.Currents.{KeepsNext}
+use Rattle.blob_journal.proofs.Found.{no_more_set, still_given, still_kept}
 use Rattle.std.proofs.Common.{◌≡◌, List, ℕ, Some, ap, ap₂, refl, sym, ◌∙◌}
 use Rattle.std.specs.Prelude.{codes}
 use Rattle.std.specs.Int.{w64, to_be_bytes}
@@ -62,3 +74,41 @@ returns-clause-again g c = λ gives.
 
 pub returns-clause-files : goal.returns-clause-files
 returns-clause-files g c = λ r. c.open.ensures.files (r.0, c.set_config.ensures.files r.0 r.1)
+
+pub invariant_of-self : goal.invariant_of-self
+invariant_of-self g c =
+    let self = c.args.self.now in
+    let mid = c.set_config.new.self in
+    let new = c.open.new.store in
+    let at : Place = place (inside self.journal.blob) in
+    let inner : inner_of mid ≡ inner_of self.store = ap (λ (s : OverMemory g.row.R.Denot). inner_of s) c.set_config.ensures.set in
+    let next : KeepsNext self.store new = subst (λ (s : memory.Storage). (directory s).next ≤ (directory (inner_of new)).next) inner c.open.ensures.next in
+    record {
+      partition = self.partition;
+      name = self.name;
+      current = c.open.ensures.kept at (ap (λ (s : memory.Storage). is_current (directory s) at) inner ∙ self.current);
+      given = still_given self.store new self.opened next self.given;
+      kept = still_kept self.store new self.journal self.unsettled.items (λ test k. c.open.ensures.left at test (no_more_set self.store mid c.default.result c.set_config.ensures.set at test k)) self.kept;
+    }
+
+pub returns-clause-kept : goal.returns-clause-kept
+returns-clause-kept g c =
+    let self = c.args.self.now in
+    let at : Place = place (inside self.journal.blob) in
+    let name : List ℕ = to_be_bytes w64 self.journal.generation in
+    let bytes : List ℕ = c.in_ok-bytes.bytes.items in
+    let w : List ℕ = live (inside self.journal.blob) in
+    let here : current (directory (inner_of self.store)) (codes "j") name ≡ Some at =
+    ap₂ (λ (p n : List ℕ). current (directory (inner_of self.store)) p n) (sym self.partition) (sym self.name) ∙ current_of_name (directory (inner_of self.store)) at self.current in
+    let inner : inner_of c.set_config.new.self ≡ inner_of self.store = ap (λ (s : OverMemory g.row.R.Denot). inner_of s) c.set_config.ensures.set in
+    let found : durable (inner_of c.set_config.new.self) at ≡ Some bytes =
+    c.in_ok-bytes.ensures.found at (ap (λ (s : memory.Storage). current (directory s) (codes "j") name) inner ∙ here) in
+    let there : durable (inner_of self.store) at ≡ Some bytes = sym (ap (λ (s : memory.Storage). durable s at) inner) ∙ found in
+    let may : may_be_found self.journal.sectors w bytes ≡ true = found_now self.store self.journal self.unsettled.items bytes self.kept there in
+    let long = whole_of self.store self.journal self.unsettled.items self.kept in
+    let edits = found_edits c.args.keeps self.journal.sectors w bytes long may in
+    let told : Same (bound c.in_ok-names.names) (names_told c.args.keeps c.deref.result.now) = c.in_ok-names.ensures.names in
+    let chosen = chosen_of w bytes in
+    let same : Same (bound c.in_ok-names.names) (names_kept c.args.keeps chosen (told_in self)) =
+    λ e. told e ∙ ap (λ l. names_told c.args.keeps l e) c.deref.ensures.value ∙ ap (λ es. all_edited (λ _. None) es e) edits in
+    record { chosen = chosen; finds = c.in_ok-tree.ensures.finds (names_kept c.args.keeps chosen (told_in self)) same }

@@ -1,3 +1,4 @@
+use Rattle.blob_journal.proofs.Found.{still_given, still_kept}
 use Rattle.std.proofs.Common.{◌≡◌, ◌&&◌, List, ℕ, true, false, ap, ap₂, refl, sym, ◌∙◌}
 use Rattle.std.specs.Prelude.{codes}
 use Rattle.std.specs.Int.{w64, to_be_bytes}
@@ -43,4 +44,20 @@ returns-clause-journal g c =
       pending = c.remove.ensures.pending at other;
       files = c.remove.ensures.files;
       unsettled = refl;
+      told = refl;
+    }
+
+pub invariant_of-self : goal.invariant_of-self
+invariant_of-self g c =
+    let self = c.args.self.now in
+    let new = c.remove.new.store in
+    let at : Place = place (inside self.journal.blob) in
+    let other : (bytes_eq (codes "f") at.partition && bytes_eq c.to_be_bytes.result at.name) ≡ false =
+    ap (λ (q : List ℕ). bytes_eq (codes "f") q && bytes_eq c.to_be_bytes.result at.name) self.partition in
+    record {
+      partition = self.partition;
+      name = self.name;
+      current = c.remove.ensures.current at other self.current;
+      given = still_given self.store new self.opened c.remove.ensures.next self.given;
+      kept = still_kept self.store new self.journal self.unsettled.items (λ test k. c.remove.ensures.left at test other k) self.kept;
     }

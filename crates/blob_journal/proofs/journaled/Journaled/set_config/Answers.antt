@@ -1,3 +1,8 @@
+use Rattle.std.proofs.Common.{◌≡◌, ◌∙◌}
+use Rattle.blob_model.specs.Directory.{is_current}
+use Rattle.blob_memory.specs.declared.storage.Storage as memory
+use Rattle.blob_memory.specs.Store.{directory}
+use Rattle.blob_journal.proofs.Found.{no_more_set, same_next, still_given, still_kept}
 use Rattle.std.proofs.Common.{ap, refl}
 use Rattle.blob_model.specs.Places.{Place}
 use Rattle.blob_memory.specs.Store.{durable, place}
@@ -16,4 +21,19 @@ returns-clause-journal g c =
       pending = ap (λ (s : OverMemory g.row.R.Denot). pending_at s at) set;
       files = λ r. (r.0, c.set_config.ensures.files r.0 r.1);
       unsettled = refl;
+      told = refl;
+    }
+
+pub invariant_of-self : goal.invariant_of-self
+invariant_of-self g c =
+    let self = c.args.self.now in
+    let new = c.set_config.new.self in
+    let set = c.set_config.ensures.set in
+    let same : inner_of new ≡ inner_of self.store = ap (λ (s : OverMemory g.row.R.Denot). inner_of s) set in
+    record {
+      partition = self.partition;
+      name = self.name;
+      current = ap (λ (s : memory.Storage). is_current (directory s) (place (inside self.journal.blob))) same ∙ self.current;
+      given = still_given self.store new self.opened (same_next (directory (inner_of self.store)) (directory (inner_of new)) (ap (λ (s : memory.Storage). directory s) same)) self.given;
+      kept = still_kept self.store new self.journal self.unsettled.items (λ test k. no_more_set self.store new c.args.config set _ test k) self.kept;
     }

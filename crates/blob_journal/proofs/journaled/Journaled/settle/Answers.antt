@@ -1,3 +1,13 @@
+use Rattle.std.proofs.Common.{not, rules}
+use Rattle.std.proofs.Math.Logic.{∥∥₁_elim, ∥∥₁_map}
+use Rattle.std.proofs.lemmas.Fn.{filter_same}
+use Rattle.blob_memory.specs.Store.{directory}
+use Rattle.blob_faulty.specs.Wrapper.{inner_of}
+use Rattle.blob_journal.specs.Found.{IsKept}
+use Rattle.blob_journal.specs.Keeping.{told_by}
+use Rattle.blob_journal.specs.Told.{is_marked_in, settled_in}
+use Rattle.blob_journal.proofs.Growing.{grows_prop, grows_same, told_prop}
+use Rattle.blob_journal.proofs.Found.{filtered_kept, marked_kept, same_next, still_given}
 use Rattle.std.proofs.Common.{ap, ap₂, sym, ◌∙◌, ℕ}
 use Rattle.std.specs.Int.{w64, to_be_bytes}
 use Rattle.blob_model.specs.Directory.{Directory, is_current}
@@ -11,26 +21,71 @@ use Rattle.blob_faulty.specs.Wrapper.{inside}
 use Rattle.blob_journal.specs.Settling.{Changes, all_settled}
 use Rattle.blob_journal.proofs.journaled.Journaled.settle.Goals as goal
 
-pub invariant_of-self-in-Break-branch-2 : goal.invariant_of-self-in-Break-branch-2
-invariant_of-self-in-Break-branch-2 g c = record {
-  partition = ap (λ (o : Place). o.partition) c.settle_marked.ensures.place ∙ c.args.self.now.partition;
-  name = ap (λ (o : Place). o.name) c.settle_marked.ensures.place ∙ c.args.self.now.name ∙ ap (λ (n : ℕ). to_be_bytes w64 n) (sym c.settle_marked.ensures.generation);
-  current = ap₂ (λ (d : Directory) (o : Place). is_current d o) c.settle_marked.ensures.directory c.settle_marked.ensures.place ∙ c.args.self.now.current;
-}
-
-pub invariant_of-self-2 : goal.invariant_of-self-2
-invariant_of-self-2 g c = record {
-  partition = ap (λ (o : Place). o.partition) c.settle_marked.ensures.place ∙ c.args.self.now.partition;
-  name = ap (λ (o : Place). o.name) c.settle_marked.ensures.place ∙ c.args.self.now.name ∙ ap (λ (n : ℕ). to_be_bytes w64 n) (sym c.settle_marked.ensures.generation);
-  current = ap₂ (λ (d : Directory) (o : Place). is_current d o) c.settle_marked.ensures.directory c.settle_marked.ensures.place ∙ c.args.self.now.current;
-}
-
 -- a slice of the whole list, written back
 whole : (new old : List Unsettled) (n : ℕ) → length new ≡ length old → n ≡ length old → take n (new ++ drop (length new) old) ≡ new
 whole new old n same all =
     ap (λ (l : List Unsettled). take n (new ++ l)) (drop_all (length new) old (omega (arith, same)))
     ∙ ap (λ (l : List Unsettled). take n l) (append-nil new)
     ∙ take_all n new (omega (arith, same, all))
+
+pub invariant_of-self : goal.invariant_of-self
+invariant_of-self g c =
+    let self = c.args.self.now in
+    let edits : List Unsettled = self.unsettled.items in
+    let value : c.deref_mut.result.now ≡ edits = c.deref_mut.ensures.value in
+    let old : c.want.new.edits ≡ edits = c.in_err-want.ensures.refused ∙ value in
+    record {
+      partition = self.partition;
+      name = self.name;
+      current = self.current;
+      given = self.given;
+      kept = subst (λ (es : List Unsettled). ∥ IsKept self.store self.journal es ∥₁)
+          (sym (whole c.want.new.edits edits self.unsettled.len (ap (λ (l : List Unsettled). length l) old) self.unsettled.ok.0 ∙ old)) self.kept;
+    }
+
+pub invariant_of-self-in-Break-branch-2 : goal.invariant_of-self-in-Break-branch-2
+invariant_of-self-in-Break-branch-2 g c =
+    let self = c.args.self.now in
+    let edits : List Unsettled = self.unsettled.items in
+    let m = c.in_ok-want.ensures.marks in
+    let value : c.deref_mut.result.now ≡ edits = c.deref_mut.ensures.value in
+    let same : c.deref.result.now ≡ map (marked m.wants) edits =
+    c.deref.ensures.value
+    ∙ whole c.want.new.edits edits self.unsettled.len (ap (λ (l : List Unsettled). length l) m.is ∙ length-map c.deref_mut.result.now (marked m.wants) ∙ ap (λ (l : List Unsettled). length l) value) self.unsettled.ok.0
+    ∙ m.is ∙ ap (map (marked m.wants)) value in
+    let new = c.settle_marked.new.store in
+    let s = c.settle_marked.ensures in
+    record {
+      partition = ap (λ (o : Place). o.partition) s.place ∙ self.partition;
+      name = ap (λ (o : Place). o.name) s.place ∙ self.name ∙ ap (λ (n : ℕ). to_be_bytes w64 n) (sym s.generation);
+      current = ap₂ (λ (d : Directory) (o : Place). is_current d o) s.directory s.place ∙ self.current;
+      given = still_given self.store new self.opened (same_next (directory (inner_of self.store)) (directory (inner_of new)) s.directory) self.given;
+      kept = ∥∥₁_map self.kept (λ k. subst (λ (es : List Unsettled). IsKept new c.settle_marked.new.journal es) c.deref.ensures.value
+          (s.kept (marked_kept self.store self.journal edits c.deref.result.now m.wants same k)));
+    }
+
+pub invariant_of-self-2 : goal.invariant_of-self-2
+invariant_of-self-2 g c =
+    let self = c.args.self.now in
+    let edits : List Unsettled = self.unsettled.items in
+    let m = c.in_ok-want.ensures.marks in
+    let value : c.deref_mut.result.now ≡ edits = c.deref_mut.ensures.value in
+    let same : c.deref.result.now ≡ map (marked m.wants) edits =
+    c.deref.ensures.value
+    ∙ whole c.want.new.edits edits self.unsettled.len (ap (λ (l : List Unsettled). length l) m.is ∙ length-map c.deref_mut.result.now (marked m.wants) ∙ ap (λ (l : List Unsettled). length l) value) self.unsettled.ok.0
+    ∙ m.is ∙ ap (map (marked m.wants)) value in
+    let new = c.settle_marked.new.store in
+    let s = c.settle_marked.ensures in
+    let left = filter_same _ (λ (e : Unsettled). not e.is_wanted) _ (λ x b f' h. search rules) _ _ c.retain.ensures.filtered in
+    record {
+      partition = ap (λ (o : Place). o.partition) s.place ∙ self.partition;
+      name = ap (λ (o : Place). o.name) s.place ∙ self.name ∙ ap (λ (n : ℕ). to_be_bytes w64 n) (sym s.generation);
+      current = ap₂ (λ (d : Directory) (o : Place). is_current d o) s.directory s.place ∙ self.current;
+      given = still_given self.store new self.opened (same_next (directory (inner_of self.store)) (directory (inner_of new)) s.directory) self.given;
+      kept = ∥∥₁_map self.kept (λ k. filtered_kept new c.settle_marked.new.journal _ _ (λ (e : Unsettled). not e.is_wanted) left
+          (subst (λ (es : List Unsettled). IsKept new c.settle_marked.new.journal es) c.deref.ensures.value
+          (s.kept (marked_kept self.store self.journal edits c.deref.result.now m.wants same k))));
+    }
 
 pub returns-clause-settled : goal.returns-clause-settled
 returns-clause-settled g c =
@@ -47,4 +102,33 @@ returns-clause-settled g c =
       wants = m.wants;
       exactly = subst (λ (l : List Unsettled). Wants c.args.settles c.args.synced l m.wants) value m.exactly;
       journal = subst (λ (l : List Unsettled). Changes self.store c.settle_marked.new.store (place (inside self.journal.blob)) (all_settled l)) same c.in_ok-settle_marked.ensures.settled;
+      told = ∥∥₁_elim self.kept (told_prop _ _) (λ k. c.in_ok-settle_marked.ensures.told (marked_kept self.store self.journal edits c.deref.result.now m.wants same k)
+          ∙ ap (λ (es : List Unsettled). settled_in (is_marked_in es) 0 (told_by self.journal)) same);
     }
+
+pub returns-in_err-want-clause-grows : goal.returns-in_err-want-clause-grows
+returns-in_err-want-clause-grows g c = grows_same (told_by c.args.self.now.journal)
+
+pub returns-in_err-settle_marked-clause-grows : goal.returns-in_err-settle_marked-clause-grows
+returns-in_err-settle_marked-clause-grows g c =
+    let self = c.args.self.now in
+    let edits : List Unsettled = self.unsettled.items in
+    let m = c.in_ok-want.ensures.marks in
+    let value : c.deref_mut.result.now ≡ edits = c.deref_mut.ensures.value in
+    let same : c.deref.result.now ≡ map (marked m.wants) edits =
+    c.deref.ensures.value
+    ∙ whole c.want.new.edits edits self.unsettled.len (ap (λ (l : List Unsettled). length l) m.is ∙ length-map c.deref_mut.result.now (marked m.wants) ∙ ap (λ (l : List Unsettled). length l) value) self.unsettled.ok.0
+    ∙ m.is ∙ ap (map (marked m.wants)) value in
+    ∥∥₁_elim self.kept (grows_prop _ _) (λ k. c.settle_marked.ensures.grows (marked_kept self.store self.journal edits c.deref.result.now m.wants same k))
+
+pub returns-clause-grows : goal.returns-clause-grows
+returns-clause-grows g c =
+    let self = c.args.self.now in
+    let edits : List Unsettled = self.unsettled.items in
+    let m = c.in_ok-want.ensures.marks in
+    let value : c.deref_mut.result.now ≡ edits = c.deref_mut.ensures.value in
+    let same : c.deref.result.now ≡ map (marked m.wants) edits =
+    c.deref.ensures.value
+    ∙ whole c.want.new.edits edits self.unsettled.len (ap (λ (l : List Unsettled). length l) m.is ∙ length-map c.deref_mut.result.now (marked m.wants) ∙ ap (λ (l : List Unsettled). length l) value) self.unsettled.ok.0
+    ∙ m.is ∙ ap (map (marked m.wants)) value in
+    ∥∥₁_elim self.kept (grows_prop _ _) (λ k. c.settle_marked.ensures.grows (marked_kept self.store self.journal edits c.deref.result.now m.wants same k))

@@ -1,3 +1,8 @@
+use Rattle.std.proofs.Common.{None, Option, Some, inl}
+use Rattle.std.specs.Prelude.{IsSome}
+use Rattle.blob_header.specs.Refusals.{Refusal, error_of}
+use Rattle.blob_memory.specs.Store.{directory}
+use Rattle.blob_journal.proofs.Found.{other_blob, same_next, still_given, still_kept}
 use Rattle.std.proofs.Common.{ap, ◌∙◌}
 use Rattle.blob_model.specs.Directory.{Directory, is_current}
 use Rattle.std.proofs.Common.{◌≡◌, ◌&&◌, ◌==◌, List, ℕ, ap₂, false, refl, subst, sym}
@@ -13,11 +18,27 @@ use Rattle.blob_faulty.specs.Wrapper.{inner_of, inside, next_marker_of, next_wri
 use Rattle.blob_journal.proofs.journaled.Journaled.sync_file.Goals as goal
 
 pub invariant_of-self : goal.invariant_of-self
-invariant_of-self g c = record {
-  partition = c.args.self.now.partition;
-  name = c.args.self.now.name;
-  current = ap (λ (d : Directory). is_current d (place (inside c.args.self.now.journal.blob))) c.sync.ensures.directory ∙ c.args.self.now.current;
-}
+invariant_of-self g c =
+    let self = c.args.self.now in
+    let new = c.sync.new.store in
+    let w = c.sync.ensures in
+    let file : Place = place (inside c.args.file.now.blob) in
+    let at : Place = place (inside self.journal.blob) in
+    let other : same_place file at ≡ false = other_blob file at c.args.file.now.partition self.partition in
+    let given = c.in_ok-check.ensures in
+    record {
+      partition = self.partition;
+      name = self.name;
+      current = ap (λ (d : Directory). is_current d at) w.directory ∙ self.current;
+      given = still_given self.store new self.opened (same_next (directory (inner_of self.store)) (directory (inner_of new)) w.directory) self.given;
+      kept = still_kept self.store new self.journal self.unsettled.items (λ test k. by_answer (error_of c.sync.result)
+          (λ ok. c.other_blobs.ensures.synced self.store new file at test (live (inside c.args.file.now.blob)) given other w.directory (inl (w.leaves.published ok)) k)
+          (λ err. c.same_bytes.ensures.same self.store new at test w.directory (w.leaves.same_files err) k)) self.kept;
+    }
+  where
+    by_answer : {Q : Type 0} (a : Option Refusal) → (a ≡ None → Q) → (IsSome a → Q) → Q
+    by_answer None ok err = ok refl
+    by_answer (Some r) ok err = err refl
 
 pub returns-in_err-sync-clause-files : goal.returns-in_err-sync-clause-files
 returns-in_err-sync-clause-files g c = λ r. (r.0, c.in_err-sync.ensures.leaves.same_files refl r.0 r.1)
@@ -31,10 +52,6 @@ returns-clause-files g c = λ r.
           (c.in_ok-sync.ensures.leaves.published refl r.0 r.1),
     )
 
--- the blob of a file isn't that of the journal
-apart : (a b : Place) → a.partition ≡ codes "f" → b.partition ≡ codes "j" → same_place a b ≡ false
-apart a b f j = ap₂ (λ (p q : List ℕ). bytes_eq p q && (bytes_eq a.name b.name && (a.number == b.number && a.start == b.start))) f j
-
 pub returns-in_err-sync-clause-journal : goal.returns-in_err-sync-clause-journal
 returns-in_err-sync-clause-journal g c =
     let at : Place = place (inside c.args.self.now.journal.blob) in
@@ -44,13 +61,14 @@ returns-in_err-sync-clause-journal g c =
       pending = (c.in_err-sync.ensures.leaves.unrecorded refl).pending at;
       files = λ r. (r.0, c.in_err-sync.ensures.leaves.same_files refl r.0 r.1);
       unsettled = refl;
+      told = refl;
     }
 
 pub returns-clause-journal : goal.returns-clause-journal
 returns-clause-journal g c =
     let at : Place = place (inside c.args.self.now.journal.blob) in
     let file : Place = place (inside c.args.file.now.blob) in
-    let other : same_place file at ≡ false = apart file at c.args.file.now.partition c.args.self.now.partition in
+    let other : same_place file at ≡ false = other_blob file at c.args.file.now.partition c.args.self.now.partition in
     let new = c.sync.new.store in
     record {
       place = refl;
@@ -62,4 +80,5 @@ returns-clause-journal g c =
             (c.in_ok-sync.ensures.leaves.published refl r.0 r.1),
       );
       unsettled = refl;
+      told = refl;
     }

@@ -1,12 +1,29 @@
-use Rattle.std.proofs.Common.{ap, ◌∙◌}
+use Rattle.std.proofs.Common.{◌≡◌, false, ap, refl, ◌∙◌}
+use Rattle.blob_base.specs.Options.{is_sync}
+use Rattle.blob_header.specs.Refusals.{error_of}
 use Rattle.blob_model.specs.Directory.{Directory, is_current}
-use Rattle.blob_memory.specs.Store.{place}
-use Rattle.blob_faulty.specs.Wrapper.{inside}
+use Rattle.blob_model.specs.Places.{Place, same_place}
+use Rattle.blob_memory.specs.Store.{directory, place}
+use Rattle.blob_draws.specs.Faults.{resize_fate}
+use Rattle.blob_draws.specs.Recorded.{recorded_resize, recorded_write}
+use Rattle.blob_faulty.specs.Wrapper.{config_of, inner_of, inside, next_write_of, rng_of, size_of}
+use Rattle.blob_journal.proofs.Found.{other_blob, same_next, still_given, still_kept}
 use Rattle.blob_journal.proofs.journaled.Journaled.write_file.Goals as goal
 
 pub invariant_of-self : goal.invariant_of-self
-invariant_of-self g c = record {
-  partition = c.args.self.now.partition;
-  name = c.args.self.now.name;
-  current = ap (λ (d : Directory). is_current d (place (inside c.args.self.now.journal.blob))) c.write_from.ensures.directory ∙ c.args.self.now.current;
-}
+invariant_of-self g c =
+    let self = c.args.self.now in
+    let new = c.write_from.new.store in
+    let w = c.write_from.ensures in
+    let file : Place = place (inside c.args.file.now.blob) in
+    let at : Place = place (inside self.journal.blob) in
+    let other : same_place file at ≡ false = other_blob file at c.args.file.now.partition self.partition in
+    let es = recorded_write (config_of self.store) (next_write_of self.store) (g.R.Rng.stream (rng_of self.store)) (is_sync c.default-options.result) c.args.offset c.args.bytes.now (error_of c.write_from.result) in
+    record {
+      partition = self.partition;
+      name = self.name;
+      current = ap (λ (d : Directory). is_current d at) w.directory ∙ self.current;
+      given = still_given self.store new self.opened (same_next (directory (inner_of self.store)) (directory (inner_of new)) w.directory) self.given;
+      kept = still_kept self.store new self.journal self.unsettled.items
+          (λ test k. c.other_blobs.ensures.recorded self.store new file at test es c.in_ok-check.ensures other w.directory (w.leaves.recorded refl) k) self.kept;
+    }

@@ -1,0 +1,152 @@
+//! A list of calls, and a crash after it.
+ghost use Rattle.std.specs.Prelude.{OnOk};
+ghost use Rattle.blob_fs.specs.Files.{GivesTold, GrowsTold, RunsAndCrashes};
+
+use crate::crash::Crash;
+use crate::error::FsError;
+use crate::file_system::{Descriptor, FileSystem};
+use crate::renames::Rename;
+use blob_journal::laws::told;
+use rand_core::Rng;
+
+/// A call that may change names, files or what is durable. Directories and files are given by their numbers.
+#[derive(Drop)]
+pub enum Call {
+    Create {
+        directory: u64,
+        name: Vec<u8>,
+    },
+    MakeDirectory {
+        directory: u64,
+        name: Vec<u8>,
+    },
+    Link {
+        inode: u64,
+        directory: u64,
+        name: Vec<u8>,
+    },
+    Unlink {
+        directory: u64,
+        name: Vec<u8>,
+    },
+    RemoveDirectory {
+        directory: u64,
+        name: Vec<u8>,
+    },
+    Rename {
+        from: u64,
+        old: Vec<u8>,
+        to: u64,
+        new: Vec<u8>,
+        how: Rename,
+    },
+    Open(u64),
+    OpenTruncated(u64),
+    Close(Descriptor),
+    Read {
+        file: Descriptor,
+        offset: u64,
+        len: usize,
+    },
+    Write {
+        file: Descriptor,
+        offset: u64,
+        bytes: Vec<u8>,
+    },
+    Truncate {
+        file: Descriptor,
+        length: u64,
+    },
+    Sync(Descriptor),
+    SyncData(Descriptor),
+    SyncDirectory(u64),
+    SyncAll,
+    Settle,
+}
+
+impl<R: Rng + Drop> FileSystem<R> {
+    /// Reads bytes of a file, and drops them. Returns whether that returned Ok.
+    #[tactic(auto, using(crate::proofs::Growing::grows_kept))]
+    fn read_some(&mut self, file: Descriptor, offset: u64, len: usize) -> bool
+        ensures grows { GrowsTold self.old self.new }
+    {
+        told();
+        let mut bytes = Vec::new(self.alloc);
+        if bytes.resize(len, 0).is_err() {
+            return false;
+        }
+        self.read(file, offset, bytes.as_mut_slice()).is_ok()
+    }
+
+    /// Makes a call. Returns whether it returned Ok.
+    #[tactic(auto, using(crate::proofs::Growing::grows_kept, crate::proofs::Growing::grows_made, crate::proofs::Growing::grows_by))]
+    pub fn call(&mut self, call: &Call) -> bool
+        ensures grows { GrowsTold self.old self.new }
+    {
+        told();
+        match call {
+            Call::Create { directory, name } => self.create_at(*directory, name).is_ok(),
+            Call::MakeDirectory { directory, name } => {
+                self.make_directory_at(*directory, name).is_ok()
+            }
+            Call::Link {
+                inode,
+                directory,
+                name,
+            } => self.link_at(*inode, *directory, name).is_ok(),
+            Call::Unlink { directory, name } => self.unlink_at(*directory, name).is_ok(),
+            Call::RemoveDirectory { directory, name } => {
+                self.remove_directory_at(*directory, name).is_ok()
+            }
+            Call::Rename {
+                from,
+                old,
+                to,
+                new,
+                how,
+            } => self.rename_at((*from, old), (*to, new), *how).is_ok(),
+            Call::Open(inode) => self.open_inode(*inode).is_ok(),
+            Call::OpenTruncated(inode) => self.open_inode_truncated(*inode).is_ok(),
+            Call::Close(file) => self.close(*file).is_ok(),
+            Call::Read { file, offset, len } => self.read_some(*file, *offset, *len),
+            Call::Write {
+                file,
+                offset,
+                bytes,
+            } => self.write(*file, *offset, bytes).is_ok(),
+            Call::Truncate { file, length } => self.truncate(*file, *length).is_ok(),
+            Call::Sync(file) => self.sync(*file).is_ok(),
+            Call::SyncData(file) => self.sync_data(*file).is_ok(),
+            Call::SyncDirectory(directory) => self.sync_directory_at(*directory).is_ok(),
+            Call::SyncAll => self.sync_all().is_ok(),
+            Call::Settle => self.settle().is_ok(),
+        }
+    }
+
+    /// Makes calls, one after another, whatever they return. No edit that was told before changes, and none that was settled is
+    /// unsettled again.
+    pub fn run(&mut self, calls: &[Call])
+        ensures grows { GrowsTold self.old self.new }
+    {
+        told();
+        for call in calls {
+            self.call(call);
+        }
+    }
+
+    /// Makes calls, one after another, and crashes.
+    ///
+    /// The names that are found are those of all edits that were settled, before or by the calls, and of some of the others, as
+    /// the profile keeps them, in the order of issue, each whole.
+    ///
+    /// # Errors
+    ///
+    /// Those of `crash`.
+    pub fn run_and_crash(&mut self, calls: &[Call]) -> Result<Crash, FsError>
+        ensures kept { OnOk result (RunsAndCrashes self.old self.new) }
+        ensures settled { OnOk result (GivesTold self.new) }
+    {
+        self.run(calls);
+        self.crash()
+    }
+}

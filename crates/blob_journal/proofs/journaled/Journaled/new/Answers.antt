@@ -1,0 +1,49 @@
+use Rattle.std.proofs.Common.{◌≡◌, ◌/◌, ℕ, List, length, [], Some, None, ap, sym, subst, ◌∙◌, arith, refl}
+use Rattle.std.specs.Prelude.{codes}
+use Rattle.std.specs.Int.{w64, to_be_bytes}
+use Rattle.blob_model.specs.Directory.{Directory}
+use Rattle.blob_model.specs.Files.{wrap}
+use Rattle.blob_model.specs.Pending.{Pending}
+use Rattle.blob_model.specs.Places.{Place}
+use Rattle.blob_directory.specs.Profiles.{found_in_all}
+use Rattle.blob_memory.specs.Store.{directory, durable, live, place}
+use Rattle.blob_memory.specs.declared.storage.Storage as memory
+use Rattle.blob_faulty.specs.Keeps.{bytes_found}
+use Rattle.blob_faulty.specs.Wrapper.{inner_of, inside, next_marker_of, next_write_of}
+use Rattle.blob_journal.specs.Currents.{IsFixed, Represents, pending_at}
+use Rattle.blob_journal.proofs.Found.{fixed_kept}
+use Rattle.blob_journal.proofs.Standing.{fixed_by}
+use Rattle.blob_journal.proofs.journaled.Journaled.new.Goals as goal
+
+pub invariant_of-result : goal.invariant_of-result
+invariant_of-result g c =
+    let store = c.new-store.result in
+    let opened = c.open.new.store in
+    let journal = c.in_ok-journal.journal in
+    let bytes = c.in_ok-journal.field-0-1 in
+    let o = c.in_ok-journal.ensures in
+    let at : Place = place (inside journal.blob) in
+    let empty : (directory (inner_of store)).file (codes "j") (to_be_bytes w64 0) ≡ None =
+    ap (λ (s : memory.Storage). (directory s).file (codes "j") (to_be_bytes w64 0)) c.new-store.ensures.inner ∙ ap (λ (d : Directory). d.file (codes "j") (to_be_bytes w64 0)) c.new-memory.ensures.directory in
+    let none : bytes.items ≡ [] = o.begun empty in
+    let files : Represents opened = c.open.ensures.files (wrap _ _ 0 0, c.new-store.ensures.represents) in
+    let pending : pending_at opened at ≡ [] = c.open.ensures.pending at ∙ ap (λ (f : Place → _). f at) c.new-store.ensures.pending in
+    let fixed : IsFixed opened at [] = fixed_by opened at [] (o.durable ∙ ap Some none) pending in
+    record {
+      partition = o.partition;
+      name = o.name;
+      current = o.current;
+      given = omega arith;
+      kept = ∣ fixed_kept opened journal _ [] files o.current o.given fixed (o.bytes ∙ none) refl (o.sectors ∙ ap (λ (l : List ℕ). length l / 1024) none) c.new-2.ensures.items ∣₁;
+    }
+
+pub returns-clause-told : goal.returns-clause-told
+returns-clause-told g c =
+    let store = c.new-store.result in
+    let journal = c.in_ok-journal.journal in
+    let bytes = c.in_ok-journal.field-0-1 in
+    let o = c.in_ok-journal.ensures in
+    let empty : (directory (inner_of store)).file (codes "j") (to_be_bytes w64 0) ≡ None =
+    ap (λ (s : memory.Storage). (directory s).file (codes "j") (to_be_bytes w64 0)) c.new-store.ensures.inner ∙ ap (λ (d : Directory). d.file (codes "j") (to_be_bytes w64 0)) c.new-memory.ensures.directory in
+    let none : bytes.items ≡ [] = o.begun empty in
+    ap (λ (n : ℕ). found_in_all n (live (inside journal.blob))) (o.sectors ∙ ap (λ (l : List ℕ). length l / 1024) none)

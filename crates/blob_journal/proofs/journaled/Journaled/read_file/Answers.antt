@@ -1,0 +1,23 @@
+use Rattle.std.proofs.Common.{◌≡◌, ap, ◌∙◌}
+use Rattle.blob_model.specs.Directory.{Directory, is_current}
+use Rattle.blob_memory.specs.Store.{directory, durable, place}
+use Rattle.blob_memory.specs.declared.storage.Storage as memory
+use Rattle.blob_faulty.specs.Wrapper.{inner_of, inside}
+use Rattle.blob_journal.proofs.Found.{same_next, still_given, still_kept}
+use Rattle.blob_journal.proofs.journaled.Journaled.read_file.Goals as goal
+
+pub invariant_of-self : goal.invariant_of-self
+invariant_of-self g c =
+    let self = c.args.self.now in
+    let new = c.read_into.new.store in
+    let r = c.read_into.ensures in
+    let same : directory (inner_of new) ≡ directory (inner_of self.store) = ap (λ (s : memory.Storage). directory s) r.inner in
+    let bytes : durable (inner_of new) ≡ durable (inner_of self.store) = ap (λ (s : memory.Storage). durable s) r.inner in
+    record {
+      partition = self.partition;
+      name = self.name;
+      current = ap (λ (d : Directory). is_current d (place (inside self.journal.blob))) same ∙ self.current;
+      given = still_given self.store new self.opened (same_next (directory (inner_of self.store)) (directory (inner_of new)) same) self.given;
+      kept = still_kept self.store new self.journal self.unsettled.items
+          (λ test k. c.same_bytes.ensures.unrecorded self.store new (place (inside self.journal.blob)) test same bytes r.leaves.unrecorded k) self.kept;
+    }

@@ -1,0 +1,19 @@
+use Rattle.std.proofs.Common.{ap, ◌∙◌}
+use Rattle.blob_model.specs.Directory.{is_current}
+use Rattle.blob_memory.specs.Store.{directory, place}
+use Rattle.blob_memory.specs.declared.storage.Storage as memory
+use Rattle.blob_faulty.specs.Wrapper.{inner_of, inside}
+use Rattle.blob_journal.proofs.Found.{same_next, still_given, still_kept}
+use Rattle.blob_journal.proofs.journaled.Journaled.read_whole.Goals as goal
+
+pub invariant_of-self : goal.invariant_of-self
+invariant_of-self g c =
+    let self = c.args.self.now in
+    let new = c.read_all.new.store in
+    record {
+      partition = self.partition;
+      name = self.name;
+      current = ap (λ (s : memory.Storage). is_current (directory s) (place (inside self.journal.blob))) c.read_all.ensures.inner ∙ self.current;
+      given = still_given self.store new self.opened (same_next (directory (inner_of self.store)) (directory (inner_of new)) (ap (λ (s : memory.Storage). directory s) c.read_all.ensures.inner)) self.given;
+      kept = still_kept self.store new self.journal self.unsettled.items (λ test k. c.read_all.ensures.left _ test k) self.kept;
+    }

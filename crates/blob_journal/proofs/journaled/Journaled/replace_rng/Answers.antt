@@ -1,0 +1,23 @@
+use Rattle.std.proofs.Common.{◌≡◌, ◌≤◌, ap, subst, sym, ◌∙◌}
+use Rattle.blob_model.specs.Directory.{is_current}
+use Rattle.blob_memory.specs.Store.{directory, place}
+use Rattle.blob_memory.specs.declared.storage.Storage as memory
+use Rattle.blob_faulty.specs.Keeps.{OverMemory}
+use Rattle.blob_faulty.specs.Wrapper.{inner_of, inside}
+use Rattle.blob_journal.specs.Found.{IsKept, with_kept}
+use Rattle.blob_journal.proofs.Found.{same_next, still_given}
+use Rattle.blob_journal.proofs.journaled.Journaled.replace_rng.Goals as goal
+
+pub invariant_of-self : goal.invariant_of-self
+invariant_of-self g c =
+    let self = c.args.self.now in
+    let new = c.replace_rng.new.self in
+    let set = c.replace_rng.ensures.set in
+    let same : inner_of new ≡ inner_of self.store = ap (λ (s : OverMemory g.row.R.Denot). inner_of s) set in
+    record {
+      partition = self.partition;
+      name = self.name;
+      current = ap (λ (s : memory.Storage). is_current (directory s) (place (inside self.journal.blob))) same ∙ self.current;
+      given = still_given self.store new self.opened (same_next (directory (inner_of self.store)) (directory (inner_of new)) (ap (λ (s : memory.Storage). directory s) same)) self.given;
+      kept = subst (λ (s : OverMemory g.row.R.Denot). ∥ IsKept s self.journal self.unsettled.items ∥₁) (sym set) (with_kept self.store c.args.rng self.journal self.unsettled.items self.kept);
+    }
