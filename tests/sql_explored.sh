@@ -17,10 +17,10 @@ outcomes() {
     grep -q "^$1  *$2  *$3 " "$work/out"
     tell $? "$1: $2 calls have $3 outcomes"
 }
-# By hand: of 91 calls each may be the one that fails, or none. With n draws pending there are 2^n outcomes, which is 2^n - 1 more. A
-# commit by two syncs has a sync after its pages and one after its mark. The first one writes three times before its first sync, and
-# once before its second: 1 + 3 + 7 and 1 more. The log is copied by three writes, a resize and a sync of the file: 1 + 3 + 7 + 7. It
-# is begun anew by three writes, each with a sync: 1 + 1 + 1. The second commit writes two pages and its mark: 1 + 3 and 1.
+# By hand: the power fails at one of 91 calls, or at none. With n draws pending there are 2^n outcomes, which is 2^n - 1 more than one.
+# The first commit by two syncs writes three times before its first sync, and once before its second: 1 + 3 + 7, and 1. The log is
+# copied by three writes, a resize and a sync of the file: 1 + 3 + 7 + 7. Three writes of the log follow, each synced before the next:
+# 1 + 1 + 1. The second commit writes twice before its first sync, and once before its second: 1 + 3, and 1.
 outcomes 'two syncs, whole writes' 91 130
 # By one sync, the first commit after the open has the same calls as above: 1 + 3 + 7 and 1. The second writes three times before its
 # only sync: 1 + 3 + 7. The log isn't copied.

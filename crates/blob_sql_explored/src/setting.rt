@@ -12,9 +12,8 @@ pub struct Setting {
     /// A commit needs one sync instead of two, since the disk guarantees that a crash leaves each byte of a write old
     /// or new.
     pub is_mixing: bool,
-    /// The sizes of the sectors of the log and of the file. A crash keeps or loses each sector of a write.
-    pub log_sector: u64,
-    pub file_sector: u64,
+    /// The size of a sector of the file. A crash keeps or loses each sector of a write, and each write of the log.
+    pub sector: u64,
     /// After how many frames the log is copied into the file.
     pub frames: usize,
     /// The syncs of the transactions that do nothing.
@@ -33,8 +32,7 @@ const COPIED: usize = 8;
 const TWO: Setting = Setting {
     name: "two syncs, whole writes",
     is_mixing: false,
-    log_sector: WHOLE,
-    file_sector: WHOLE,
+    sector: WHOLE,
     frames: COPIED,
     forgotten: Forgotten::Nothing,
     is_early: false,
@@ -47,18 +45,13 @@ const ONE: Setting = Setting {
 };
 
 /// Nothing may be lost in these.
-pub static RIGHT: [Setting; 4] = [
+pub static RIGHT: [Setting; 3] = [
     TWO,
     ONE,
     Setting {
         name: "two syncs, halves of pages",
-        file_sector: 2048,
+        sector: 2048,
         ..TWO
-    },
-    Setting {
-        name: "one sync, sectors of the log",
-        log_sector: 8192,
-        ..ONE
     },
 ];
 
@@ -119,8 +112,8 @@ impl Setting {
         ensures { IsNever (partial_resizes result.resize_rate) }
     {
         let size = match name {
-            Name::Log => self.log_sector,
-            Name::File => self.file_sector,
+            Name::Log => WHOLE,
+            Name::File => self.sector,
         };
         let mode = match SectorSize::new(size) {
             Some(size) => PartialWriteMode::Sectors(size),
