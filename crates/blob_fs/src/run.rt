@@ -1,6 +1,7 @@
 //! A list of calls, and a crash after it.
 ghost use Rattle.std.specs.Prelude.{OnOk};
-ghost use Rattle.blob_fs.specs.Files.{GivesTold, GrowsTold, RunsAndCrashes};
+ghost use Rattle.blob_fs.specs.Files.{GivesTold, GrowsTold, KeepsTold, told_of};
+ghost use Rattle.blob_fs.specs.Runs.{RunsAndCrashes, TellsCall, TellsCalls};
 
 use crate::crash::Crash;
 use crate::error::FsError;
@@ -66,11 +67,9 @@ pub enum Call {
 
 impl<R: Rng + Drop> FileSystem<R> {
     /// Reads bytes of a file, and drops them. Returns whether that returned Ok.
-    #[tactic(auto, using(crate::proofs::Growing::grows_kept))]
     fn read_some(&mut self, file: Descriptor, offset: u64, len: usize) -> bool
-        ensures grows { GrowsTold self.old self.new }
+        ensures told { KeepsTold self.old self.new }
     {
-        told();
         let mut bytes = Vec::new(self.alloc);
         if bytes.resize(len, 0).is_err() {
             return false;
@@ -81,9 +80,8 @@ impl<R: Rng + Drop> FileSystem<R> {
     /// Makes a call. Returns whether it returned Ok.
     #[tactic(auto, using(crate::proofs::Growing::grows_kept, crate::proofs::Growing::grows_made, crate::proofs::Growing::grows_by))]
     pub fn call(&mut self, call: &Call) -> bool
-        ensures grows { GrowsTold self.old self.new }
+        ensures told { TellsCall call.now (told_of self.old) (told_of self.new) }
     {
-        told();
         match call {
             Call::Create { directory, name } => self.create_at(*directory, name).is_ok(),
             Call::MakeDirectory { directory, name } => {
@@ -127,6 +125,7 @@ impl<R: Rng + Drop> FileSystem<R> {
     /// unsettled again.
     pub fn run(&mut self, calls: &[Call])
         ensures grows { GrowsTold self.old self.new }
+        ensures told { TellsCalls calls.now (told_of self.old) (told_of self.new) }
     {
         told();
         for call in calls {
@@ -143,7 +142,7 @@ impl<R: Rng + Drop> FileSystem<R> {
     ///
     /// Those of `crash`.
     pub fn run_and_crash(&mut self, calls: &[Call]) -> Result<Crash, FsError>
-        ensures kept { OnOk result (RunsAndCrashes self.old self.new) }
+        ensures kept { OnOk result (RunsAndCrashes self.old calls.now self.new) }
         ensures settled { OnOk result (GivesTold self.new) }
     {
         self.run(calls);
