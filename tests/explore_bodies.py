@@ -296,11 +296,11 @@ def resized(store):
 
 
 def test_each_drawn_size_is_tried_once():
-    """By hand: from 2 to 6 it is done, or it stays, or it stops at 3, 4 or 5; from each of these to 1 alike. Between 2 and 1 there is no
-    size, so that the two draws of a failure have the same result."""
+    """By hand: from 2 to 6 it is done, and then survives a crash or not, or it stays, or it stops at 3, 4 or 5; from each of these to 1 alike.
+    Between 2 and 1 there is no size, so that the two draws of a failure have the same result."""
     wanted = collections.Counter()
-    for between in (6, 2, 3, 4, 5):
-        wanted.update([(between, 1), (between, between), *[(between, end) for end in range(2, between)]])
+    for between in (6, 6, 2, 3, 4, 5):
+        wanted.update([(between, 1), (between, 1), (between, between), *[(between, end) for end in range(2, between)]])
     wanted[2, 2] += 1
     found = explore(resized)
     assert found.runs == sum(wanted.values()) and found.complete

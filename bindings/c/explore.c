@@ -174,11 +174,11 @@ static void script_of_a_long_run(void) {
     blobcrash_free_paths(&paths);
 }
 
-/* A failing resize from 2 to 6 bytes is done; or fails and stays, whatever its partial draw is set to; or stops at 3, 4 or 5 bytes. The
- * words are those of a rate, of another one and of a size: of three sizes the second has the word 2^64 / 3, rounded up. */
+/* A resize from 2 to 6 bytes fails and stops at 3, 4 or 5 bytes, or fails and stays, or is done and survives a crash or not. The words are
+ * those of a rate, of another one and of a size: of three sizes the second has the word 2^64 / 3, rounded up. */
 static void drawn_sizes(void) {
-    static const char *const words[] = {"words 0 0 0", "words 0 0 6148914691236517206", "words 0 0 12297829382473034411", "words 0 max", "words max"};
-    static const uint64_t sizes[] = {3, 4, 5, 2, 6};
+    static const char *const words[] = {"words 0 0 0", "words 0 0 6148914691236517206", "words 0 0 12297829382473034411", "words 0 max", "words max 0", "words max max"};
+    static const uint64_t sizes[] = {3, 4, 5, 2, 6, 6};
     struct blobcrash_paths paths = {0};
     struct blobcrash_session session = {0};
     while (blobcrash_next_run(&paths, &session, "") == BLOBCRASH_EXPLORE_RUN) {
@@ -188,9 +188,9 @@ static void drawn_sizes(void) {
         char text[64] = "";
         tell(blobcrash_end_run(&paths, &session) == BLOBCRASH_EXPLORE_RUN, "a run with a drawn size");
         blobcrash_words_of(&paths, text, sizeof text);
-        tell(run < 5 && size == sizes[run] && strcmp(text, words[run]) == 0, text);
+        tell(run < 6 && size == sizes[run] && strcmp(text, words[run]) == 0, text);
     }
-    tell(paths.runs == 5, "each size once");
+    tell(paths.runs == 6, "each size once");
     blobcrash_free_paths(&paths);
 }
 

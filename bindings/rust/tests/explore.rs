@@ -279,8 +279,8 @@ fn what_is_refused() {
     }
 }
 
-/// A failing resize that may stop between stops at each size once. By hand, of one from 2 to 6 bytes and back to 1: it is done, or it fails
-/// and stays, or it fails and stops at 3, 4 or 5 bytes; then from each of these sizes it is done, stays, or stops at a size between.
+/// A failing resize that may stop between stops at each size once. By hand, of one from 2 to 6 bytes and back to 1: it is done, and then
+/// survives a crash or not, or it fails and stays, or it fails and stops at 3, 4 or 5 bytes; then from each of these sizes alike.
 #[test]
 fn partial_resizes_stop_at_each_size() {
     let config = Config::default().resize(ResizeConfig {
@@ -300,11 +300,12 @@ fn partial_resizes_stop_at_each_size() {
     });
     let mut wanted = BTreeMap::new();
     for (grown, between) in [(true, 6), (false, 2), (false, 3), (false, 4), (false, 5)] {
-        wanted.insert((grown, between, true, 1), 1);
+        let leaves = if grown { 2 } else { 1 };
+        wanted.insert((grown, between, true, 1), 2 * leaves);
         for end in 2..=between {
             // There is no size between 2 and 1, so it stays whether it is partial or not.
-            let leaves = if between == 2 { 2 } else { 1 };
-            wanted.insert((grown, between, false, end), leaves);
+            let fates = if between == 2 { 2 } else { 1 };
+            wanted.insert((grown, between, false, end), fates * leaves);
         }
     }
     assert_eq!(visited.unwrap().runs, wanted.values().sum::<u64>());
