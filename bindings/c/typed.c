@@ -172,6 +172,21 @@ static void durable_bytes_are_read(void) {
     CHECK(blobcrash_audit(&session, into, 4).status == BLOBCRASH_CLOSED);
 }
 
+static void a_tracked_size_is_no_reply(void) {
+    struct blobcrash_session session = {0};
+    CHECK(blobcrash_tracked_size(&session, 0).status == BLOBCRASH_CLOSED);
+    begin(&session, "image p 62 000102\n");
+    CHECK(blobcrash_tracked_size(&session, 0).status == BLOBCRASH_E_NO_HANDLE);
+    CHECK(blobcrash_open_blob(&session, "p", 1, "a", 1, NULL, NULL) == BLOBCRASH_DONE);
+    CHECK(blobcrash_write_at(&session, 0, 5, "abc", 3) == BLOBCRASH_DONE);
+    CHECK(blobcrash_sync(&session, 7) == BLOBCRASH_E_NO_HANDLE);
+    struct blobcrash_typed_reply size = blobcrash_tracked_size(&session, 0);
+    CHECK(size.status == BLOBCRASH_DONE && size.size == 8);
+    CHECK(blobcrash_tracked_size(&session, SIZE_MAX).status == BLOBCRASH_E_NO_HANDLE);
+    CHECK(blobcrash_last(&session).status == BLOBCRASH_E_NO_HANDLE && prints(&session, "error NoHandle"));
+    blobcrash_close(&session);
+}
+
 static void refusals_have_numbers_and_texts(void) {
     static const struct blobcrash_asked unknown = {14, 0, 0, 0}, late = {BLOBCRASH_OPEN, 0, 0, 65536};
     struct blobcrash_session session = {0};
@@ -184,12 +199,6 @@ static void refusals_have_numbers_and_texts(void) {
     CHECK(blobcrash_sync(&session, handle) == BLOBCRASH_E_INJECTED && prints(&session, "error Injected"));
     CHECK(blobcrash_open_blob(&session, "p", 1, "a", 1, &handle, &size) == BLOBCRASH_E_BLOB_ALREADY_OPEN && handle == 0 && size == 9);
     CHECK(prints(&session, "error BlobAlreadyOpen p 61"));
-    /* A tracked size is no reply. */
-    CHECK(blobcrash_write_at(&session, 0, 0, "abc", 3) == BLOBCRASH_DONE);
-    CHECK(blobcrash_sync(&session, 7) == BLOBCRASH_E_NO_HANDLE);
-    CHECK(blobcrash_tracked_size(&session, 0).size == 3 && blobcrash_tracked_size(&session, 1).status == BLOBCRASH_E_NO_HANDLE);
-    CHECK(blobcrash_tracked_size(&session, SIZE_MAX).status == BLOBCRASH_E_NO_HANDLE);
-    CHECK(blobcrash_last(&session).status == BLOBCRASH_E_NO_HANDLE && prints(&session, "error NoHandle"));
     CHECK(blobcrash_open_blob(&session, "a b\n", 4, "a", 1, NULL, NULL) == BLOBCRASH_E_PARTITION_NAME_INVALID);
     CHECK(prints(&session, "error PartitionNameInvalid a b\n"));
     CHECK(blobcrash_open_versioned(&session, "p", 1, "a", 1, 2, 1, NULL, NULL, NULL) == BLOBCRASH_E_EMPTY_RANGE);
@@ -329,6 +338,7 @@ int main(void) {
     names_are_listed();
     a_crash_returns_runs();
     durable_bytes_are_read();
+    a_tracked_size_is_no_reply();
     refusals_have_numbers_and_texts();
     headers_are_parsed();
     headers_are_created_and_resolved();
