@@ -10,7 +10,7 @@ trap 'redis-cli -s "$folder.socket" shutdown nosave; tools/mountctl "$folder" um
 serve() {
     redis-server --dir "$folder" --appendonly yes --appendfsync always --save '' --port 0 --unixsocket "$folder.socket" \
         --pidfile "$folder.pid" --daemonize yes >/dev/null
-    # While it reads its log it answers LOADING, with status 0.
+    # While it reads its log it returns LOADING, with status 0.
     until [ "$(redis-cli -s "$folder.socket" ping 2>/dev/null)" = PONG ]; do sleep 0.1; done
 }
 

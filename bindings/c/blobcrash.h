@@ -440,7 +440,7 @@ uint32_t blobcrash_explorer_count(struct blobcrash_explorer *explorer, struct bl
                                   size_t left);
 
 /*
- * As blobcrash_explorer_count, where the last draw is that of a size among `among`: a partial resize stopped at one of the `among` sizes
+ * As blobcrash_explorer_count, if the last draw is that of a size among `among`: a partial resize stopped at one of the `among` sizes
  * between the old one and the new one.
  *
  * DONE; NO_ROOM if the list is too short for them, and BAD_CALL if `among` is 0, which change nothing.

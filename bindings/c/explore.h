@@ -102,7 +102,7 @@ static inline uint64_t blobcrash_size_word(uint64_t index, uint64_t among) {
     return word + (rest > 0);
 }
 
-/* Writes the word of a choice behind a space, if it is a draw. Returns the length, at most 21. */
+/* Writes a space and the word of a choice, if it is a draw. Returns the length, at most 21. */
 static inline size_t blobcrash_put_word(const struct blobcrash_choice *choice, char *text) {
     if (choice->kind == BLOBCRASH_DRAWN_SIZE) {
         return (size_t)snprintf(text, 22, " %" PRIu64, blobcrash_size_word(choice->branch, choice->among));
@@ -212,7 +212,7 @@ static inline void blobcrash_count_words(struct blobcrash_paths *paths, struct b
     if (has_room) blobcrash_explorer_count(&paths->explorer, paths->choices, paths->capacity, left.len);
 }
 
-/* As blobcrash_count_words, where the last draw is that of a size among so many. */
+/* As blobcrash_count_words, if the last draw is that of a size among `among`. */
 static inline void blobcrash_count_size(struct blobcrash_paths *paths, struct blobcrash_ran left, uint64_t among) {
     if (left.status != BLOBCRASH_DONE || left.len > paths->explorer.given) return;
     bool has_room = blobcrash_add_room(paths, paths->explorer.given - left.len);

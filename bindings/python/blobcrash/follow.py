@@ -104,7 +104,7 @@ class Run:
                 self.bounds.end_met()
 
     def count(self, left: int, sizes: int = 0) -> None:
-        """Counts the draws of a call, after which `left` words are left. With `sizes` the last one drew one of so many."""
+        """Counts the draws of a call, after which `left` words are left. With `sizes` the last one drew one of that many."""
         if left == 0:
             self.is_short = True
             self.bounds.check(len(self.words))

@@ -60,7 +60,7 @@ class Traversal:
             self._hold(2 * self._capacity)
 
     def count(self, left: int, sizes: int = 0) -> None:
-        """Makes the draws up to here choices of the run, where `left` words are left. With `sizes` the last one drew one of so many."""
+        """Makes the draws up to here choices of the run, where `left` words are left. With `sizes` the last one drew one of that many."""
         while self._counted(left, sizes) == NO_ROOM:
             self._hold(2 * self._capacity)
 
