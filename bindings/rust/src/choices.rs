@@ -88,7 +88,7 @@ impl Choices {
         self.is_long |= self.path.made() as u64 > self.most;
     }
 
-    /// Counts draws as `count` does, if the last one is that of a size, `among` many.
+    /// Counts draws as `count` does, if the last one drew a size among `among`.
     pub(crate) fn count_size(&mut self, left: usize, among: u64) {
         self.is_short |= left == 0;
         self.path.count_size(left, among);

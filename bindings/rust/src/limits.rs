@@ -103,7 +103,7 @@ impl Limits {
         }
     }
 
-    /// Counts the draws that an explored run has made, if the last one is that of a size, `among` many.
+    /// Counts the draws that an explored run has made, if the last one drew a size among `among`.
     pub(crate) fn count_size(&mut self, among: u64, session: &mut dyn Recorded) {
         if let (Some(choices), Some(left)) = (&mut self.choices, session.words_left()) {
             choices.count_size(left, among);

@@ -51,7 +51,7 @@ impl Path {
         unsafe { blobcrash_explorer_count(&mut self.explorer, at, capacity, left) };
     }
 
-    /// Makes draws choices as `count` does, if the last one is that of a size, `among` many.
+    /// Makes draws choices as `count` does, if the last one drew a size among `among`.
     pub(crate) fn count_size(&mut self, left: usize, among: u64) {
         self.reserve(self.explorer.given.saturating_sub(left));
         let (explorer, capacity) = (&mut self.explorer, self.choices.len());
