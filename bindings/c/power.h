@@ -83,17 +83,23 @@ struct blobcrash_resize_made {
     uint64_t from, to;
 };
 
+/* Reads the number after the spaces at `*at`, and moves `*at` after it. The library rejects a line in which it isn't one. */
+static inline uint64_t blobcrash_number_at(const uint8_t *line, size_t len, size_t *at) {
+    uint64_t number = 0;
+    while (*at < len && line[*at] == ' ') ++*at;
+    for (; *at < len && line[*at] >= '0' && line[*at] <= '9'; ++*at) number = 10 * number + (uint64_t)(line[*at] - '0');
+    return number;
+}
+
 /* Reads a line `resize HANDLE LEN`, before it is made. */
 static inline struct blobcrash_resize_made blobcrash_before_resize(struct blobcrash_session *session, const uint8_t *line, size_t len) {
     struct blobcrash_resize_made resize = {false, 0, 0, 0};
-    char text[128];
     size_t at = 0;
     if (!blobcrash_has_word(line, len, "resize ")) return resize;
-    for (size_t i = 0; i < len && at + 1 < sizeof text; i++) {
-        if (line[i] != ' ' || i == 0 || line[i - 1] != ' ') text[at++] = (char)line[i];
-    }
-    text[at] = 0;
-    if (sscanf(text, " resize %zu %" SCNu64, &resize.handle, &resize.to) != 2) return resize;
+    while (line[at] == ' ') at++;
+    at += strlen("resize");
+    resize.handle = (size_t)blobcrash_number_at(line, len, &at);
+    resize.to = blobcrash_number_at(line, len, &at);
     struct blobcrash_typed_reply size = blobcrash_tracked_size(session, resize.handle);
     resize.is_one = size.status == BLOBCRASH_DONE;
     resize.from = size.size;

@@ -147,7 +147,7 @@ class _Followed:
     def call(self, line: bytes) -> bytes:
         self._run.calls.append(line)
         tokens = line.split() if self._left is not None else []
-        if len(tokens) == 3 and tokens[0] == b"resize":
+        if len(tokens) == 3 and tokens[0] == b"resize" and tokens[1].isdigit() and int(tokens[1]) <= MAX:
             return self._resize(line, tokens)
         reply = self._layer.call(line)
         self._count()
