@@ -1,7 +1,7 @@
 //! Syncs of files and of directories.
 ghost use Rattle.std.specs.Prelude.{◌≡◌, IfOk, OnOk};
 ghost use Rattle.blob_fs.specs.declared.switches.Syncs.TheVariants.{Honest};
-ghost use Rattle.blob_fs.specs.Files.{GrowsTold, IsSyncOf, KeepsJournal, KeepsNames, KeepsTold, SettlesEdits, SyncsAll, SyncsDirectory, SyncsFile, syncs_of};
+ghost use Rattle.blob_fs.specs.Files.{IsSyncOf, KeepsJournal, KeepsNames, KeepsTold, SettlesEdits, SettlesSome, SyncsAll, SyncsDirectory, SyncsFile, syncs_of};
 
 use crate::error::FsError;
 use crate::file_system::{Descriptor, FileSystem};
@@ -16,7 +16,7 @@ impl<R: Rng + Drop> FileSystem<R> {
     /// Settles the edits that a sync settles by the profile.
     fn settle_by(&mut self, settles: Settles, synced: Synced) -> Result<(), FsError>
         ensures names { KeepsNames self.old self.new }
-        ensures grows { GrowsTold self.old self.new }
+        ensures some { SettlesSome self.old self.new }
         ensures settled { OnOk result (SettlesEdits settles synced self.old self.new) }
     {
         settling::<R>();
@@ -88,10 +88,10 @@ impl<R: Rng + Drop> FileSystem<R> {
     ///
     /// `Stale`, `Injected` of the layer's sync, `Memory`. The names and bytes that the calls see stay. Some of the edits may be
     /// settled. After `Injected` with `FailedSync::Drops`, what was unsynced is dropped.
-    #[tactic(auto, using(crate::proofs::Growing::grows_kept, crate::proofs::Growing::grows_then, crate::proofs::Growing::grows_from))]
+    #[tactic(auto, using(crate::proofs::Settling::settles_kept, crate::proofs::Settling::settles_then, crate::proofs::Settling::settles_from))]
     pub fn sync(&mut self, file: Descriptor) -> Result<(), FsError>
         ensures names { KeepsNames self.old self.new }
-        ensures grows { GrowsTold self.old self.new }
+        ensures some { SettlesSome self.old self.new }
         ensures settled { OnOk result (syncs_of self.old ≡ Honest → SyncsFile self.old file self.new) }
     {
         settling::<R>();
@@ -117,10 +117,10 @@ impl<R: Rng + Drop> FileSystem<R> {
     /// # Errors
     ///
     /// Those of `sync`.
-    #[tactic(auto, using(crate::proofs::Growing::grows_kept, crate::proofs::Growing::grows_then, crate::proofs::Growing::grows_from))]
+    #[tactic(auto, using(crate::proofs::Settling::settles_kept, crate::proofs::Settling::settles_then, crate::proofs::Settling::settles_from))]
     pub fn sync_data(&mut self, file: Descriptor) -> Result<(), FsError>
         ensures names { KeepsNames self.old self.new }
-        ensures grows { GrowsTold self.old self.new }
+        ensures some { SettlesSome self.old self.new }
     {
         self.begin_call()?;
         let inode = self.inode_of(file)?;
@@ -151,10 +151,10 @@ impl<R: Rng + Drop> FileSystem<R> {
     /// # Errors
     ///
     /// `NotDirectory`, `NotFound`, `Memory`. Some of the edits may be settled.
-    #[tactic(auto, using(crate::proofs::Growing::grows_kept, crate::proofs::Growing::grows_then, crate::proofs::Growing::grows_from))]
+    #[tactic(auto, using(crate::proofs::Settling::settles_kept, crate::proofs::Settling::settles_then, crate::proofs::Settling::settles_from))]
     pub fn sync_directory_at(&mut self, directory: u64) -> Result<(), FsError>
         ensures names { KeepsNames self.old self.new }
-        ensures grows { GrowsTold self.old self.new }
+        ensures some { SettlesSome self.old self.new }
         ensures settled { OnOk result (syncs_of self.old ≡ Honest → SyncsDirectory self.old directory self.new) }
     {
         settling::<R>();
@@ -175,7 +175,7 @@ impl<R: Rng + Drop> FileSystem<R> {
     /// Settles all edits.
     fn settle_names(&mut self) -> Result<(), FsError>
         ensures names { KeepsNames self.old self.new }
-        ensures grows { GrowsTold self.old self.new }
+        ensures some { SettlesSome self.old self.new }
         ensures settled { OnOk result (SyncsAll self.old self.new) }
     {
         self.settle_by(Settles::All, Synced::Directory(0))
@@ -186,10 +186,10 @@ impl<R: Rng + Drop> FileSystem<R> {
     /// # Errors
     ///
     /// `Injected` of the layer's syncs, `Memory`. What was done until then stays.
-    #[tactic(auto, using(crate::proofs::Growing::grows_kept, crate::proofs::Growing::grows_then, crate::proofs::Growing::grows_from))]
+    #[tactic(auto, using(crate::proofs::Settling::settles_kept, crate::proofs::Settling::settles_then, crate::proofs::Settling::settles_from))]
     pub fn sync_all(&mut self) -> Result<(), FsError>
         ensures names { KeepsNames self.old self.new }
-        ensures grows { GrowsTold self.old self.new }
+        ensures some { SettlesSome self.old self.new }
         ensures settled { OnOk result (syncs_of self.old ≡ Honest → SyncsAll self.old self.new) }
     {
         settling::<R>();
@@ -221,10 +221,10 @@ impl<R: Rng + Drop> FileSystem<R> {
     /// # Errors
     ///
     /// `Memory`. What was done until then stays.
-    #[tactic(auto, using(crate::proofs::Growing::grows_kept, crate::proofs::Growing::grows_then, crate::proofs::Growing::grows_from))]
+    #[tactic(auto, using(crate::proofs::Settling::settles_kept, crate::proofs::Settling::settles_then, crate::proofs::Settling::settles_from))]
     pub fn settle(&mut self) -> Result<(), FsError>
         ensures names { KeepsNames self.old self.new }
-        ensures grows { GrowsTold self.old self.new }
+        ensures some { SettlesSome self.old self.new }
     {
         self.begin_call()?;
         let inodes = self.inodes()?;
