@@ -92,10 +92,10 @@ grows_does (Read f offset len) ok fs fs' m = grows_leaves fs fs' m
 grows_does (Write f offset bytes) ok fs fs' m = grows_leaves fs fs' m
 grows_does (Truncate f length) ok fs fs' m = grows_leaves fs fs' m
 grows_does (Sync f) ok fs fs' m = m.0.1.grows
-grows_does (SyncData f) ok fs fs' m = m.1.grows
+grows_does (SyncData f) ok fs fs' m = m.0.1.grows
 grows_does (SyncDirectory d) ok fs fs' m = m.0.1.grows
 grows_does SyncAll ok fs fs' m = m.0.1.grows
-grows_does Settle ok fs fs' m = m.1.grows
+grows_does Settle ok fs fs' m = m.0.1.grows
 
 -- one more call
 pub does_more : {R : Type 0} (calls : List Call) (oks : List Bool) (call : Call) (ok : Bool) (a b c : FileSystem R)

@@ -1,5 +1,6 @@
 -- What each call of a list does, and what a crash after the list finds.
 use Rattle.std.specs.Prelude.{◌≡◌, ◌≢◌, ℕ, Bool, true, false, List, [], ◌∷◌, Some, None}
+use Rattle.blob_draws.specs.declared.selections.Selections.{Selections}
 use Rattle.blob_directory.specs.declared.edit.Binding.{Binding}
 use Rattle.blob_directory.specs.Names.{Edit, binds, directory_at, entry, exchanges, file, frees, moves}
 use Rattle.blob_fs.specs.declared.file_system.FileSystem.{FileSystem}
@@ -9,7 +10,7 @@ use Rattle.blob_fs.specs.declared.run.Call.{Call}
 use Rattle.blob_fs.specs.declared.run.Call.TheVariants.{Create, MakeDirectory, Link, Unlink, RemoveDirectory, Open, OpenTruncated, Close, Read, Write, Truncate, Sync, SyncData, SyncDirectory, SyncAll, Settle}
 use Rattle.blob_fs.specs.declared.run.Call.TheVariants as call
 use Rattle.blob_fs.specs.declared.switches.Syncs.TheVariants.{Honest}
-use Rattle.blob_fs.specs.Files.{AddsTold, FindsTold, KeepsNames, KeepsTold, MakesEdit, SameNames, SettlesSome, SyncsAll, SyncsDirectory, SyncsFile, fresh_inode, names_of, syncs_of}
+use Rattle.blob_fs.specs.Files.{AddsTold, FindsKept, FindsTold, KeepsNames, KeepsTold, MakesEdit, SameNames, SettlesSome, SyncsAll, SyncsDirectory, SyncsFile, fresh_inode, names_of, syncs_of}
 
 -- one more edit is recorded, which nothing has settled, and the names have it
 pub record Makes {R : Type 0} (edit : Edit) (fs fs' : FileSystem R) : Type 0 where
@@ -78,10 +79,10 @@ Does (Read f offset len) ok fs fs' = Leaves fs fs'
 Does (Write f offset bytes) ok fs fs' = Leaves fs fs'
 Does (Truncate f length) ok fs fs' = Leaves fs fs'
 Does (Sync f) ok fs fs' = SyncsIf ok (SyncsFile fs f fs') fs fs'
-Does (SyncData f) ok fs fs' = MaySettle fs fs'
+Does (SyncData f) ok fs fs' = SyncsIf ok (SyncsFile fs f fs') fs fs'
 Does (SyncDirectory d) ok fs fs' = SyncsIf ok (SyncsDirectory fs d fs') fs fs'
 Does SyncAll ok fs fs' = SyncsIf ok (SyncsAll fs fs') fs fs'
-Does Settle ok fs fs' = MaySettle fs fs'
+Does Settle ok fs fs' = MaySettle fs fs' × ByResult ok (SyncsAll fs fs') (Unit {0})
 
 -- each call of a list in order, by whether it returned Ok
 abbrev pub DoesAll : {R : Type 0} → List Call → List Bool → FileSystem R → FileSystem R → Type 0
@@ -90,8 +91,9 @@ DoesAll [] (ok ∷ oks) fs fs' = ⊥
 DoesAll (call ∷ calls) [] fs fs' = ⊥
 DoesAll {R} (call ∷ calls) (ok ∷ oks) fs fs' = (between : FileSystem R) × Does call ok fs between × DoesAll calls oks between fs'
 
--- after these calls a crash found the names by the edits that were recorded until then
-pub record RunsAndCrashes {R : Type 0} (fs : FileSystem R) (calls : List Call) (oks : List Bool) (fs' : FileSystem R) : Type 0 where
+-- After these calls a crash that kept these rows found the names by the edits that were recorded until then.
+pub record RunsAndCrashes {R : Type 0} (fs : FileSystem R) (calls : List Call) (oks : List Bool) (rows : Selections) (fs' : FileSystem R) : Type 0 where
   pub between : FileSystem R
   pub done : DoesAll calls oks fs between
+  pub kept : FindsKept between rows fs'
   pub finds : FindsTold between fs'

@@ -154,7 +154,7 @@ impl<R: Rng + Drop> FileSystem<R> {
     ///
     /// Those of `run` and of `crash`.
     pub fn run_and_crash(&mut self, calls: &[Call]) -> Result<(Vec<bool>, Crash), FsError>
-        ensures kept { IfOk result (λ r. RunsAndCrashes self.old calls.now r.0.items self.new) }
+        ensures kept { IfOk result (λ r. RunsAndCrashes self.old calls.now r.0.items r.1.rows self.new) }
         ensures settled { OnOk result (GivesTold self.new) }
     {
         let oks = self.run(calls)?;

@@ -4,7 +4,7 @@ use Rattle.blob_fs.specs.declared.file_system.FileSystem.{FileSystem}
 use Rattle.blob_fs.specs.declared.run.Call.{Call}
 use Rattle.blob_fs.specs.Calls.{Does, Leaves, MakesIf, RenamesAt}
 use Rattle.blob_fs.specs.Files.{SyncsAll, SyncsDirectory, SyncsFile, fresh_inode}
-use Rattle.blob_fs.proofs.Calls.{by_result, leaves, makes_if, makes_numbered, on_err, on_ok, syncs_if}
+use Rattle.blob_fs.proofs.Calls.{always, by_result, leaves, makes_if, makes_numbered, on_err, on_ok, syncs_if}
 use Rattle.blob_fs.proofs.file_system.FileSystem.call.Goals as goal
 
 pub returns-in-Create : goal.returns-in-Create
@@ -144,7 +144,7 @@ returns-in-SyncData g c =
     let fs' : FileSystem g.row.R.Denot = c.sync_data.new.self in
     let r = c.sync_data.ensures in
     subst (λ (call : Call). Does call c.is_ok-in-SyncData.result fs fs') (sym c.in-SyncData.is)
-    ((r.names, r.some))
+    (syncs_if (SyncsFile fs c.in-SyncData.file fs') c.sync_data.result c.is_ok-in-SyncData.result c.is_ok-in-SyncData.ensures.value fs fs' r.names r.some r.settled)
 
 pub returns-in-Settle : goal.returns-in-Settle
 returns-in-Settle g c =
@@ -152,4 +152,4 @@ returns-in-Settle g c =
     let fs' : FileSystem g.row.R.Denot = c.settle.new.self in
     let r = c.settle.ensures in
     subst (λ (call : Call). Does call c.is_ok-in-Settle.result fs fs') (sym c.in-Settle.is)
-    ((r.names, r.some))
+    ((r.names, r.some), by_result (SyncsAll fs fs') (Unit {0}) c.settle.result c.is_ok-in-Settle.result c.is_ok-in-Settle.ensures.value r.settled (always c.settle.result tt))
