@@ -10,7 +10,7 @@ use Rattle.blob_fs.specs.declared.run.Call.{Call}
 use Rattle.blob_fs.specs.declared.run.Call.TheVariants.{Create, MakeDirectory, Link, Unlink, RemoveDirectory, Open, OpenTruncated, Close, Read, Write, Truncate, Sync, SyncData, SyncDirectory, SyncAll, Settle}
 use Rattle.blob_fs.specs.declared.run.Call.TheVariants as call
 use Rattle.blob_fs.specs.declared.switches.Syncs.TheVariants.{Honest}
-use Rattle.blob_fs.specs.Files.{AddsTold, FindsKept, FindsTold, KeepsNames, KeepsTold, MakesEdit, SameNames, SettlesSome, SyncsAll, SyncsDirectory, SyncsFile, fresh_inode, names_of, syncs_of}
+use Rattle.blob_fs.specs.Files.{AddsTold, FindsKept, FindsTold, GrowsTold, KeepsNames, KeepsTold, MakesEdit, SameNames, SettlesSome, SyncsAll, SyncsDirectory, SyncsFile, fresh_inode, names_of, syncs_of}
 
 -- one more edit is recorded, which nothing has settled, and the names have it
 pub record Makes {R : Type 0} (edit : Edit) (fs fs' : FileSystem R) : Type 0 where
@@ -95,5 +95,6 @@ DoesAll {R} (call ∷ calls) (ok ∷ oks) fs fs' = (between : FileSystem R) × D
 pub record RunsAndCrashes {R : Type 0} (fs : FileSystem R) (calls : List Call) (oks : List Bool) (rows : Selections) (fs' : FileSystem R) : Type 0 where
   pub between : FileSystem R
   pub done : DoesAll calls oks fs between
+  pub grows : GrowsTold fs between
   pub kept : FindsKept between rows fs'
   pub finds : FindsTold between fs'

@@ -21,7 +21,7 @@ loop-call-preserved g c =
     let more : take (k + 1) calls ≡ take k calls ++ item ∷ [] = take_more calls k item c.loop-call-test.true ∙ ap (λ (x : Call). take k calls ++ x ∷ []) (sym c.call-item.is) in
     record {
       done = subst (λ (l : List Call). DoesAll l c.push_reserved.new.self.items fs after) (sym {A = List Call} more)
-          (subst (λ (l : List Bool). DoesAll (take k calls ++ item ∷ []) l fs after) (sym c.push_reserved.ensures.items)
+          (subst (λ (l : List Bool). DoesAll (take k calls ++ item ∷ []) l fs after) (sym {A = List Bool} c.push_reserved.ensures.items)
           (does_more (take k calls) c.loop-call.oks.items item ok fs before after i.done c.call-ok.ensures));
       grows = c.told.ensures.twice (told_of fs) (told_of before) (told_of after) i.grows (grows_does item ok before after c.call-ok.ensures);
       count = omega (arith, c.push_reserved.ensures.len, i.count);
