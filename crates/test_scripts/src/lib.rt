@@ -1,10 +1,8 @@
-//! Tests of whole scripts and of `resolve` over failing streams, through public calls.
+//! Tests of whole scripts over failing streams, through public calls.
 #![tactic(auto)]
 
 #[cfg(test)]
 mod failing;
-#[cfg(test)]
-mod resolutions;
 #[cfg(test)]
 mod script_runs;
 #[cfg(test)]

@@ -3,9 +3,9 @@
 #![tactic(auto)]
 
 #[cfg(test)]
-mod base_headers;
+mod base_errors;
 #[cfg(test)]
-mod base_values;
+mod base_headers;
 #[cfg(test)]
 mod faulty;
 #[cfg(test)]
