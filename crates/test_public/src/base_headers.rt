@@ -7,8 +7,12 @@ use blob_base::{
 fn layouts(rt: HostRuntime) {
     assert!(rt; Layout::V0 < Layout::V1 && DEFAULT_BLOB_LAYOUT == Layout::V1);
     assert!(rt; Layout::all() == (Layout::V0..=Layout::V1));
+}
+
+#[test]
+fn numbers_of_layouts(rt: HostRuntime) {
     assert!(rt; Layout::V1.layout_version() == 1 && Layout::V0.data_offset() == 8);
-    assert!(rt; Layout::from_magic(&Layout::V0.magic()) == Some(Layout::V0));
+    assert!(rt; Layout::V0.magic() == *b"CWIC");
     assert!(rt; BlobVersion::new(7).get() == 7 && DEFAULT_BLOB_VERSION.get() == 0);
 }
 
