@@ -1,7 +1,7 @@
-//! Only tests, through public calls. Values, damaged headers, rates; scripts over failing streams; a log that must find
-//! what it acknowledged, over every outcome of small runs; covered writes, which must leave their list; and the public
-//! items of `blob_base`, `blob_memory`, `blob_faulty` and `blob_lab` that no row of `test_rows` and no worked script uses,
-//! by their paths: a function that makes one call tests that it compiles and is proved.
+//! Only tests, through public calls: of values, damaged headers and rates; of scripts over failing streams; of a log over
+//! every outcome of small runs; of covered writes, which must leave their list; and of the public items of `blob_base`,
+//! `blob_memory`, `blob_faulty` and `blob_lab` that no row of `test_rows` and no worked script uses, by their paths. A
+//! function that makes one call tests that it compiles and is proved.
 #![tactic(auto)]
 
 #[cfg(test)]
