@@ -127,6 +127,12 @@ fn append_each(
     Ok(())
 }
 
+// Only the proof of this function sees the contract of a crash.
+fn crash(store: &mut Store<ScriptedRng>) -> Result<(), Error> {
+    let _ = store.crash()?;
+    Ok(())
+}
+
 /// Recovers. If the open or the read fails, the power does, and the next recovery meets no fault.
 fn recover(
     alloc: Global,
@@ -136,7 +142,7 @@ fn recover(
     if let Ok(recovered) = Tried::recover(alloc, store, mistake) {
         return Ok(recovered);
     }
-    store.crash()?;
+    crash(store)?;
     store.set_config(Config::default());
     Tried::recover(alloc, store, mistake)
 }
@@ -151,7 +157,7 @@ fn recover_twice(
     let (_, found) = recover(alloc, store, mistake)?;
     let is_kept = promised.is_kept(&found);
     *promised = Promised::new(alloc, found);
-    store.crash()?;
+    crash(store)?;
     let (log, again) = recover(alloc, store, mistake)?;
     let is_same = promised.is_kept(&again);
     Ok((log, is_kept && is_same))
@@ -170,10 +176,32 @@ fn session(
     store.set_config(case.config());
     append_each(alloc, store, log, entries, promised)?;
     if crashes {
-        store.crash()?;
+        crash(store)?;
     }
     let (again, holds) = recover_twice(alloc, store, case.mistake, promised)?;
     *log = again;
+    Ok(holds)
+}
+
+/// The records of two sessions, `at` in the first, and whether each ends in a crash.
+fn parts(case: &Case, at: usize) -> [(&'static [&'static [u8]], bool); 2] {
+    let (first, second) = RECORDS.split_at(at.min(3));
+    let second = &second[..case.records.saturating_sub(at).min(second.len())];
+    [(first, !case.reopens), (second, true)]
+}
+
+fn sessions(
+    alloc: Global,
+    store: &mut Store<ScriptedRng>,
+    case: &Case,
+    at: usize,
+    log: &mut Tried,
+) -> Result<bool, Error> {
+    let mut promised = Promised::new(alloc, Vec::new(alloc));
+    let mut holds = true;
+    for part in parts(case, at) {
+        holds &= session(alloc, store, case, log, &mut promised, part)?;
+    }
     Ok(holds)
 }
 
@@ -184,15 +212,32 @@ fn run(
     case: &Case,
     at: usize,
 ) -> Result<bool, Error> {
-    let (first, second) = RECORDS.split_at(at.min(3));
-    let second = &second[..case.records.saturating_sub(at).min(second.len())];
-    let mut promised = Promised::new(alloc, Vec::new(alloc));
     let (mut log, _) = Tried::recover(alloc, store, case.mistake)?;
-    let mut holds = true;
-    for part in [(first, !case.reopens), (second, true)] {
-        holds &= session(alloc, store, case, &mut log, &mut promised, part)?;
+    sessions(alloc, store, case, at, &mut log)
+}
+
+/// A new store that draws these words.
+fn store_of(alloc: Global, words: Vec<u64>) -> Store<ScriptedRng> {
+    let memory = blob_memory::Storage::new(alloc);
+    let rng = ScriptedRng::new(words);
+    blob_faulty::Storage::new(alloc, memory, rng, Config::default())
+}
+
+/// The words of the explorer's path, zeros, and a last word that isn't zero. Returns how many there are before that.
+fn words_of(explorer: &Explorer) -> Result<(Vec<u64>, usize), Error> {
+    let mut words = explorer.words()?;
+    let given = words.len().saturating_add(SPARE);
+    words.resize(given, 0)?;
+    words.push(u64::MAX)?;
+    Ok((words, given))
+}
+
+/// How many of the given words a run took, if it didn't take the last one.
+fn taken(store: &Store<ScriptedRng>, given: usize) -> Result<usize, Error> {
+    match store.rng().left() {
+        Some(left) if left > 0 => Ok(given.saturating_sub(left - 1)),
+        _ => Err(Error::GenerationsExhausted),
     }
-    Ok(holds)
 }
 
 /// Runs along the explorer's path. Returns the number of draws, and whether the run held.
@@ -202,18 +247,10 @@ fn visit(
     case: &Case,
     at: usize,
 ) -> Result<(usize, bool), Error> {
-    let mut words = explorer.words()?;
-    let given = words.len().saturating_add(SPARE);
-    words.resize(given, 0)?;
-    words.push(u64::MAX)?;
-    let memory = blob_memory::Storage::new(alloc);
-    let rng = ScriptedRng::new(words);
-    let mut store = blob_faulty::Storage::new(alloc, memory, rng, Config::default());
+    let (words, given) = words_of(explorer)?;
+    let mut store = store_of(alloc, words);
     let holds = run(alloc, &mut store, case, at)?;
-    match store.rng().left() {
-        Some(left) if left > 0 => Ok((given.saturating_sub(left - 1), holds)),
-        _ => Err(Error::GenerationsExhausted),
-    }
+    Ok((taken(&store, given)?, holds))
 }
 
 /// The leaves of all runs of a case, and the number of those that don't hold.

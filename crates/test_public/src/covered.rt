@@ -35,6 +35,11 @@ fn write(
     blob.write_at(store, at as u64, byte, options)
 }
 
+fn open(store: &mut Store) -> Result<Opened, Error> {
+    let (blob, _) = store.open("p", b"b")?;
+    Ok(blob)
+}
+
 /// Whether no list has more entries than this.
 fn are_within(store: &Store, most: usize) -> bool {
     for list in store.pending() {
@@ -50,7 +55,7 @@ fn are_within(store: &Store, most: usize) -> bool {
 fn covered_writes_leave_their_list(rt: HostRuntime) -> Result<(), Fail> {
     let alloc = rt.alloc();
     let mut store = new(alloc);
-    let (mut blob, _) = store.open("p", b"b")?;
+    let mut blob = open(&mut store)?;
     for at in 0..WRITES {
         write(alloc, &mut store, &mut blob, at, WriteOptions::default())?;
     }

@@ -1,7 +1,5 @@
-//! Each call and reply of a laboratory by its name, and how whole scripts end.
-use blob_lab::{Call, Ending, Reply, ScriptedRng, run_resolve, run_script};
-use rand_core::Rng;
-use std::test::Fail;
+//! Each call and reply of a laboratory by its name.
+use blob_lab::{Call, Reply};
 
 /// Every call by its name and fields.
 pub fn number(call: &Call) -> u64 {
@@ -59,35 +57,4 @@ pub fn size(reply: &Reply) -> u64 {
         Reply::Crashed(kept) => kept.rows().len() as u64,
         Reply::Failed(_) => 0,
     }
-}
-
-#[test]
-fn a_bad_line_ends_a_script(rt: HostRuntime) -> Result<(), Fail> {
-    let alloc = rt.alloc();
-    let (ending, _, _) = run_script(alloc, b"close 0\nshut 0\n".as_slice(), Vec::new(alloc));
-    assert!(rt; ending.status() == 2);
-    let line = format!(in alloc; "{ending}")?;
-    assert!(rt; line.as_str() == "line 2: bad call");
-    Ok(())
-}
-
-#[test]
-fn a_bad_image_is_refused(rt: HostRuntime) {
-    let alloc = rt.alloc();
-    let (ending, _, _) = run_resolve(alloc, b"zz\n".as_slice(), Vec::new(alloc));
-    assert!(rt; ending == Ending::BadImage && ending.status() == 2);
-}
-
-#[test]
-fn words_come_in_order(rt: HostRuntime) -> Result<(), Fail> {
-    let mut words = Vec::new(rt.alloc());
-    words.push(3 << 32 | 5)?;
-    words.push(u64::MAX)?;
-    words.push(0x0807060504030201)?;
-    let mut rng = ScriptedRng::new(words);
-    assert!(rt; rng.next_u32() == 5 && rng.next_u64() == u64::MAX);
-    let mut bytes = [0; 4];
-    rng.fill_bytes(&mut bytes);
-    assert!(rt; bytes == [1, 2, 3, 4] && rng.next_u64() == 0);
-    Ok(())
 }
