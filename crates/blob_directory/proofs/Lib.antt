@@ -3,6 +3,7 @@ pub mod Fitting
 pub mod Journals
 pub mod Ranges
 pub mod Maps
+pub mod Paths
 pub mod Sectors
 pub mod Settled
 pub mod Walks

@@ -7,3 +7,4 @@ pub mod Profiles
 pub mod Syncs
 pub mod Wanted
 pub mod Settled
+pub mod Paths

@@ -1,50 +1,37 @@
 //! Paths: names after slashes.
-ghost use Rattle.std.specs.Prelude.{◌<◌, ◌≤◌, length, IfSome};
+ghost use Rattle.std.specs.Prelude.{◌≡◌, ◌<◌, ◌≤◌, ◌∷◌, [], length, IfNone, IfSome, not};
+ghost use Rattle.std.specs.List.{prefix_len};
+ghost use Rattle.blob_directory.specs.Paths.{is_slash, path_names};
 
 /// The longest name, in bytes.
 pub const NAME_MAX: usize = 255;
 
+/// Returns how many slashes a path begins with.
+fn slashes_before(path: &[u8]) -> usize
+    ensures value { result ≡ prefix_len is_slash path.now }
+    ensures within { result ≤ length path.now }
+{
+    path.iter().take_while(|b| **b == b'/').count()
+}
+
+/// Returns how many bytes are before the first slash.
+fn length_before_slash(path: &[u8]) -> usize
+    ensures value { result ≡ prefix_len (λ b. not (is_slash b)) path.now }
+    ensures within { result ≤ length path.now }
+{
+    path.iter().take_while(|b| **b != b'/').count()
+}
+
 /// Returns the path's first name and what follows it, or `None` if the path has no name. Slashes before a name don't
 /// count.
 pub fn first_name(path: &[u8]) -> Option<(&[u8], &[u8])>
+    ensures names { IfSome result (λ r. path_names path.now ≡ r.0.now ∷ path_names r.1.now) }
+    ensures none { IfNone result (path_names path.now ≡ []) }
     ensures shorter { IfSome result (λ r. length r.1.now < length path.now) }
 {
-    let start = path.iter().position(|b| *b != b'/')?;
-    let path = &path[start..];
-    let (_, behind) = path.split_first()?;
-    let end = match behind.iter().position(|b| *b == b'/') {
-        None => path.len(),
-        Some(end) => end + 1,
-    };
-    Some(path.split_at(end))
-}
-
-/// Returns the length of the bytes without the slashes at their end.
-fn length_before_slashes(path: &[u8]) -> usize
-    ensures { result ≤ length path.now }
-{
-    match path.iter().rposition(|b| *b != b'/') {
-        None => 0,
-        Some(last) => last + 1,
-    }
-}
-
-/// Returns the length of the bytes up to the last slash, with it. 0 if there is none.
-fn length_with_slash(path: &[u8]) -> usize
-    ensures { result ≤ length path.now }
-{
-    match path.iter().rposition(|b| *b == b'/') {
-        None => 0,
-        Some(last) => last + 1,
-    }
-}
-
-/// Returns the path without its last name, and that name, or `None` if the path has no name. Slashes behind a name
-/// don't count.
-pub fn last_name(path: &[u8]) -> Option<(&[u8], &[u8])> {
-    let path = &path[..length_before_slashes(path)];
-    if path.is_empty() {
+    let (_, left) = path.split_at(slashes_before(path));
+    if left.is_empty() {
         return None;
     }
-    Some(path.split_at(length_with_slash(path)))
+    Some(left.split_at(length_before_slash(left)))
 }

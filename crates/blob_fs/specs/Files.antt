@@ -22,7 +22,7 @@ use Rattle.blob_journal.specs.declared.journaled.Journaled.{Journaled}
 use Rattle.blob_journal.specs.Currents.{Represents}
 use Rattle.blob_journal.specs.Journals.{FindsKept as finds_kept, durable_file, FindsNames as finds_names, GivesNames as gives_names, store_of}
 use Rattle.blob_journal.specs.Settling.{KeepsJournal as keeps_journal, SettlesEdits as settles_edits}
-use Rattle.blob_journal.specs.Keeping.{AddsTold as adds_told, FindsTold as finds_told, GivesTold as gives_told, GrowsTold as grows_told, KeepsTold as keeps_told, generator_in, table_in, told_in, with_generator as with_generator_in}
+use Rattle.blob_journal.specs.Keeping.{AddsTold as adds_told, FindsTold as finds_told, GivesTold as gives_told, GrowsTold as grows_told, KeepsTold as keeps_told, SettlesSome as settles_some, generator_in, table_in, told_in, with_generator as with_generator_in}
 
 -- the names, their journal and the store
 abbrev pub journaled_of : {R : Type 0} → FileSystem R → Journaled R
@@ -160,6 +160,10 @@ AddsTold edit fs fs' = adds_told edit (journaled_of fs) (journaled_of fs')
 abbrev pub GrowsTold : {R : Type 0} → FileSystem R → FileSystem R → Type 0
 GrowsTold fs fs' = grows_told (journaled_of fs) (journaled_of fs')
 
+-- edits may have been settled, and no other change was made
+abbrev pub SettlesSome : {R : Type 0} → FileSystem R → FileSystem R → Type 0
+SettlesSome fs fs' = settles_some (journaled_of fs) (journaled_of fs')
+
 -- after a crash the names are those that it finds by the edits that were told: by all that were settled, and by some of the others, as the profile keeps them
 abbrev pub FindsTold : {R : Type 0} → FileSystem R → FileSystem R → Type 0
 FindsTold fs fs' = finds_told (journaled_of fs) (keeps_of fs) (names_of fs')
@@ -167,12 +171,6 @@ FindsTold fs fs' = finds_told (journaled_of fs) (keeps_of fs) (names_of fs')
 -- all edits that were told are settled, and they give the names
 abbrev pub GivesTold : {R : Type 0} → FileSystem R → Type 0
 GivesTold fs = gives_told (journaled_of fs)
-
--- after some calls, in which no edit was unsettled, a crash found the names by the edits that were told until then
-pub record RunsAndCrashes {R : Type 0} (fs fs' : FileSystem R) : Type 0 where
-  pub between : FileSystem R
-  pub grows : GrowsTold fs between
-  pub finds : FindsTold between fs'
 
 -- A file that isn't gone, by its number, and its sizes.
 

@@ -3,3 +3,5 @@ pub use Rattle.blob_directory.specs.Names
 pub use Rattle.blob_directory.specs.Profiles
 pub use Rattle.blob_directory.specs.Sectors
 pub use Rattle.blob_directory.specs.Tables
+pub mod Calls
+pub mod Paths

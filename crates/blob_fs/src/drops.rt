@@ -1,5 +1,6 @@
 //! A sync that fails and drops what was unsynced: what reads return after it.
-ghost use Rattle.blob_fs.specs.Files.{KeepsNames, KeepsTold};
+ghost use Rattle.std.specs.Prelude.{◌≡◌};
+ghost use Rattle.blob_fs.specs.Files.{KeepsNames, KeepsTold, journaled_of};
 ghost use Rattle.blob_journal.specs.Keeping.{KeepsTable, KeepsTold as keeps_told};
 
 use crate::error::FsError;
@@ -106,6 +107,7 @@ impl<R: Rng + Drop> FileSystem<R> {
 
     /// Lets reads return the blob's bytes again.
     pub(crate) fn show_blob(&mut self, inode: u64)
+        ensures store { journaled_of self.new ≡ journaled_of self.old }
         ensures names { KeepsNames self.old self.new }
         ensures told { KeepsTold self.old self.new }
     {

@@ -1,6 +1,6 @@
 //! Open files: their bytes and sizes.
 ghost use Rattle.std.specs.Prelude.{◌≡◌, IfOk, Some};
-ghost use Rattle.blob_fs.specs.Files.{KeepsNames, KeepsTold, inode_opened};
+ghost use Rattle.blob_fs.specs.Files.{KeepsNames, KeepsTold, inode_opened, journaled_of};
 
 use crate::error::FsError;
 use crate::file_system::{Descriptor, File, FileSystem};
@@ -202,6 +202,7 @@ impl<R: Rng + Drop> FileSystem<R> {
 
     /// Counts a file that had one size and has another.
     pub(crate) fn count(&mut self, size: u64, now: u64)
+        ensures store { journaled_of self.new ≡ journaled_of self.old }
         ensures names { KeepsNames self.old self.new }
         ensures told { KeepsTold self.old self.new }
     {

@@ -98,16 +98,18 @@ impl<R: Rng + Drop> FileSystem<R> {
     ///
     /// `Exists`, `NotFound` and `NotDirectory` of the directory, those of `check_name`, `NoSpace`, `Memory`.
     pub fn make_directory_at(&mut self, directory: u64, name: &[u8]) -> Result<u64, FsError>
+        ensures number { IfOk result (λ d. d ≡ fresh_inode self.old) }
         ensures made { IfOk result (λ d. MakesEdit (binds directory name.now (directory_at d)) self.old self.new) }
         ensures free { OnOk result (names_of self.old (entry directory name.now) ≡ None) }
         ensures refused { OnErr result (SameNames self.old self.new) }
         ensures told { IfOk result (λ d. AddsTold (binds directory name.now (directory_at d)) self.old self.new) }
         ensures untold { OnErr result (KeepsTold self.old self.new) }
     {
+        let inode = self.next_inode;
         self.begin_call()?;
         let entry = self.entry_in(directory, name)?;
         self.check_free(&entry)?;
-        let (inode, next) = self.fresh_inode()?;
+        let (_, next) = self.fresh_inode()?;
         self.directories.insert(inode, directory)?;
         let kind = Kind::Directory;
         let edit = Edit::one(entry, Some(Binding { inode, kind }));

@@ -1,6 +1,6 @@
 //! Names, and paths of them.
 use crate::error::FsError;
-pub use blob_directory::path::{NAME_MAX, first_name, last_name};
+pub use blob_directory::path::{NAME_MAX, first_name};
 
 /// Refuses what can't be a name.
 ///

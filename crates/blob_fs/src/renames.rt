@@ -1,6 +1,7 @@
 //! Renames, in one step.
-ghost use Rattle.std.specs.Prelude.{OnOk, OnErr};
-ghost use Rattle.blob_fs.specs.Files.{AddsTold, GrowsTold, KeepsNames, KeepsTold, MakesEdit, SameNames};
+ghost use Rattle.std.specs.Prelude.{◌≡◌, ◌≢◌, MatchBool, None, OnOk, OnErr, Some};
+ghost use Rattle.blob_fs.specs.Calls.{Leaves, Renames, RenamesAt};
+ghost use Rattle.blob_fs.specs.Files.{AddsTold, GrowsTold, KeepsNames, KeepsTold, MakesEdit, SameNames, names_of};
 ghost use Rattle.blob_directory.specs.Names.{exchanges, moves};
 
 use crate::error::FsError;
@@ -18,6 +19,13 @@ pub enum Rename {
     NoReplace,
     /// The two names change places. Both have to be there.
     Exchange,
+}
+
+/// Returns whether both are of the same file or directory.
+fn is_same(a: Binding, b: Binding) -> bool
+    ensures { MatchBool result (a ≡ b) (a ≢ b) }
+{
+    a == b
 }
 
 impl<R: Rng + Drop> FileSystem<R> {
@@ -71,6 +79,7 @@ impl<R: Rng + Drop> FileSystem<R> {
         to: (u64, &[u8]),
         how: Rename,
     ) -> Result<(), FsError>
+        ensures renamed { OnOk result (RenamesAt how from.entry.0 from.entry.1.now to.entry.0 to.entry.1.now self.old self.new) }
         ensures refused { OnErr result (SameNames self.old self.new) }
         ensures grows { GrowsTold self.old self.new }
         ensures untold { OnErr result (KeepsTold self.old self.new) }
@@ -83,13 +92,60 @@ impl<R: Rng + Drop> FileSystem<R> {
             self.check_not_below(moved.inode, to.0)?;
         }
         let there = self.store.names().get(&new);
-        match (there, how) {
-            (None, Rename::Exchange) => Err(FsError::NotFound),
-            (None, _) => self.move_name((old, from.0), (new, to.0), moved),
-            (Some(_), Rename::NoReplace) => Err(FsError::Exists),
-            (Some(was), _) if was == moved => Ok(()),
-            (Some(was), Rename::Replace) => self.replace((old, from.0), (new, to.0), moved, was),
-            (Some(was), Rename::Exchange) => self.exchange((old, from.0), (new, to.0), moved, was),
+        match there {
+            None => self.rename_free((old, from.0), (new, to.0), moved, how),
+            Some(was) => self.rename_taken((old, from.0), (new, to.0), (moved, was), how),
+        }
+    }
+
+    /// Renames to a name that is free.
+    fn rename_free(
+        &mut self,
+        from: (Vec<u8>, u64),
+        to: (Vec<u8>, u64),
+        moved: Binding,
+        how: Rename,
+    ) -> Result<(), FsError>
+        requires bound { names_of self.old from.0.items ≡ Some moved }
+        requires free { names_of self.old to.0.items ≡ None }
+        ensures renamed { OnOk result (Renames how from.0.items to.0.items self.old self.new) }
+        ensures refused { OnErr result (Leaves self.old self.new) }
+    {
+        match how {
+            Rename::Exchange => Err(FsError::NotFound),
+            Rename::Replace => self.move_name(from, to, moved),
+            Rename::NoReplace => self.move_name(from, to, moved),
+        }
+    }
+
+    /// Renames to a name that is taken.
+    fn rename_taken(
+        &mut self,
+        from: (Vec<u8>, u64),
+        to: (Vec<u8>, u64),
+        bound: (Binding, Binding),
+        how: Rename,
+    ) -> Result<(), FsError>
+        requires bound { names_of self.old from.0.items ≡ Some bound.0 }
+        requires taken { names_of self.old to.0.items ≡ Some bound.1 }
+        ensures renamed { OnOk result (Renames how from.0.items to.0.items self.old self.new) }
+        ensures refused { OnErr result (Leaves self.old self.new) }
+    {
+        let (moved, was) = bound;
+        match how {
+            Rename::NoReplace => Err(FsError::Exists),
+            Rename::Replace => {
+                if is_same(was, moved) {
+                    return Ok(());
+                }
+                self.replace(from, to, moved, was)
+            }
+            Rename::Exchange => {
+                if is_same(was, moved) {
+                    return Ok(());
+                }
+                self.exchange(from, to, moved, was)
+            }
         }
     }
 

@@ -1,6 +1,7 @@
 //! A list of calls, and a crash after it.
-ghost use Rattle.std.specs.Prelude.{OnOk};
-ghost use Rattle.blob_fs.specs.Files.{GivesTold, GrowsTold, RunsAndCrashes};
+ghost use Rattle.std.specs.Prelude.{IfOk, OnErr, OnOk};
+ghost use Rattle.blob_fs.specs.Calls.{Does, DoesAll, Leaves, RunsAndCrashes};
+ghost use Rattle.blob_fs.specs.Files.{GivesTold, GrowsTold, KeepsNames, KeepsTold};
 
 use crate::crash::Crash;
 use crate::error::FsError;
@@ -66,11 +67,10 @@ pub enum Call {
 
 impl<R: Rng + Drop> FileSystem<R> {
     /// Reads bytes of a file, and drops them. Returns whether that returned Ok.
-    #[tactic(auto, using(crate::proofs::Growing::grows_kept))]
     fn read_some(&mut self, file: Descriptor, offset: u64, len: usize) -> bool
-        ensures grows { GrowsTold self.old self.new }
+        ensures names { KeepsNames self.old self.new }
+        ensures told { KeepsTold self.old self.new }
     {
-        told();
         let mut bytes = Vec::new(self.alloc);
         if bytes.resize(len, 0).is_err() {
             return false;
@@ -79,11 +79,9 @@ impl<R: Rng + Drop> FileSystem<R> {
     }
 
     /// Makes a call. Returns whether it returned Ok.
-    #[tactic(auto, using(crate::proofs::Growing::grows_kept, crate::proofs::Growing::grows_made, crate::proofs::Growing::grows_by))]
     pub fn call(&mut self, call: &Call) -> bool
-        ensures grows { GrowsTold self.old self.new }
+        ensures { Does call.now result self.old self.new }
     {
-        told();
         match call {
             Call::Create { directory, name } => self.create_at(*directory, name).is_ok(),
             Call::MakeDirectory { directory, name } => {
@@ -104,7 +102,12 @@ impl<R: Rng + Drop> FileSystem<R> {
                 to,
                 new,
                 how,
-            } => self.rename_at((*from, old), (*to, new), *how).is_ok(),
+            } => {
+                let old_name = old.as_slice();
+                let new_name = new.as_slice();
+                self.rename_at((*from, old_name), (*to, new_name), *how)
+                    .is_ok()
+            }
             Call::Open(inode) => self.open_inode(*inode).is_ok(),
             Call::OpenTruncated(inode) => self.open_inode_truncated(*inode).is_ok(),
             Call::Close(file) => self.close(*file).is_ok(),
@@ -123,30 +126,39 @@ impl<R: Rng + Drop> FileSystem<R> {
         }
     }
 
-    /// Makes calls, one after another, whatever they return. No edit that was told before changes, and none that was settled is
-    /// unsettled again.
-    pub fn run(&mut self, calls: &[Call])
+    /// Makes calls, one after another, whatever they return. Returns, for each call, whether it returned Ok.
+    ///
+    /// # Errors
+    ///
+    /// `Memory`. No call was made.
+    pub fn run(&mut self, calls: &[Call]) -> Result<Vec<bool>, FsError>
+        ensures done { IfOk result (λ oks. DoesAll calls.now oks.items self.old self.new) }
+        ensures refused { OnErr result (Leaves self.old self.new) }
         ensures grows { GrowsTold self.old self.new }
     {
         told();
+        let mut oks = Vec::with_capacity(self.alloc, calls.len())?;
         for call in calls {
-            self.call(call);
+            let ok = self.call(call);
+            oks.push_reserved(ok);
         }
+        Ok(oks)
     }
 
-    /// Makes calls, one after another, and crashes.
+    /// Makes calls, one after another, and crashes. Returns, for each call, whether it returned Ok, and what the crash kept.
     ///
     /// The names that are found are those of all edits that were settled, before or by the calls, and of some of the others, as
     /// the profile keeps them, in the order of issue, each whole.
     ///
     /// # Errors
     ///
-    /// Those of `crash`.
-    pub fn run_and_crash(&mut self, calls: &[Call]) -> Result<Crash, FsError>
-        ensures kept { OnOk result (RunsAndCrashes self.old self.new) }
+    /// Those of `run` and of `crash`.
+    pub fn run_and_crash(&mut self, calls: &[Call]) -> Result<(Vec<bool>, Crash), FsError>
+        ensures kept { IfOk result (λ r. RunsAndCrashes self.old calls.now r.0.items r.1.rows self.new) }
         ensures settled { OnOk result (GivesTold self.new) }
     {
-        self.run(calls);
-        self.crash()
+        let oks = self.run(calls)?;
+        let crash = self.crash()?;
+        Ok((oks, crash))
     }
 }

@@ -1,7 +1,7 @@
 //! Syncs of files and of directories.
 ghost use Rattle.std.specs.Prelude.{◌≡◌, IfOk, OnOk};
 ghost use Rattle.blob_fs.specs.declared.switches.Syncs.TheVariants.{Honest};
-ghost use Rattle.blob_fs.specs.Files.{GrowsTold, IsSyncOf, KeepsJournal, KeepsNames, KeepsTold, SettlesEdits, SyncsAll, SyncsDirectory, SyncsFile, syncs_of};
+ghost use Rattle.blob_fs.specs.Files.{IsSyncOf, KeepsJournal, KeepsNames, KeepsTold, SettlesEdits, SettlesSome, SyncsAll, SyncsDirectory, SyncsFile, journaled_of, syncs_of};
 
 use crate::error::FsError;
 use crate::file_system::{Descriptor, FileSystem};
@@ -16,7 +16,7 @@ impl<R: Rng + Drop> FileSystem<R> {
     /// Settles the edits that a sync settles by the profile.
     fn settle_by(&mut self, settles: Settles, synced: Synced) -> Result<(), FsError>
         ensures names { KeepsNames self.old self.new }
-        ensures grows { GrowsTold self.old self.new }
+        ensures some { SettlesSome self.old self.new }
         ensures settled { OnOk result (SettlesEdits settles synced self.old self.new) }
     {
         settling::<R>();
@@ -37,6 +37,22 @@ impl<R: Rng + Drop> FileSystem<R> {
             grown: file.grown,
             is_changed: file.is_changed,
         })
+    }
+
+    /// Returns what a sync of a file's data is, by what the file is before it, and whether the file stays changed.
+    fn data_sync_of(&self, inode: u64) -> Result<(Synced, bool), FsError>
+        ensures { IfOk result (λ r. IsSyncOf inode r.0) }
+    {
+        let Some(file) = self.files.get(&inode) else {
+            return Err(FsError::Stale);
+        };
+        let is_resized = file.synced != file.blob.size();
+        let synced = Synced::File {
+            inode,
+            grown: file.grown,
+            is_changed: is_resized,
+        };
+        Ok((synced, file.is_changed && !is_resized))
     }
 
     /// Syncs an inode's bytes. Returns what is needed to choose the edits that this settles.
@@ -72,13 +88,14 @@ impl<R: Rng + Drop> FileSystem<R> {
         FsError::Store(error)
     }
 
-    /// Says that a file has changed since its last sync.
-    fn touch(&mut self, inode: u64)
+    /// Says whether a file has changed since its last sync.
+    fn set_changed(&mut self, inode: u64, is_changed: bool)
+        ensures store { journaled_of self.new ≡ journaled_of self.old }
         ensures names { KeepsNames self.old self.new }
         ensures told { KeepsTold self.old self.new }
     {
         if let Some(file) = self.files.get_mut(&inode) {
-            file.is_changed = true;
+            file.is_changed = is_changed;
         }
     }
 
@@ -88,10 +105,10 @@ impl<R: Rng + Drop> FileSystem<R> {
     ///
     /// `Stale`, `Injected` of the layer's sync, `Memory`. The names and bytes that the calls see stay. Some of the edits may be
     /// settled. After `Injected` with `FailedSync::Drops`, what was unsynced is dropped.
-    #[tactic(auto, using(crate::proofs::Growing::grows_kept, crate::proofs::Growing::grows_then, crate::proofs::Growing::grows_from))]
+    #[tactic(auto, using(crate::proofs::Settling::settles_kept, crate::proofs::Settling::settles_then, crate::proofs::Settling::settles_from))]
     pub fn sync(&mut self, file: Descriptor) -> Result<(), FsError>
         ensures names { KeepsNames self.old self.new }
-        ensures grows { GrowsTold self.old self.new }
+        ensures some { SettlesSome self.old self.new }
         ensures settled { OnOk result (syncs_of self.old ≡ Honest → SyncsFile self.old file self.new) }
     {
         settling::<R>();
@@ -105,7 +122,7 @@ impl<R: Rng + Drop> FileSystem<R> {
         match self.settle_by(settles, synced) {
             Ok(()) => Ok(()),
             Err(error) => {
-                self.touch(inode);
+                self.set_changed(inode, true);
                 Err(error)
             }
         }
@@ -117,33 +134,31 @@ impl<R: Rng + Drop> FileSystem<R> {
     /// # Errors
     ///
     /// Those of `sync`.
-    #[tactic(auto, using(crate::proofs::Growing::grows_kept, crate::proofs::Growing::grows_then, crate::proofs::Growing::grows_from))]
+    #[tactic(auto, using(crate::proofs::Settling::settles_kept, crate::proofs::Settling::settles_then, crate::proofs::Settling::settles_from))]
     pub fn sync_data(&mut self, file: Descriptor) -> Result<(), FsError>
         ensures names { KeepsNames self.old self.new }
-        ensures grows { GrowsTold self.old self.new }
+        ensures some { SettlesSome self.old self.new }
+        ensures settled { OnOk result (syncs_of self.old ≡ Honest → SyncsFile self.old file self.new) }
     {
+        settling::<R>();
         self.begin_call()?;
         let inode = self.inode_of(file)?;
         if self.options.syncs == Syncs::Lie {
             return Ok(());
         }
-        let (is_resized, is_changed) = match self.files.get(&inode) {
-            None => return Err(FsError::Stale),
-            Some(found) => (found.synced != found.blob.size(), found.is_changed),
-        };
-        let synced = match self.sync_bytes(inode)? {
-            Synced::File { inode, grown, .. } => Synced::File {
-                inode,
-                grown,
-                is_changed: is_resized,
-            },
-            directory => directory,
-        };
-        let settled = self.settle_by(self.options.profile.settles, synced);
-        if settled.is_err() || is_changed && !is_resized {
-            self.touch(inode);
+        let (synced, stays_changed) = self.data_sync_of(inode)?;
+        let settles = self.options.profile.settles;
+        self.sync_bytes(inode)?;
+        match self.settle_by(settles, synced) {
+            Ok(()) => {
+                self.set_changed(inode, stays_changed);
+                Ok(())
+            }
+            Err(error) => {
+                self.set_changed(inode, true);
+                Err(error)
+            }
         }
-        settled
     }
 
     /// Settles the edits of a directory's names, and more if the profile says so. Makes no draw.
@@ -151,10 +166,10 @@ impl<R: Rng + Drop> FileSystem<R> {
     /// # Errors
     ///
     /// `NotDirectory`, `NotFound`, `Memory`. Some of the edits may be settled.
-    #[tactic(auto, using(crate::proofs::Growing::grows_kept, crate::proofs::Growing::grows_then, crate::proofs::Growing::grows_from))]
+    #[tactic(auto, using(crate::proofs::Settling::settles_kept, crate::proofs::Settling::settles_then, crate::proofs::Settling::settles_from))]
     pub fn sync_directory_at(&mut self, directory: u64) -> Result<(), FsError>
         ensures names { KeepsNames self.old self.new }
-        ensures grows { GrowsTold self.old self.new }
+        ensures some { SettlesSome self.old self.new }
         ensures settled { OnOk result (syncs_of self.old ≡ Honest → SyncsDirectory self.old directory self.new) }
     {
         settling::<R>();
@@ -175,7 +190,7 @@ impl<R: Rng + Drop> FileSystem<R> {
     /// Settles all edits.
     fn settle_names(&mut self) -> Result<(), FsError>
         ensures names { KeepsNames self.old self.new }
-        ensures grows { GrowsTold self.old self.new }
+        ensures some { SettlesSome self.old self.new }
         ensures settled { OnOk result (SyncsAll self.old self.new) }
     {
         self.settle_by(Settles::All, Synced::Directory(0))
@@ -186,10 +201,10 @@ impl<R: Rng + Drop> FileSystem<R> {
     /// # Errors
     ///
     /// `Injected` of the layer's syncs, `Memory`. What was done until then stays.
-    #[tactic(auto, using(crate::proofs::Growing::grows_kept, crate::proofs::Growing::grows_then, crate::proofs::Growing::grows_from))]
+    #[tactic(auto, using(crate::proofs::Settling::settles_kept, crate::proofs::Settling::settles_then, crate::proofs::Settling::settles_from))]
     pub fn sync_all(&mut self) -> Result<(), FsError>
         ensures names { KeepsNames self.old self.new }
-        ensures grows { GrowsTold self.old self.new }
+        ensures some { SettlesSome self.old self.new }
         ensures settled { OnOk result (syncs_of self.old ≡ Honest → SyncsAll self.old self.new) }
     {
         settling::<R>();
@@ -221,11 +236,13 @@ impl<R: Rng + Drop> FileSystem<R> {
     /// # Errors
     ///
     /// `Memory`. What was done until then stays.
-    #[tactic(auto, using(crate::proofs::Growing::grows_kept, crate::proofs::Growing::grows_then, crate::proofs::Growing::grows_from))]
+    #[tactic(auto, using(crate::proofs::Settling::settles_kept, crate::proofs::Settling::settles_then, crate::proofs::Settling::settles_from))]
     pub fn settle(&mut self) -> Result<(), FsError>
         ensures names { KeepsNames self.old self.new }
-        ensures grows { GrowsTold self.old self.new }
+        ensures some { SettlesSome self.old self.new }
+        ensures settled { OnOk result (SyncsAll self.old self.new) }
     {
+        settling::<R>();
         self.begin_call()?;
         let inodes = self.inodes()?;
         self.store.set_config(blob_faulty::Config::default());

@@ -13,6 +13,8 @@ use Rattle.blob_directory.specs.Names.{Edit, edit_of}
 use Rattle.blob_directory.specs.Profiles.{found_in_all}
 use Rattle.blob_directory.specs.Sectors.{Found, edit_bytes, filled, found_in, has_change, edit_told, sector_of}
 use Rattle.blob_directory.proofs.Checkpoints.{sector_long}
+use Rattle.blob_journal.specs.declared.journal.Journal.{Journal}
+use Rattle.blob_journal.specs.Keeping.{bytes_in, told_by}
 use Rattle.blob_journal.specs.Sectors.{HasEdit, sector_at}
 use Rattle.blob_journal.specs.Told.{Grows, edit_in, is_marked_in, settle_one, settled_in, was_settled}
 use Rattle.blob_journal.proofs.Listed.{live_other, live_written}
@@ -211,3 +213,12 @@ grows_prop (f ∷ a) (f' ∷ b) =
     let flag : IsProp (was_settled f ≡ true → was_settled f' ≡ true) = →_prop (Coded-set coded_bool (was_settled f') true) in
     let rest : IsProp (Grows a b) = grows_prop a b in
     ×_prop (×_prop edit flag) rest
+
+-- a list of edits is as long as the journal has sectors
+
+found_length : (n : ℕ) (w : List ℕ) → length (found_in_all n w) ≡ n
+found_length zero w = refl
+found_length (suc n) w = ap suc (found_length n (drop 1024 w))
+
+pub same_length : (a b : Journal) → b.sectors ≡ a.sectors → length (told_by b) ≡ length (told_by a)
+same_length a b same = found_length b.sectors (bytes_in b) ∙ same ∙ sym (found_length a.sectors (bytes_in a))

@@ -15,7 +15,7 @@ use Rattle.blob_directory.specs.declared.profile.Keeps.{Keeps}
 use Rattle.blob_journal.specs.declared.journal.Journal.{Journal}
 use Rattle.blob_journal.specs.declared.journaled.Journaled.{Journaled}
 use Rattle.blob_journal.specs.Found.{with_kept}
-use Rattle.blob_journal.specs.Told.{Grows, names_kept}
+use Rattle.blob_journal.specs.Told.{Grows, OnlySettles, names_kept}
 
 -- the table of the names that calls see
 abbrev pub table_in : {R : Type 0} → Journaled R → Table
@@ -76,9 +76,13 @@ KeepsTold j j' = told_in j' ≡ told_in j
 abbrev pub AddsTold : {R : Type 0} → Edit → Journaled R → Journaled R → Type 0
 AddsTold edit j j' = told_in j' ≡ told_in j ++ found_in (sector_of edit false) ∷ []
 
--- edits may have been settled, and no other change was made
+-- edits may have been told, and some settled; no edit has changed, and none is unsettled again
 abbrev pub GrowsTold : {R : Type 0} → Journaled R → Journaled R → Type 0
 GrowsTold j j' = Grows (told_in j) (told_in j')
+
+-- edits may have been settled, and no other change was made
+abbrev pub SettlesSome : {R : Type 0} → Journaled R → Journaled R → Type 0
+SettlesSome j j' = OnlySettles (told_in j) (told_in j')
 
 -- The names are those that a recovery finds by the edits that were told: by all that were settled, and by some of the others, as the profile keeps them.
 pub record FindsTold {R : Type 0} (j : Journaled R) (keeps : Keeps) (names : Names) : Type 0 where

@@ -60,6 +60,11 @@ Grows [] told' = Unit {0}
 Grows (found ∷ told) [] = ⊥
 Grows (found ∷ told) (found' ∷ told') = Stays found found' × Grows told told'
 
+-- some edits are settled; none is added, none changes, and none is unsettled again
+pub record OnlySettles (told told' : List Found) : Type 0 where
+  pub grows : Grows told told'
+  pub length : length told' ≡ length told
+
 -- of the edits that were told this one is settled and changes the entry, and no later one does
 pub record IsLastTold (told : List Found) (edit : Edit) (e : List ℕ) : Type 0 where
   pub before : List Found

@@ -30,6 +30,7 @@ fn settle_marked<R: Rng>(
 ) -> Result<(), Error>
     ensures place { place (inside journal.new.blob) ≡ place (inside journal.old.blob) }
     ensures generation { journal.new.generation ≡ journal.old.generation }
+    ensures sectors { journal.new.sectors ≡ journal.old.sectors }
     ensures directory { SameDirectory store.old store.new }
     ensures settled { OnOk result (Changes store.old store.new (place (inside journal.old.blob)) (all_settled edits.now)) }
     ensures kept { IsKept store.old journal.old edits.now → IsKept store.new journal.new edits.now }
@@ -46,7 +47,7 @@ fn settle_marked<R: Rng>(
 
 impl<R: Rng + Drop> Journaled<R> {
     ghost use Rattle.blob_journal.specs.Settling.{KeepsJournal, SettlesEdits, unsettled_of};
-    ghost use Rattle.blob_journal.specs.Keeping.{AddsSector, AddsTold, Edits, GrowsTold, KeepsTable, KeepsTold, SameBindings, generator_in, names_in, table_in, told_in, with_generator};
+    ghost use Rattle.blob_journal.specs.Keeping.{AddsSector, AddsTold, Edits, KeepsTable, KeepsTold, SameBindings, SettlesSome, generator_in, names_in, table_in, told_in, with_generator};
 
     /// Returns no names over a new store, with faults drawn from the generator.
     ///
@@ -165,7 +166,7 @@ impl<R: Rng + Drop> Journaled<R> {
     pub fn settle(&mut self, settles: Settles, synced: Synced) -> Result<(), Error>
         ensures names { KeepsTable self.old self.new }
         ensures settled { OnOk result (SettlesEdits settles synced self.old self.new) }
-        ensures grows { GrowsTold self.old self.new }
+        ensures some { SettlesSome self.old self.new }
     {
         want(self.alloc, &mut self.unsettled, settles, synced)?;
         settle_marked(

@@ -33,6 +33,7 @@ loop-edit-preserved g c =
             settled = subst (λ (x : OverMemory g.row.R.Denot). Changes before x at (all_settled (take (k + 1) edits))) (sym w.store-is)
                 (marked_more edits k item c.loop-edit-test.true c.edit-item.is before c.loop-edit.store w.settle.new.store at (place (inside c.loop-edit.journal.blob)) i.place i.directory w.if-edit.true i.settled s.settled);
             generation = ap (λ (j : Journal). j.generation) w.journal-is ∙ s.generation ∙ i.generation;
+            sectors = ap (λ (j : Journal). j.sectors) w.journal-is ∙ s.sectors ∙ i.sectors;
             directory = ap (λ (x : OverMemory g.row.R.Denot). directory (inner_of x)) w.store-is ∙ s.directory ∙ i.directory;
             place = ap (λ (j : Journal). place (inside j.blob)) w.journal-is ∙ s.place ∙ i.place;
             kept = λ h. same_kept _ w.settle.new.store _ w.settle.new.self edits w.store-is w.journal-is
@@ -44,6 +45,7 @@ loop-edit-preserved g c =
             settled = subst (λ (x : OverMemory g.row.R.Denot). Changes before x at (all_settled (take (k + 1) edits))) (sym w.store-is)
                 (unmarked_more edits k item c.loop-edit-test.true c.edit-item.is before c.loop-edit.store at w.if-edit.false i.settled);
             generation = ap (λ (j : Journal). j.generation) w.journal-is ∙ i.generation;
+            sectors = ap (λ (j : Journal). j.sectors) w.journal-is ∙ i.sectors;
             directory = ap (λ (x : OverMemory g.row.R.Denot). directory (inner_of x)) w.store-is ∙ i.directory;
             place = ap (λ (j : Journal). place (inside j.blob)) w.journal-is ∙ i.place;
             kept = λ h. same_kept _ c.loop-edit.store _ c.loop-edit.journal edits w.store-is w.journal-is (i.kept h);
@@ -61,6 +63,7 @@ pub loop-edit-init : goal.loop-edit-init
 loop-edit-init g c = record {
   settled = changes_none c.args.store.now (place (inside c.args.journal.now.blob));
   generation = refl;
+  sectors = refl;
   directory = refl;
   place = refl;
   kept = λ h. h;

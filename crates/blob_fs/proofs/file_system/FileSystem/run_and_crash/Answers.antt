@@ -1,10 +1,4 @@
-use Rattle.blob_fs.specs.Files.{RunsAndCrashes}
 use Rattle.blob_fs.proofs.file_system.FileSystem.run_and_crash.Goals as goal
-use Rattle.std.specs.Prelude.{Err, Ok, OnOk, Result}
 
 pub returns-clause-kept : goal.returns-clause-kept
-returns-clause-kept g c = by_result c.crash.result c.crash.ensures.kept (λ f. record { between = c.run.new.self; grows = c.run.ensures.grows; finds = f })
-  where
-    by_result : {T E P Q : Type 0} (r : Result T E) → OnOk r P → (P → Q) → OnOk r Q
-    by_result (Ok x) p q = q p
-    by_result (Err e) p q = tt
+returns-clause-kept g c = record { between = c.run.new.self; done = c.in_ok-oks.ensures.done; kept = c.in_ok-crash.ensures.found; finds = c.in_ok-crash.ensures.kept }

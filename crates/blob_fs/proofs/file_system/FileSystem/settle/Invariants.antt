@@ -1,9 +1,10 @@
 use Rattle.std.proofs.Common.{◌≡◌}
-use Rattle.blob_fs.specs.Files.{table_of, told_of}
+use Rattle.blob_fs.specs.Files.{KeepsJournal, table_of, told_of}
 use Rattle.blob_fs.proofs.file_system.FileSystem.settle.Given as goal
 
 abbrev pub invariant-loop-inode : goal.invariant-loop-inode
 invariant-loop-inode g l = record {
   names : table_of l.self ≡ table_of l.fn.self;
+  journal : KeepsJournal l.fn.self l.self;
   told : told_of l.self ≡ told_of l.fn.self;
 }

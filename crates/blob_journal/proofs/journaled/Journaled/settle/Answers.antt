@@ -6,9 +6,9 @@ use Rattle.blob_faulty.specs.Wrapper.{inner_of}
 use Rattle.blob_journal.specs.Found.{IsKept}
 use Rattle.blob_journal.specs.Keeping.{told_by}
 use Rattle.blob_journal.specs.Told.{is_marked_in, settled_in}
-use Rattle.blob_journal.proofs.Growing.{grows_prop, grows_same, told_prop}
+use Rattle.blob_journal.proofs.Growing.{grows_prop, grows_same, same_length, told_prop}
 use Rattle.blob_journal.proofs.Found.{filtered_kept, marked_kept, same_next, still_given}
-use Rattle.std.proofs.Common.{ap, ap₂, sym, ◌∙◌, ℕ}
+use Rattle.std.proofs.Common.{ap, ap₂, refl, sym, ◌∙◌, ℕ}
 use Rattle.std.specs.Int.{w64, to_be_bytes}
 use Rattle.blob_model.specs.Directory.{Directory, is_current}
 use Rattle.blob_model.specs.Places.{Place}
@@ -106,11 +106,11 @@ returns-clause-settled g c =
           ∙ ap (λ (es : List Unsettled). settled_in (is_marked_in es) 0 (told_by self.journal)) same);
     }
 
-pub returns-in_err-want-clause-grows : goal.returns-in_err-want-clause-grows
-returns-in_err-want-clause-grows g c = grows_same (told_by c.args.self.now.journal)
+pub returns-in_err-want-clause-some : goal.returns-in_err-want-clause-some
+returns-in_err-want-clause-some g c = record { grows = grows_same (told_by c.args.self.now.journal); length = refl }
 
-pub returns-in_err-settle_marked-clause-grows : goal.returns-in_err-settle_marked-clause-grows
-returns-in_err-settle_marked-clause-grows g c =
+pub returns-in_err-settle_marked-clause-some : goal.returns-in_err-settle_marked-clause-some
+returns-in_err-settle_marked-clause-some g c =
     let self = c.args.self.now in
     let edits : List Unsettled = self.unsettled.items in
     let m = c.in_ok-want.ensures.marks in
@@ -119,10 +119,13 @@ returns-in_err-settle_marked-clause-grows g c =
     c.deref.ensures.value
     ∙ whole c.want.new.edits edits self.unsettled.len (ap (λ (l : List Unsettled). length l) m.is ∙ length-map c.deref_mut.result.now (marked m.wants) ∙ ap (λ (l : List Unsettled). length l) value) self.unsettled.ok.0
     ∙ m.is ∙ ap (map (marked m.wants)) value in
-    ∥∥₁_elim self.kept (grows_prop _ _) (λ k. c.settle_marked.ensures.grows (marked_kept self.store self.journal edits c.deref.result.now m.wants same k))
+    record {
+      grows = ∥∥₁_elim self.kept (grows_prop _ _) (λ k. c.settle_marked.ensures.grows (marked_kept self.store self.journal edits c.deref.result.now m.wants same k));
+      length = same_length self.journal c.settle_marked.new.journal c.settle_marked.ensures.sectors;
+    }
 
-pub returns-clause-grows : goal.returns-clause-grows
-returns-clause-grows g c =
+pub returns-clause-some : goal.returns-clause-some
+returns-clause-some g c =
     let self = c.args.self.now in
     let edits : List Unsettled = self.unsettled.items in
     let m = c.in_ok-want.ensures.marks in
@@ -131,4 +134,7 @@ returns-clause-grows g c =
     c.deref.ensures.value
     ∙ whole c.want.new.edits edits self.unsettled.len (ap (λ (l : List Unsettled). length l) m.is ∙ length-map c.deref_mut.result.now (marked m.wants) ∙ ap (λ (l : List Unsettled). length l) value) self.unsettled.ok.0
     ∙ m.is ∙ ap (map (marked m.wants)) value in
-    ∥∥₁_elim self.kept (grows_prop _ _) (λ k. c.settle_marked.ensures.grows (marked_kept self.store self.journal edits c.deref.result.now m.wants same k))
+    record {
+      grows = ∥∥₁_elim self.kept (grows_prop _ _) (λ k. c.settle_marked.ensures.grows (marked_kept self.store self.journal edits c.deref.result.now m.wants same k));
+      length = same_length self.journal c.settle_marked.new.journal c.settle_marked.ensures.sectors;
+    }

@@ -1,0 +1,106 @@
+-- What each call of a list does.
+use Rattle.std.proofs.Common.{◌≡◌, Bool, true, false, List, [], ◌∷◌, ◌++◌, ℕ, ap, is_ok, refl, subst, sym}
+use Rattle.std.specs.Prelude.{Err, IfOk, Ok, OnErr, OnOk, Result}
+use Rattle.blob_directory.specs.Names.{Edit, binds, directory_at, entry, exchanges, file, frees, moves}
+use Rattle.blob_directory.specs.declared.table.Table.{Table}
+use Rattle.blob_directory.specs.Tables.{bound}
+use Rattle.blob_directory.specs.Sectors.{Found, found_in, sector_of}
+use Rattle.blob_journal.specs.Told.{Grows}
+use Rattle.blob_journal.proofs.Growing.{grows_added}
+use Rattle.blob_fs.specs.declared.file_system.FileSystem.{FileSystem}
+use Rattle.blob_fs.specs.declared.renames.Rename as rename
+use Rattle.blob_fs.specs.declared.run.Call.{Call}
+use Rattle.blob_fs.specs.declared.run.Call.TheVariants.{Create, MakeDirectory, Link, Unlink, RemoveDirectory, Rename, Open, OpenTruncated, Close, Read, Write, Truncate, Sync, SyncData, SyncDirectory, SyncAll, Settle}
+use Rattle.blob_fs.specs.declared.switches.Syncs.TheVariants.{Honest}
+use Rattle.blob_fs.specs.Files.{AddsTold, GrowsTold, KeepsNames, KeepsTold, MakesEdit, SameNames, SettlesSome, fresh_inode, syncs_of, told_of}
+use Rattle.blob_fs.specs.Calls.{ByResult, Does, DoesAll, Leaves, Makes, MakesIf, Renames, Unchanged, Moved, Exchanged, SyncsIf}
+use Rattle.blob_fs.proofs.Growing.{grows_kept}
+
+-- by what a call returned
+
+pub by_result : {T E : Type 0} (P Q : Type 0) (r : Result T E) (ok : Bool) → ok ≡ is_ok r → OnOk r P → OnErr r Q → ByResult ok P Q
+by_result P Q (Ok x) ok is p q = subst (λ (b : Bool). ByResult b P Q) (sym is) p
+by_result P Q (Err e) ok is p q = subst (λ (b : Bool). ByResult b P Q) (sym is) q
+
+pub on_ok : {T E P Q S : Type 0} (r : Result T E) → OnOk r P → OnOk r Q → (P → Q → S) → OnOk r S
+on_ok (Ok x) p q f = f p q
+on_ok (Err e) p q f = tt
+
+pub on_err : {T E P Q S : Type 0} (r : Result T E) → OnErr r P → OnErr r Q → (P → Q → S) → OnErr r S
+on_err (Ok x) p q f = tt
+on_err (Err e) p q f = f p q
+
+pub always : {T E P : Type 0} (r : Result T E) → P → OnErr r P
+always (Ok x) p = tt
+always (Err e) p = p
+
+pub makes_if : {R T E : Type 0} (r : Result T E) (ok : Bool) → ok ≡ is_ok r → (edit : Edit) (fs fs' : FileSystem R)
+    → OnOk r (MakesEdit edit fs fs') → OnErr r (SameNames fs fs') → OnOk r (AddsTold edit fs fs') → OnErr r (KeepsTold fs fs') → MakesIf ok edit fs fs'
+makes_if r ok is edit fs fs' made refused told untold =
+    by_result (Makes edit fs fs') (Leaves fs fs') r ok is (on_ok r told made (λ t m. record { recorded = t; names = m })) (on_err r untold refused (λ t m. record { recorded = t; names = m }))
+
+pub makes_numbered : {R T E : Type 0} (r : Result T E) (ok : Bool) → ok ≡ is_ok r → (edit : T → Edit) (at : Edit) (same : T → Type 0) (fs fs' : FileSystem R)
+    → ((x : T) → same x → edit x ≡ at) → IfOk r same
+    → IfOk r (λ x. MakesEdit (edit x) fs fs') → OnErr r (SameNames fs fs') → IfOk r (λ x. AddsTold (edit x) fs fs') → OnErr r (KeepsTold fs fs') → MakesIf ok at fs fs'
+makes_numbered {T} {E} (Ok x) ok is edit at same fs fs' is_at number made refused told untold =
+    makes_if {T = T} {E = E} (Ok x) ok is at fs fs' (subst (λ (e : Edit). MakesEdit e fs fs') (is_at x number) made) tt (subst (λ (e : Edit). AddsTold e fs fs') (is_at x number) told) tt
+makes_numbered {T} {E} (Err e) ok is edit at same fs fs' is_at number made refused told untold = makes_if {T = T} {E = E} (Err e) ok is at fs fs' tt refused tt untold
+
+pub syncs_if : {R T E : Type 0} (P : Type 0) (r : Result T E) (ok : Bool) → ok ≡ is_ok r → (fs fs' : FileSystem R)
+    → KeepsNames fs fs' → SettlesSome fs fs' → OnOk r (syncs_of fs ≡ Honest → P) → SyncsIf ok P fs fs'
+syncs_if P r ok is fs fs' names some settled = ((names, some), by_result (syncs_of fs ≡ Honest → P) (Unit {0}) r ok is settled (always r tt))
+
+pub either : {T E P Q S : Type 0} (r : Result T E) → OnOk r P → OnErr r Q → (P → S) → (Q → S) → S
+either (Ok x) p q f g = f p
+either (Err e) p q f g = g q
+
+pub leaves : {R : Type 0} (fs fs' : FileSystem R) → KeepsNames fs fs' → KeepsTold fs fs' → Leaves fs fs'
+leaves fs fs' names told = record { recorded = told; names = same fs fs' names }
+  where
+    same : {R : Type 0} (fs fs' : FileSystem R) → KeepsNames fs fs' → SameNames fs fs'
+    same fs fs' names = λ e. ap (λ (t : Table). bound t e) (sym names)
+
+-- no edit is changed by a call
+
+grows_makes : {R : Type 0} (edit : Edit) (fs fs' : FileSystem R) → Makes edit fs fs' → GrowsTold fs fs'
+grows_makes edit fs fs' m = subst (λ (l : List Found). Grows (told_of fs) l) (sym m.recorded) (grows_added (told_of fs) (found_in (sector_of edit false) ∷ []))
+
+pub grows_leaves : {R : Type 0} (fs fs' : FileSystem R) → Leaves fs fs' → GrowsTold fs fs'
+grows_leaves fs fs' l = grows_kept (told_of fs) (told_of fs') l.recorded
+
+grows_if : {R : Type 0} (ok : Bool) (edit : Edit) (fs fs' : FileSystem R) → MakesIf ok edit fs fs' → GrowsTold fs fs'
+grows_if true edit fs fs' m = grows_makes edit fs fs' m
+grows_if false edit fs fs' m = grows_leaves fs fs' m
+
+pub grows_renames : {R : Type 0} (how : rename.Rename) (old new : List ℕ) (fs fs' : FileSystem R) → Renames how old new fs fs' → GrowsTold fs fs'
+grows_renames how old new fs fs' (Unchanged to is at other left) = grows_leaves fs fs' left
+grows_renames how old new fs fs' (Moved differ other free m) = grows_makes (moves old new m.moved) fs fs' m.made
+grows_renames how old new fs fs' (Exchanged differ is m) = grows_makes (exchanges old new m.moved m.was) fs fs' m.made
+
+pub grows_does : {R : Type 0} (call : Call) (ok : Bool) (fs fs' : FileSystem R) → Does call ok fs fs' → GrowsTold fs fs'
+grows_does (Create d name) ok fs fs' m = grows_if ok (binds d name.items (file (fresh_inode fs))) fs fs' m
+grows_does (MakeDirectory d name) ok fs fs' m = grows_if ok (binds d name.items (directory_at (fresh_inode fs))) fs fs' m
+grows_does (Link i d name) ok fs fs' m = grows_if ok (binds d name.items (file i)) fs fs' m
+grows_does (Unlink d name) ok fs fs' m = grows_if ok (frees d name.items) fs fs' m
+grows_does (RemoveDirectory d name) ok fs fs' m = grows_if ok (frees d name.items) fs fs' m
+grows_does (Rename from old to new how) true fs fs' m = grows_renames how (entry from old.items) (entry to new.items) fs fs' m
+grows_does (Rename from old to new how) false fs fs' m = grows_leaves fs fs' m
+grows_does (Open i) ok fs fs' m = grows_leaves fs fs' m
+grows_does (OpenTruncated i) ok fs fs' m = grows_leaves fs fs' m
+grows_does (Close f) ok fs fs' m = grows_leaves fs fs' m
+grows_does (Read f offset len) ok fs fs' m = grows_leaves fs fs' m
+grows_does (Write f offset bytes) ok fs fs' m = grows_leaves fs fs' m
+grows_does (Truncate f length) ok fs fs' m = grows_leaves fs fs' m
+grows_does (Sync f) ok fs fs' m = m.0.1.grows
+grows_does (SyncData f) ok fs fs' m = m.0.1.grows
+grows_does (SyncDirectory d) ok fs fs' m = m.0.1.grows
+grows_does SyncAll ok fs fs' m = m.0.1.grows
+grows_does Settle ok fs fs' m = m.0.1.grows
+
+-- one more call
+pub does_more : {R : Type 0} (calls : List Call) (oks : List Bool) (call : Call) (ok : Bool) (a b c : FileSystem R)
+    → DoesAll calls oks a b → Does call ok b c → DoesAll (calls ++ call ∷ []) (oks ++ ok ∷ []) a c
+does_more {R} [] [] call ok a b c before done = (c, subst (λ (fs : FileSystem R). Does call ok fs c) before done, refl)
+does_more [] (o ∷ oks) call ok a b c before done = absurd before
+does_more (first ∷ calls) [] call ok a b c before done = absurd before
+does_more (first ∷ calls) (o ∷ oks) call ok a b c before done = (before.0, before.1, does_more calls oks call ok before.0 b c before.2 done)
