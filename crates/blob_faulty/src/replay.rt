@@ -7,6 +7,7 @@ ghost use Rattle.blob_faulty.specs.Crashes.{chosen_in, ChoosesUncovered, Replays
 ghost use Rattle.blob_faulty.specs.Ready.{IsReady, CanReplay};
 ghost use Rattle.blob_draws.specs.Rows.{AreNumbered};
 ghost use Rattle.blob_pending.specs.Views.{view};
+ghost use Rattle.blob_pending.specs.declared.entry.Entry.TheVariants.{Write};
 ghost use Rattle.blob_pages.specs.Stored.{AreNow};
 ghost use Rattle.blob_memory.specs.Store.{directory, durable};
 
@@ -37,6 +38,29 @@ fn put_choices(chosen: &mut Vec<bool>, write: &PendingWrite, row: &[bool])
     }
 }
 
+/// Replays a write over bytes with enough capacity. Its row is found by its number.
+fn replay_write(
+    bytes: &mut Bytes,
+    write: &PendingWrite,
+    rows: &[(u64, Vec<bool>)],
+    chosen: &mut Vec<bool>,
+)
+    requires numbered { AreNumbered rows.now }
+    requires room { CanReplay bytes.old (end_of (view (Write write.now))) (width (view (Write write.now))) chosen.old }
+    ensures bytes { AreNow bytes.old bytes.new (replay_entry bytes.old.items (view (Write write.now)) (chosen_in rows.now)) }
+    ensures capacity { vec_capacity chosen.old ≤ vec_capacity chosen.new }
+{
+    let offset = write.offset as usize;
+    let row = choices_in(rows, write.number);
+    // Most writes have no covered byte. Then the row isn't copied.
+    if write.holes.is_empty() && row.len() == write.bytes.len() {
+        overlay::write_chosen_slice(bytes, offset, &write.bytes, row).unwrap();
+        return;
+    }
+    put_choices(chosen, write, row);
+    overlay::write_chosen_slice(bytes, offset, &write.bytes, chosen).unwrap();
+}
+
 /// Replays one entry over bytes with enough capacity. A write's row is found by the write's number.
 fn replay_entry(bytes: &mut Bytes, entry: &Entry, rows: &[(u64, Vec<bool>)], chosen: &mut Vec<bool>)
     requires numbered { AreNumbered rows.now }
@@ -45,11 +69,7 @@ fn replay_entry(bytes: &mut Bytes, entry: &Entry, rows: &[(u64, Vec<bool>)], cho
     ensures capacity { vec_capacity chosen.old ≤ vec_capacity chosen.new }
 {
     match entry {
-        Entry::Write(write) => {
-            put_choices(chosen, write, choices_in(rows, write.number));
-            let offset = write.offset as usize;
-            overlay::write_chosen_slice(bytes, offset, &write.bytes, chosen).unwrap();
-        }
+        Entry::Write(write) => replay_write(bytes, write, rows, chosen),
         Entry::Resize(len) => overlay::resize(bytes, *len as usize).unwrap(),
         Entry::Range(range) => {
             overlay::write_slice(bytes, range.offset as usize, &range.bytes).unwrap();

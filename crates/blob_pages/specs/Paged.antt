@@ -82,7 +82,7 @@ pub record Changes {T E : Type 0} (result : Result T E) (old new : List Page) (h
   pub full : AreFull new
   pub owned : KeepsOwned old new
 
--- these bytes after zeros are written up to the new length
+-- these bytes up to the new length, on the same pages
 pub record Blanks (old new : List Page) (had has : ℕ) (now : List ℕ) : Type 0 where
   pub bytes : bytes_in new has ≡ now
   pub same : length new ≡ length old

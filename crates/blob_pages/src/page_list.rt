@@ -1,7 +1,7 @@
 // Changes of the pages of a value. All pages are full. The bytes after the length are arbitrary.
-ghost use Rattle.std.specs.Prelude.{◌≡◌, ◌≤◌, ◌<◌, ◌+◌, ◌-◌, ◌*◌, ◌/◌, ◌^◌, ◌++◌, ℕ, true, length, take, drop, max, replicate, OnOk, IfOk, vec_capacity};
+ghost use Rattle.std.specs.Prelude.{◌≡◌, ◌≤◌, ◌<◌, ◌+◌, ◌-◌, ◌*◌, ◌/◌, ◌^◌, ◌++◌, ℕ, true, length, take, drop, max, min, replicate, OnOk, IfOk, vec_capacity};
 ghost use Rattle.blob_pages.specs.Paged.{page_size, owned_at, AreFull, AreOwned, Keeps, Extends, Lays, bytes_in, Changes, Blanks, WritesRun};
-ghost use Rattle.blob_model.specs.Bytes.{resize};
+ghost use Rattle.blob_model.specs.Bytes.{overlay, resize};
 
 use crate::page::{PAGE, count, on_page};
 use crate::table::Table;
@@ -112,6 +112,22 @@ pub fn set_len(alloc: Global, pages: &mut Table, old: usize, len: usize) -> Resu
     Ok(())
 }
 
+/// Writes a run to existing pages that only this value has, after zeros if it starts past the length `old`. Returns the
+/// new length.
+fn lay_on(pages: &mut Table, old: usize, offset: usize, run: &[u8]) -> usize
+    requires full { AreFull pages.old }
+    requires some { 0 < length run.now }
+    requires fits { max old (offset + length run.now) ≤ page_size * length pages.old }
+    requires counted { offset + length run.now < 2 ^ 64 }
+    requires owned { (p : ℕ) → min offset old ≤ p → p < offset + length run.now → owned_at pages.old (p / page_size) ≡ true }
+    ensures len { result ≡ max old (offset + length run.now) }
+    ensures laid { Blanks pages.old pages.new old result (overlay (bytes_in pages.old old) offset run.now) }
+{
+    let len = blank_to(pages, old, offset + run.len());
+    lay(pages, offset, run);
+    len
+}
+
 /// Writes a run that is not empty over the length `old`. Returns the new length. The only error is out of memory. The
 /// bytes are unchanged then.
 pub fn lay_over(
@@ -130,14 +146,17 @@ pub fn lay_over(
 {
     let end = offset + run.len();
     let at = offset % PAGE;
-    if offset <= old && run.len() <= PAGE - at && pages.is_owned(offset / PAGE) {
-        pages.put(offset / PAGE, at, run);
-        return Ok(old.max(end));
+    if run.len() <= PAGE - at && pages.is_owned(offset / PAGE) {
+        if offset <= old {
+            pages.put(offset / PAGE, at, run);
+            return Ok(old.max(end));
+        }
+        if old / PAGE == offset / PAGE {
+            return Ok(lay_on(pages, old, offset, run));
+        }
     }
     take_room(alloc, pages, std::cmp::min(offset, old), end)?;
-    let len = blank_to(pages, old, end);
-    lay(pages, offset, run);
-    Ok(len)
+    Ok(lay_on(pages, old, offset, run))
 }
 
 /// Returns the bytes from `at` on that are on one page, at most `len`.

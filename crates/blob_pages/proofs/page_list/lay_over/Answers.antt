@@ -1,8 +1,7 @@
-use Rattle.std.proofs.Common.{rules, refl, ◌≡◌, ◌<◌, ℕ, ◌+◌, ◌/◌, ◌∙◌, ap, sym, length, max, arith}
-use Rattle.blob_model.specs.Bytes.{overlay, resize}
-use Rattle.blob_model.proofs.Bytes.{reach_all}
-use Rattle.blob_pages.specs.Paged.{page_size, bytes_in}
-use Rattle.blob_pages.proofs.Paged.{length-bytes_in, extended_bytes, laid_over, overlay_grown, owned_through, owner_there, page_laid, laid_at}
+use Rattle.std.proofs.Common.{rules, refl, ◌<◌, ◌/◌, ◌∙◌, ap, sym, length, arith}
+use Rattle.blob_model.specs.Bytes.{overlay}
+use Rattle.blob_pages.specs.Paged.{page_size, bytes_in, owned_at}
+use Rattle.blob_pages.proofs.Paged.{extended_bytes, owned_through, owner_there, page_laid, laid_at}
 use Rattle.blob_pages.proofs.page_list.lay_over.Goals as goal
 
 pub returns-in_err-take_room-clause-changes : goal.returns-in_err-take_room-clause-changes
@@ -16,24 +15,35 @@ returns-in_err-take_room-clause-changes c = record {
 }
 
 pub returns-clause-changes : goal.returns-clause-changes
-returns-clause-changes c =
-    let end : ℕ = c.args.offset + length c.args.run.now in
-    let len : length c.blank_to-len.new.pages ≡ length c.take_room.new.pages = c.blank_to-len.ensures.blanks.same in
-    let len' : length c.lay.new.pages ≡ length c.blank_to-len.new.pages = c.lay.ensures.same in
-    let n : ℕ = max c.args.old end in
-    let is : c.blank_to-len.result ≡ n = c.blank_to-len.ensures.len in
+returns-clause-changes c = record {
+  ok = ap (bytes_in c.lay_on-2.new.pages) (sym c.lay_on-2.ensures.len) ∙ c.lay_on-2.ensures.laid.bytes
+      ∙ ap (λ b. overlay b c.args.offset c.args.run.now) (extended_bytes c.args.pages.now c.take_room.new.pages c.args.old c.requires.held c.take_room.ensures.extends);
+  there = omega (arith, c.lay_on-2.ensures.laid.same, c.in_ok-take_room.ensures.there, c.requires.held, c.take_room.ensures.extends.more);
+  err = tt;
+  more = omega (arith, c.lay_on-2.ensures.laid.same, c.take_room.ensures.extends.more);
+  full = c.lay_on-2.ensures.laid.full;
+  owned = owned_through c.args.pages.now c.take_room.new.pages c.lay_on-2.new.pages c.take_room.ensures.extends.owned c.lay_on-2.ensures.laid.owned;
+}
+
+pub lay_on-requires-clause-owned : goal.lay_on-requires-clause-owned
+lay_on-requires-clause-owned c = λ p low high.
+    ap (owned_at c.args.pages.now) (omega (arith, low, high, c.if-old-offset.true, c.if-run-at.true)) ∙ sym c.is_owned.ensures ∙ c.if-is_owned.true
+
+pub lay_on-requires-clause-fits : goal.lay_on-requires-clause-fits
+lay_on-requires-clause-fits c =
+    let there = owner_there c.args.pages.now (c.args.offset / page_size) (sym c.is_owned.ensures ∙ c.if-is_owned.true) in
+    omega (arith, there, c.requires.held, c.if-run-at.true)
+
+pub returns-then-old-offset-clause-changes : goal.returns-then-old-offset-clause-changes
+returns-then-old-offset-clause-changes c =
+    let there = owner_there c.args.pages.now (c.args.offset / page_size) (sym c.is_owned.ensures ∙ c.if-is_owned.true) in
     record {
-      ok = laid_over c.blank_to-len.new.pages c.lay.new.pages n c.args.offset c.args.run.now (omega arith) c.lay.ensures
-          ∙ ap (λ b. overlay b c.args.offset c.args.run.now)
-          (ap (bytes_in c.blank_to-len.new.pages) (sym is) ∙ c.blank_to-len.ensures.blanks.bytes ∙ ap (resize (bytes_in c.take_room.new.pages c.args.old)) is
-          ∙ ap (λ b. resize b n) (extended_bytes c.args.pages.now c.take_room.new.pages c.args.old c.requires.held c.take_room.ensures.extends))
-          ∙ overlay_grown (bytes_in c.args.pages.now c.args.old) c.args.offset c.args.run.now n (omega (arith, length-bytes_in c.args.pages.now c.args.old, reach_all c.args.offset (length c.args.run.now) c.requires.some));
-      there = omega (arith, len, len', c.in_ok-take_room.ensures.there, c.requires.held, c.take_room.ensures.extends.more);
+      ok = ap (bytes_in c.lay_on.new.pages) (sym c.lay_on.ensures.len) ∙ c.lay_on.ensures.laid.bytes;
+      there = omega (arith, there, c.lay_on.ensures.laid.same, c.requires.held, c.if-run-at.true);
       err = tt;
-      more = omega (arith, len, len', c.take_room.ensures.extends.more);
-      full = c.lay.ensures.full;
-      owned = owned_through c.args.pages.now c.take_room.new.pages c.lay.new.pages c.take_room.ensures.extends.owned
-          (owned_through c.take_room.new.pages c.blank_to-len.new.pages c.lay.new.pages c.blank_to-len.ensures.blanks.owned c.lay.ensures.owned);
+      more = omega (arith, c.lay_on.ensures.laid.same);
+      full = c.lay_on.ensures.laid.full;
+      owned = c.lay_on.ensures.laid.owned;
     }
 
 pub put-requires-clause-within : goal.put-requires-clause-within
@@ -41,8 +51,8 @@ put-requires-clause-within c =
     let own = sym c.is_owned.ensures ∙ c.if-is_owned.true in
     omega (arith, c.requires.full.each (c.args.offset / page_size) (owner_there c.args.pages.now (c.args.offset / page_size) own), c.if-run-at.true)
 
-pub returns-then-is_owned-clause-changes : goal.returns-then-is_owned-clause-changes
-returns-then-is_owned-clause-changes c =
+pub returns-then-offset-old-clause-changes : goal.returns-then-offset-old-clause-changes
+returns-then-offset-old-clause-changes c =
     let own = sym c.is_owned.ensures ∙ c.if-is_owned.true in
     let there : c.args.offset / page_size < length c.args.pages.now = owner_there c.args.pages.now (c.args.offset / page_size) own in
     let laid = page_laid c.args.pages.now c.put.new.self c.args.offset c.args.run.now c.requires.full there (omega (arith, c.if-run-at.true)) c.put.ensures in
