@@ -1,7 +1,8 @@
 #!/bin/sh
 # Worked scripts: runs each tests/scripts/NAME.script and compares its standard output with NAME.out, its exit status with
 # NAME.status and its standard error with NAME.err, all to the byte; without these two files, 0 and nothing. Then runs
-# each line of bad_lines.txt alone, which is no call. The last line is `N passed, M failed`.
+# each line of bad_lines.txt alone, which is no call, and random lists, in which fixed bytes stay (fixed_bytes.py). The
+# last line is `N passed, M failed`.
 top=$(CDPATH='' cd -- "$(dirname -- "$0")/.." && pwd -P)
 scripts=$top/tests/scripts
 # shellcheck source=tests/counting.sh
@@ -37,5 +38,11 @@ while IFS= read -r line; do
     printf '%s\n' "$line" >"$work/in"
     expect "bad line '$line'" 2 "$work/none" "$work/bad" <"$work/in"
 done <"$scripts/bad_lines.txt"
+
+if has_python; then
+    add python3 "$top/tests/fixed_bytes.py" "$program" 300
+else
+    skip 'fixed bytes in random lists: no python3'
+fi
 
 finish

@@ -1,6 +1,7 @@
 pub mod Checkpoints
 pub mod Fitting
 pub mod Journals
+pub mod Links
 pub mod Ranges
 pub mod Maps
 pub mod Paths

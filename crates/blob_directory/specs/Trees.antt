@@ -1,5 +1,5 @@
 -- The names that the root reaches, as a tree has them.
-use Rattle.std.specs.Prelude.{◌≡◌, ℕ, List, Bool, true, false, ◌&&◌, ◌||◌, nat_eq, Some, is_some, if◌then◌else◌}
+use Rattle.std.specs.Prelude.{◌≡◌, ℕ, List, Bool, true, false, ◌&&◌, ◌||◌, not, nat_eq, Some, is_some, if◌then◌else◌}
 use Rattle.std.specs.BTreeMap.{get}
 use Rattle.std.specs.Ordering.{nat_cmp}
 use Rattle.blob_directory.specs.declared.edit.Binding.{Binding}
@@ -33,6 +33,13 @@ FindsAgain = (again found told : Names) → Finds found told → Finds again fou
 abbrev pub has_directory : Tree → ℕ → Bool
 has_directory tree d = is_some (get nat_cmp tree.directories d)
 
+abbrev pub has_link : Tree → ℕ → Bool
+has_link tree i = is_some (get nat_cmp tree.links i)
+
+-- each file that a name is bound to is counted
+abbrev pub HasLinks : Tree → Type 0
+HasLinks tree = (e : List ℕ) (i : ℕ) → bound tree.names e ≡ Some (file i) → has_link tree i ≡ true
+
 -- each name is in a directory that the tree has
 abbrev pub HasPlaces : Tree → Type 0
 HasPlaces tree = (e : List ℕ) (to : Binding) → bound tree.names e ≡ Some to → (d : ℕ) × (name : List ℕ) × (e ≡ entry d name) × (has_directory tree d ≡ true)
@@ -44,6 +51,10 @@ is_directory Directory = true
 -- whether the tree has a directory after one more name
 abbrev pub has_then : Tree → Binding → ℕ → Bool
 has_then tree to d = has_directory tree d || (is_directory to.kind && nat_eq to.inode d)
+
+-- whether it counts a file after one more name
+abbrev pub links_then : Tree → Binding → ℕ → Bool
+links_then tree to i = has_link tree i || (not (is_directory to.kind) && nat_eq to.inode i)
 
 -- the names with one more, unless it's a second one of a directory
 abbrev pub added : Tree → List ℕ → Binding → Names

@@ -5,7 +5,7 @@ ghost use Rattle.blob_directory.specs.Names.{Names, Same, entry};
 ghost use Rattle.blob_directory.specs.Profiles.{counts, is_prefix, names_told, with_found};
 ghost use Rattle.blob_directory.specs.Sectors.{found_in};
 ghost use Rattle.blob_directory.specs.Tables.{bound};
-ghost use Rattle.blob_directory.specs.Trees.{Finds, HasPlaces, added, has_directory, has_then, is_directory};
+ghost use Rattle.blob_directory.specs.Trees.{Finds, HasLinks, HasPlaces, added, has_directory, has_then, is_directory, links_then, has_link};
 
 use crate::edit::{Binding, Kind};
 use crate::profile::Keeps;
@@ -46,6 +46,7 @@ impl Tree {
     fn add(&mut self, directory: u64, name: &[u8], to: Binding) -> Result<bool, AllocError>
         ensures names { OnOk result (Same (bound self.new.names) (added self.old (entry directory name.now) to)) }
         ensures directories { OnOk result ((d : ℕ) → has_directory self.new d ≡ has_then self.old to d) }
+        ensures links { OnOk result ((i : ℕ) → has_link self.new i ≡ links_then self.old to i) }
         ensures new { IfOk result (λ is_new. is_new ≡ (is_directory to.kind && not (has_directory self.old to.inode))) }
     {
         match to.kind {
@@ -120,6 +121,7 @@ pub fn kept_names(
 pub fn reached(alloc: Global, names: &Table) -> Result<Tree, AllocError>
     ensures finds { IfOk result (λ tree. (told : Names) → Same (bound names.now) told → Finds (bound tree.names) told) }
     ensures places { IfOk result HasPlaces }
+    ensures links { IfOk result HasLinks }
 {
     let mut tree = Tree::new(alloc)?;
     let mut next = Vec::new(alloc);

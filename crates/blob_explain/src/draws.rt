@@ -1,8 +1,9 @@
-// What a call draws, read ahead from a copy of the generator: it decides what the reply doesn't report.
+// What a call draws, read ahead from the generator: it decides what the reply doesn't report.
 use blob_base::Error;
 use blob_draws::faults::{ResizeFate, WriteFate, draw_resize, draw_write, draws};
 use blob_faulty::Config;
-use blob_lab::{Call, Lab, Reply, ScriptedRng};
+use blob_lab::{Call, Lab, Reply};
+use blob_lab_store::Ahead;
 use std::alloc::Global;
 
 /// The draws of a call, if its reply doesn't report them.
@@ -53,9 +54,9 @@ pub(crate) fn draw_ahead(
     Ok(Drawn::Nothing)
 }
 
-/// Returns a generator with the words that the laboratory takes next.
-fn rng_of(lab: &Lab) -> Result<ScriptedRng, Error> {
-    Ok(lab.wrapper().rng().fork()?)
+/// Returns the words that the laboratory takes next.
+fn rng_of(lab: &Lab) -> Result<Ahead<'_>, Error> {
+    Ok(lab.wrapper().rng().ahead()?)
 }
 
 /// Returns the tracked size of a handle, or None if there is no such handle. Makes no draw.

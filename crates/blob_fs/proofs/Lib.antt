@@ -1,5 +1,7 @@
 pub mod Calls
 pub mod Growing
+pub mod Cutting
+pub mod Recovering
 pub mod Renaming
 pub mod Settling
 pub mod Walking

@@ -10,6 +10,7 @@ use Rattle.blob_fs.specs.declared.run.Call.{Call}
 use Rattle.blob_fs.specs.declared.run.Call.TheVariants.{Create, MakeDirectory, Link, Unlink, RemoveDirectory, Open, OpenTruncated, Close, Read, Write, Truncate, Sync, SyncData, SyncDirectory, SyncAll, Settle}
 use Rattle.blob_fs.specs.declared.run.Call.TheVariants as call
 use Rattle.blob_fs.specs.declared.switches.Syncs.TheVariants.{Honest}
+use Rattle.blob_fs.specs.Bytes.{FindsBytes}
 use Rattle.blob_fs.specs.Files.{AddsTold, FindsKept, FindsTold, GrowsTold, KeepsNames, KeepsTold, MakesEdit, SameNames, SettlesSome, SyncsAll, SyncsDirectory, SyncsFile, fresh_inode, names_of, syncs_of}
 
 -- one more edit is recorded, which nothing has settled, and the names have it
@@ -98,3 +99,4 @@ pub record RunsAndCrashes {R : Type 0} (fs : FileSystem R) (calls : List Call) (
   pub grows : GrowsTold fs between
   pub kept : FindsKept between rows fs'
   pub finds : FindsTold between fs'
+  pub bytes : FindsBytes between rows fs'

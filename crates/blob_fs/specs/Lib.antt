@@ -1,4 +1,5 @@
 pub mod Files
+pub mod Bytes
 pub use Rattle.blob_directory.specs.Names
 pub use Rattle.blob_directory.specs.Profiles
 pub use Rattle.blob_directory.specs.Sectors

@@ -1,5 +1,6 @@
 //! The crash, and the recovery after it.
 ghost use Rattle.std.specs.Prelude.{IfOk, OnErr, OnOk};
+ghost use Rattle.blob_fs.specs.Bytes.{FindsBytes};
 ghost use Rattle.blob_fs.specs.Files.{FindsKept, FindsTold, GivesNames, GivesTold, IsRecovered, KeepsNames, KeepsTold, SameNames};
 
 use crate::error::FsError;
@@ -31,7 +32,8 @@ pub struct Crash {
 
 impl<R: Rng + Drop> FileSystem<R> {
     /// Crashes and recovers. The draws decide which unsynced bytes and which unsettled edits are kept. Then all is durable, and
-    /// every descriptor is stale. A file that no name reaches is deleted. Another crash straight after it finds the same names.
+    /// every descriptor is stale. A file that a name reaches has the bytes that the layer's crash leaves of it, cut as the profile
+    /// says. A file that no name reaches is deleted. Another crash straight after it finds the same names.
     ///
     /// # Errors
     ///
@@ -46,6 +48,7 @@ impl<R: Rng + Drop> FileSystem<R> {
         ensures kept { OnOk result (FindsTold self.old self.new) }
         ensures told { OnOk result (GivesTold self.new) }
         ensures untold { OnErr result (KeepsTold self.old self.new) }
+        ensures bytes { IfOk result (λ crash. FindsBytes self.old crash.rows self.new) }
     {
         found();
         let pending = self.pending_places()?;

@@ -1,5 +1,5 @@
 //! Open files: their bytes and sizes.
-ghost use Rattle.std.specs.Prelude.{◌≡◌, IfOk, Some};
+ghost use Rattle.std.specs.Prelude.{◌≡◌, false, IfOk, None, Some};
 ghost use Rattle.blob_fs.specs.Files.{KeepsNames, KeepsTold, inode_opened, journaled_of};
 
 use crate::error::FsError;
@@ -13,7 +13,11 @@ use rand_core::Rng;
 
 impl File {
     /// Returns a new file, which has one name and is not open.
-    pub(crate) fn new(blob: FileBlob) -> File {
+    pub(crate) fn new(blob: FileBlob) -> File
+        ensures blob { result.blob ≡ blob }
+        ensures there { result.is_gone ≡ false }
+        ensures shown { result.shown ≡ None }
+    {
         File {
             blob,
             links: 1,

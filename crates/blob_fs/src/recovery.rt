@@ -1,6 +1,10 @@
 //! The recovery: the names from the journal, and the files from their blobs.
-ghost use Rattle.std.specs.Prelude.{◌≡◌, OnOk, OnErr};
-ghost use Rattle.blob_fs.specs.Files.{FindsAgain, FindsNames, FindsTold, GivesNames, GivesTold, KeepsNames, KeepsTold, RepresentsFiles};
+ghost use Rattle.std.specs.Prelude.{◌≡◌, Some, IfOk, OnOk, OnErr, length, min};
+ghost use Rattle.std.specs.BTreeMap.{Updates};
+ghost use Rattle.std.specs.Ordering.{nat_cmp};
+ghost use Rattle.blob_fs.specs.Bytes.{ChangesOnly, CutsFile, CutsTo, KeepsBlobsOf, OpensLeft, RecoversBytes, Reopens, ReopensAll, kept_length as length_kept};
+ghost use Rattle.blob_fs.specs.Files.{FindsAgain, FindsNames, FindsTold, GivesNames, GivesTold, KeepsNames, KeepsTold, RepresentsFiles, journaled_of};
+ghost use Rattle.blob_journal.specs.Blobs.{ChangesFile, SameFilesBut};
 ghost use Rattle.blob_journal.specs.Currents.{KeepsFiles};
 ghost use Rattle.blob_journal.specs.Journals.{GivesNames as gives_names, KeepsFilesOf, store_of};
 ghost use Rattle.blob_journal.specs.Keeping.{KeepsTable, KeepsTold as keeps_told};
@@ -9,13 +13,16 @@ use crate::error::FsError;
 use crate::file_system::{File, FileSystem};
 use blob_base::Error;
 use blob_directory::tree::Tree;
+use blob_journal::laws::blobs;
 use blob_journal::{FileBlob, Journaled};
 use rand_core::Rng;
 use std::alloc::Global;
 use std::collections::BTreeMap;
 
 /// Returns the length of the found bytes before the first one beyond the synced size that differs from the live bytes.
-fn kept_length(found: &[u8], live: &[u8], synced: usize) -> usize {
+fn kept_length(found: &[u8], live: &[u8], synced: usize) -> usize
+    ensures { result ≡ length_kept (min synced (length found.now)) live.now found.now }
+{
     let mut at = synced.min(found.len());
     while at < found.len() && at < live.len() && found[at] == live[at] {
         at += 1;
@@ -41,7 +48,10 @@ fn cut_to<R: Rng + Drop>(
     ensures names { KeepsTable store.old store.new }
     ensures told { keeps_told store.old store.new }
     ensures files { KeepsFilesOf blob.old store.old store.new }
+    ensures cut { OnOk result (CutsTo length store.old blob.old store.new blob.new) }
+    ensures others { OnOk result (ChangesFile store.old blob.old store.new) }
 {
+    blobs::<R>();
     store.resize_file(blob, length)?;
     store.sync_file(blob)?;
     Ok(())
@@ -56,7 +66,10 @@ fn cut<R: Rng + Drop>(
     ensures names { KeepsTable store.old store.new }
     ensures told { keeps_told store.old store.new }
     ensures files { KeepsFilesOf blob.old store.old store.new }
+    ensures cut { OnOk result (CutsFile old.now store.old blob.old store.new blob.new) }
+    ensures others { OnOk result (ChangesOnly store.old blob.old store.new) }
 {
+    blobs::<R>();
     let size = blob.size();
     if size <= old.synced {
         return Ok(());
@@ -80,7 +93,10 @@ fn open_left<R: Rng + Drop>(
     ensures names { KeepsTable store.old store.new }
     ensures told { keeps_told store.old store.new }
     ensures files { KeepsFiles (store_of store.old) (store_of store.new) }
+    ensures left { IfOk result (λ r. OpensLeft store.old inode old.now cuts store.new r.0 r.1) }
+    ensures others { OnOk result (SameFilesBut inode store.old store.new) }
 {
+    blobs::<R>();
     let mut blob = store.open_file(inode)?;
     let found = blob.size();
     if !cuts {
@@ -101,6 +117,8 @@ fn reopen<R: Rng + Drop>(
     ensures names { KeepsTable store.old store.new }
     ensures told { keeps_told store.old store.new }
     ensures files { KeepsFiles (store_of store.old) (store_of store.new) }
+    ensures left { IfOk result (λ file. Reopens store.old inode old.now cuts store.new file) }
+    ensures others { OnOk result (SameFilesBut inode store.old store.new) }
 {
     let (blob, found) = open_left(store, inode, old, cuts)?;
     let synced = blob.size();
@@ -109,6 +127,14 @@ fn reopen<R: Rng + Drop>(
     file.synced = synced;
     file.found = found;
     Ok(file)
+}
+
+/// Adds a file to a map. The only error is out of memory.
+fn put(files: &mut BTreeMap<u64, File>, inode: u64, file: File) -> Result<(), FsError>
+    ensures { OnOk result (Updates nat_cmp files.old files.new inode (Some file)) }
+{
+    files.insert(inode, file)?;
+    Ok(())
 }
 
 /// Opens the files that have a name.
@@ -122,15 +148,27 @@ fn reopen_all<R: Rng + Drop>(
     ensures names { KeepsTable store.old store.new }
     ensures told { keeps_told store.old store.new }
     ensures files { KeepsFiles (store_of store.old) (store_of store.new) }
+    ensures left { IfOk result (λ files. ReopensAll store.old old.now tree.now cuts store.new files) }
 {
+    blobs::<R>();
     let mut files = BTreeMap::new(alloc);
-    for (inode, old) in old {
+    for (inode, before) in old.iter() {
         if let Some(links) = tree.links.get(inode) {
-            let file = reopen(store, *inode, old, *links, cuts)?;
-            files.insert(*inode, file)?;
+            let file = reopen(store, *inode, before, *links, cuts)?;
+            put(&mut files, *inode, file)?;
         }
     }
     Ok(files)
+}
+
+/// Removes the blob of a file. If memory runs out, it stays until the next crash.
+fn remove_blob<R: Rng + Drop>(store: &mut Journaled<R>, inode: u64)
+    ensures names { KeepsTable store.old store.new }
+    ensures told { keeps_told store.old store.new }
+    ensures gives { gives_names store.old → gives_names store.new }
+    ensures others { SameFilesBut inode store.old store.new }
+{
+    let _ = store.remove_file(inode);
 }
 
 /// Removes the blobs of files that aren't there any more.
@@ -142,10 +180,12 @@ fn remove_unnamed<R: Rng + Drop>(
     ensures names { KeepsTable store.old store.new }
     ensures told { keeps_told store.old store.new }
     ensures gives { gives_names store.old → gives_names store.new }
+    ensures kept { KeepsBlobsOf files.now store.old store.new }
 {
+    blobs::<R>();
     for (inode, _) in old {
         if !files.contains_key(inode) {
-            let _ = store.remove_file(*inode);
+            remove_blob(store, *inode);
         }
     }
 }
@@ -160,7 +200,9 @@ impl<R: Rng + Drop> FileSystem<R> {
         ensures kept { OnOk result (FindsTold self.old self.new) }
         ensures told { OnOk result (GivesTold self.new) }
         ensures untold { OnErr result (KeepsTold self.old self.new) }
+        ensures bytes { OnOk result (RecoversBytes self.old self.new) }
     {
+        blobs::<R>();
         let (tree, edits) = self.store.find_names(self.options.profile.keeps)?;
         let cuts = self.options.profile.cuts;
         let files = reopen_all(self.alloc, &mut self.store, &self.files, &tree, cuts)?;
@@ -175,6 +217,8 @@ impl<R: Rng + Drop> FileSystem<R> {
         ensures told { KeepsTold self.old self.new }
         ensures gives { GivesNames self.old → GivesNames self.new }
         ensures settled { GivesTold self.old → GivesTold self.new }
+        ensures files { self.new.files ≡ files }
+        ensures kept { KeepsBlobsOf files (journaled_of self.old) (journaled_of self.new) }
     {
         remove_unnamed(&mut self.store, &self.files, &files);
         self.used = used_by(&files);

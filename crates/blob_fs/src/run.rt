@@ -148,7 +148,8 @@ impl<R: Rng + Drop> FileSystem<R> {
     /// Makes calls, one after another, and crashes. Returns, for each call, whether it returned Ok, and what the crash kept.
     ///
     /// The names that are found are those of all edits that were settled, before or by the calls, and of some of the others, as
-    /// the profile keeps them, in the order of issue, each whole.
+    /// the profile keeps them, in the order of issue, each whole. Each file that they reach has the bytes that the layer's crash
+    /// leaves of it, cut as the profile says.
     ///
     /// # Errors
     ///

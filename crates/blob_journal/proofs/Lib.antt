@@ -10,4 +10,5 @@ pub mod Standing
 pub mod Settling
 pub mod Kept
 pub mod Found
+pub mod Blobs
 pub mod Telling

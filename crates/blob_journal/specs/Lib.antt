@@ -5,4 +5,6 @@ pub mod Draws
 pub mod Currents
 pub mod Journals
 pub mod Keeping
+pub mod Blobs
+pub mod Incarnations
 pub mod Settling

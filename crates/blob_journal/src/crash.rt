@@ -1,5 +1,5 @@
 //! The crash of the store.
-ghost use Rattle.std.specs.Prelude.{IfOk, OnOk};
+ghost use Rattle.std.specs.Prelude.{◌≡◌, ℕ, IfOk, OnOk};
 
 use crate::journaled::Journaled;
 use blob_base::Error;
@@ -8,6 +8,7 @@ use blob_faulty::laws::leaves;
 use rand_core::Rng;
 
 impl<R: Rng + Drop> Journaled<R> {
+    ghost use Rattle.blob_journal.specs.Blobs.{crashed_file, current_file};
     ghost use Rattle.blob_journal.specs.Currents.{Represents};
     ghost use Rattle.blob_journal.specs.Journals.{CrashKeeps, GivesNames, store_of};
     ghost use Rattle.blob_journal.specs.Keeping.{KeepsTable, KeepsTold};
@@ -24,6 +25,7 @@ impl<R: Rng + Drop> Journaled<R> {
         ensures gives { OnOk result (GivesNames self.old → GivesNames self.new) }
         ensures names { KeepsTable self.old self.new }
         ensures told { KeepsTold self.old self.new }
+        ensures bytes { IfOk result (λ rows. (inode : ℕ) → current_file self.new inode ≡ crashed_file self.old rows inode) }
     {
         leaves::crashed::<R>();
         leaves::same_bytes::<blob_memory::Storage, R>();

@@ -27,6 +27,7 @@ fn number_of<R: Rng>(blob: &Handle) -> u64
 }
 
 impl<R: Rng + Drop> Journaled<R> {
+    ghost use Rattle.blob_journal.specs.Blobs.{ChangesFile, OpensFile, ResizesFile, SameFiles, SameFilesBut, SyncsFile, bytes_of};
     ghost use Rattle.blob_journal.specs.Currents.{IsGiven, KeepsFiles};
     ghost use Rattle.blob_journal.specs.Journals.{GivesNames, HasFile, KeepsFile, KeepsFilesOf, KeepsGiven, durable_file, store_of};
     ghost use Rattle.blob_journal.specs.Keeping.{KeepsTable, KeepsTold, NotesOpened};
@@ -42,6 +43,8 @@ impl<R: Rng + Drop> Journaled<R> {
         ensures told { KeepsTold self.old self.new }
         ensures files { KeepsFiles (store_of self.old) (store_of self.new) }
         ensures given { IfOk result (λ file. HasFile self.new file) }
+        ensures opened { IfOk result (λ file. OpensFile self.old inode self.new file) }
+        ensures others { OnOk result (SameFilesBut inode self.old self.new) }
     {
         let (blob, _) = open(&mut self.store, FILES, &inode.to_be_bytes())?;
         self.note(&blob);
@@ -95,6 +98,7 @@ impl<R: Rng + Drop> Journaled<R> {
         ensures told { KeepsTold self.old self.new }
         ensures gives { GivesNames self.old → GivesNames self.new }
         ensures journal { KeepsJournal self.old self.new }
+        ensures others { SameFilesBut inode self.old self.new }
     {
         remove(&mut self.store, FILES, &inode.to_be_bytes())
     }
@@ -109,6 +113,8 @@ impl<R: Rng + Drop> Journaled<R> {
         ensures told { KeepsTold self.old self.new }
         ensures files { KeepsFiles (store_of self.old) (store_of self.new) }
         ensures given { KeepsGiven self.old self.new }
+        ensures bytes { IfOk result (λ bytes. bytes.items ≡ bytes_of file.now) }
+        ensures same { OnOk result (SameFiles self.old self.new) }
     {
         let size = file.size();
         read_all(self.alloc, &mut self.store, &file.blob, size)
@@ -170,6 +176,8 @@ impl<R: Rng + Drop> Journaled<R> {
         ensures told { KeepsTold self.old self.new }
         ensures files { KeepsFilesOf file.old self.old self.new }
         ensures given { KeepsFile file.old self.old file.new self.new }
+        ensures resized { OnOk result (ResizesFile length self.old file.old self.new file.new) }
+        ensures same { OnOk result (SameFiles self.old self.new) }
     {
         self.check(file)?;
         leaves::other_blobs::<blob_memory::Storage, R>();
@@ -187,6 +195,8 @@ impl<R: Rng + Drop> Journaled<R> {
         ensures files { KeepsFiles (store_of self.old) (store_of self.new) }
         ensures journal { KeepsJournal self.old self.new }
         ensures given { KeepsFile file.old self.old file.new self.new }
+        ensures synced { OnOk result (SyncsFile self.old file.old self.new file.new) }
+        ensures others { OnOk result (ChangesFile self.old file.old self.new) }
     {
         self.check(file)?;
         leaves::other_blobs::<blob_memory::Storage, R>();

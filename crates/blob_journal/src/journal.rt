@@ -8,6 +8,7 @@ ghost use Rattle.blob_directory.specs.Names.{edit_of};
 ghost use Rattle.blob_directory.specs.Sectors.{found_in, sector_of};
 ghost use Rattle.blob_memory.specs.Store.{directory, durable, place};
 ghost use Rattle.blob_faulty.specs.Wrapper.{inner_of, inside};
+ghost use Rattle.blob_journal.specs.Incarnations.{ChangesOnly, KeepsPartition};
 ghost use Rattle.blob_journal.specs.Currents.{BeginsAs, FindsNoMore, FindsNoMoreBut, FixesBytes, IsGiven, KeepsCurrent, KeepsFiles, KeepsNext, SameDirectory, SamePending};
 ghost use Rattle.blob_journal.specs.Draws.{DrawsSectors};
 ghost use Rattle.blob_journal.specs.Found.{HasSectors};
@@ -74,6 +75,7 @@ impl Journal {
         ensures given { IfOk result (λ r. IsGiven store.new (place (inside r.0.blob))) }
         ensures left { FindsNoMore store.old store.new }
         ensures next { KeepsNext store.old store.new }
+        ensures blobs { OnOk result (KeepsPartition (codes "f") store.old store.new) }
     {
         let (blob, size) = open(store, JOURNALS, &generation.to_be_bytes())?;
         let bytes = read_all(alloc, store, &blob, size)?;
@@ -168,6 +170,7 @@ impl Journal {
         ensures live { OnOk result (bytes_in self.old ≡ [] → bytes_in self.new ≡ bytes.now) }
         ensures sectors { OnOk result (self.new.sectors ≡ length bytes.now / 1024) }
         ensures left { FindsNoMoreBut (place (inside self.old.blob)) store.old store.new }
+        ensures only { OnOk result (ChangesOnly (place (inside self.old.blob)) store.old store.new) }
     {
         writes::<blob_memory::Storage, R, blob_memory::Blob>();
         recorded::<blob_memory::Storage, R>();

@@ -1,4 +1,5 @@
-//! Laws about calls that keep the journal, before and after a sync.
+//! Laws about calls that keep the journal, before and after a sync, and about the blobs of files.
+ghost use Rattle.blob_journal.specs.Blobs.{CurrentStays, DurableIsFound, DurableStays, ReadsSeen, ResizeShortens, SameTwice};
 ghost use Rattle.blob_journal.specs.Settling.{KeptTwice, SettledAfter, SettledBefore};
 ghost use Rattle.blob_journal.specs.Told.{GrowsOn, GrowsSame, SettledIsKept, SettledStays};
 
@@ -16,4 +17,14 @@ pub fn settling<R>()
     ensures twice { KeptTwice R }
     ensures after { SettledAfter R }
     ensures before { SettledBefore R }
+{}
+
+/// The durable bytes of an open file are those of its number, and reads return them. They stay while its blob is the same.
+pub fn blobs<R>()
+    ensures found { DurableIsFound R }
+    ensures reads { ReadsSeen }
+    ensures current { CurrentStays R }
+    ensures stays { DurableStays R }
+    ensures twice { SameTwice R }
+    ensures shortened { ResizeShortens }
 {}

@@ -2,7 +2,7 @@
 ghost use Rattle.std.specs.Prelude.{◌≡◌, IfOk, OnOk, OnErr};
 ghost use Rattle.blob_directory.specs.Checkpoints.{FitsJournal};
 ghost use Rattle.blob_directory.specs.Tables.{bound};
-ghost use Rattle.blob_directory.specs.Trees.{Finds};
+ghost use Rattle.blob_directory.specs.Trees.{Finds, HasLinks};
 
 use crate::journal::Journal;
 use crate::journaled::Journaled;
@@ -18,6 +18,7 @@ use std::alloc::AllocError;
 use std::collections::BTreeMap;
 
 impl<R: Rng + Drop> Journaled<R> {
+    ghost use Rattle.blob_journal.specs.Blobs.{SameFiles};
     ghost use Rattle.blob_journal.specs.Currents.{KeepsFiles, Represents};
     ghost use Rattle.blob_journal.specs.Journals.{FindsNames, GivesNames, store_of};
     ghost use Rattle.blob_journal.specs.Keeping.{FindsTold, GivesTold, KeepsTable, KeepsTold, names_in, table_in};
@@ -36,6 +37,8 @@ impl<R: Rng + Drop> Journaled<R> {
         ensures files { KeepsFiles (store_of self.old) (store_of self.new) }
         ensures told { KeepsTold self.old self.new }
         ensures kept { IfOk result (λ r. FindsTold self.old keeps (bound r.0.names)) }
+        ensures links { IfOk result (λ r. HasLinks r.0) }
+        ensures same { OnOk result (SameFiles self.old self.new) }
     {
         self.store.set_config(Config::default());
         let generation = self.journal.generation;
@@ -68,6 +71,7 @@ impl<R: Rng + Drop> Journaled<R> {
         ensures told { OnOk result (FitsJournal tree → GivesTold self.new) }
         ensures refused { OnErr result (KeepsTable self.old self.new) }
         ensures untold { OnErr result (KeepsTold self.old self.new) }
+        ensures same { OnOk result (SameFiles self.old self.new) }
     {
         leaves::same_bytes::<blob_memory::Storage, R>();
         let old = self.journal.generation;

@@ -1,9 +1,10 @@
 //! The store below files, and the blob of a file in it.
-ghost use Rattle.std.specs.Prelude.{◌≡◌, codes, length, IfOk, None, Some, [], true};
+ghost use Rattle.std.specs.Prelude.{◌≡◌, codes, length, take, IfOk, None, Some, [], true};
 ghost use Rattle.blob_model.specs.Directory.{current, is_current};
 ghost use Rattle.blob_model.specs.Places.{Place};
 ghost use Rattle.blob_memory.specs.Store.{directory, durable, live, place};
-ghost use Rattle.blob_faulty.specs.Wrapper.{inner_of, inside};
+ghost use Rattle.blob_faulty.specs.Wrapper.{inner_of, inside, size_of};
+ghost use Rattle.blob_journal.specs.Incarnations.{IsIncarnation, KeepsOtherBlobs};
 ghost use Rattle.blob_journal.specs.Currents.{FindsNoMore, FindsNoMoreBeside, IsGiven, KeepsBytes, KeepsCurrent, KeepsFiles, KeepsNext, KeepsOthers, KeepsPending, SamePending};
 
 use blob_base::laws::opens::{accepted_opens, numbers_are_given};
@@ -44,6 +45,9 @@ pub(crate) fn open<R: Rng>(
     ensures begun { IfOk result (λ r. (directory (inner_of store.old)).file partition.now name.now ≡ None → live (inside r.0) ≡ []) }
     ensures left { FindsNoMore store.old store.new }
     ensures next { KeepsNext store.old store.new }
+    ensures others { KeepsOtherBlobs partition.now name.now store.old store.new }
+    ensures incarnation { IfOk result (λ r. IsIncarnation store.new partition.now name.now (place (inside r.0))) }
+    ensures tracked { IfOk result (λ r. size_of r.0 ≡ length (live (inside r.0))) }
 {
     accepted_opens();
     numbers_are_given::<blob_memory::Storage>();
@@ -84,6 +88,7 @@ pub(crate) fn remove<R: Rng>(
     ensures files { KeepsFiles store.old store.new }
     ensures left { FindsNoMoreBeside partition.now name.now store.old store.new }
     ensures next { KeepsNext store.old store.new }
+    ensures others { KeepsOtherBlobs partition.now name.now store.old store.new }
 {
     leaves::same_bytes::<blob_memory::Storage, R>();
     removals::<blob_memory::Storage, R>();
@@ -99,6 +104,7 @@ pub(crate) fn read_all<R: Rng>(
     size: u64,
 ) -> Result<Vec<u8>, Error>
     ensures bytes { IfOk result (λ bytes. size ≡ length (live (inside blob.now)) → bytes.items ≡ live (inside blob.now)) }
+    ensures read { IfOk result (λ bytes. bytes.items ≡ take size (live (inside blob.now))) }
     ensures inner { inner_of store.new ≡ inner_of store.old }
     ensures files { KeepsFiles store.old store.new }
     ensures pending { SamePending store.old store.new }

@@ -1,8 +1,10 @@
 //! A laboratory that runs calls as data: a store that fails and crashes, its open handles and their names.
 #![tactic(auto)]
 
+mod ahead;
 pub mod lab;
 pub mod scripted_rng;
 
+pub use ahead::Ahead;
 pub use lab::Lab;
 pub use scripted_rng::ScriptedRng;

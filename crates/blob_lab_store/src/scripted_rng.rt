@@ -5,6 +5,7 @@ ghost use Rattle.blob_lab_model.specs.Scripted.{next_of, scripted_stream};
 ghost use Rattle.rand_xoshiro.specs.SplitMix64.{splitmix_seed};
 ghost use Rattle.rand_xoshiro.specs.Xoshiro256.{of_seed};
 
+use crate::ahead::Ahead;
 use rand_core::utils::NextWord;
 use rand_core::{Rng, SeedableRng, utils};
 use rand_xoshiro::Xoshiro256PlusPlus;
@@ -68,18 +69,16 @@ impl ScriptedRng {
         }
     }
 
-    /// Returns a generator that gives the same words from here on.
-    pub fn fork(&self) -> Result<ScriptedRng, AllocError>
-        ensures { IfOk result (λ fork. fork ≡ self.now) }
+    /// Returns a generator of the words that come next, which takes none of them from this one.
+    pub fn ahead(&self) -> Result<Ahead<'_>, AllocError>
+        ensures { IfOk result (λ ahead. ahead ≡ self.now) }
     {
-        let words = Vec::from_slice(*self.words.allocator(), &self.words[self.at..])?;
         let behind = match &self.behind {
             None => None,
             Some(rng) => Some(rng.clone()?),
         };
-        Ok(ScriptedRng {
-            words,
-            at: 0,
+        Ok(Ahead {
+            words: &self.words[self.at..],
             behind,
         })
     }

@@ -28,8 +28,8 @@ pub fn reach_of(offset: usize, keep: &[bool]) -> usize
     end
 }
 
-/// Writes the selected bytes one by one.
-fn copy_some(bytes: &mut [u8], offset: usize, run: &[u8], keep: &[bool])
+/// Writes the selected bytes one by one, over bytes that are there.
+pub fn copy_some(bytes: &mut [u8], offset: usize, run: &[u8], keep: &[bool])
     requires same { length keep.now ≡ length run.now }
     requires fits { offset + length run.now < 2 ^ 64 }
     requires inside { reach offset (length run.now) (is_chosen keep.now) ≤ length bytes.old }

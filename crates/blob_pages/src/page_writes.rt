@@ -1,5 +1,5 @@
 // Writes of selected bytes to pages.
-ghost use Rattle.std.specs.Prelude.{◌≡◌, ◌≤◌, ◌<◌, ◌+◌, ◌^◌, length, IfOk};
+ghost use Rattle.std.specs.Prelude.{◌≡◌, ◌≤◌, ◌<◌, ◌+◌, ◌^◌, true, length, replicate, IfOk};
 ghost use Rattle.blob_model.specs.Bytes.{overlay, overlay_by, reach};
 ghost use Rattle.blob_model.specs.Runs.{is_chosen};
 ghost use Rattle.blob_pages.specs.Values.{bytes, room, Tries, IsRange, IsSelectedWrite};
@@ -7,6 +7,47 @@ ghost use Rattle.blob_pages.specs.Values.{bytes, room, Tries, IsRange, IsSelecte
 use crate::pages::Pages;
 use blob_overlay::overlay;
 use std::alloc::{AllocError, Global};
+
+/// A range of at most this many bytes is prepared on the stack.
+const SMALL: usize = 64;
+
+/// Copies a range of the bytes over zeros, if it is on one page. Returns whether it is.
+fn copy_range(pages: &Pages, offset: usize, range: &mut [u8]) -> bool
+    requires fits { offset + length range.old < 2 ^ 64 }
+    requires zeros { range.old ≡ replicate (length range.old) 0 }
+    ensures range { result ≡ true → IsRange range.new (bytes pages.now) offset (offset + length range.old) }
+    ensures len { length range.new ≡ length range.old }
+{
+    let from = offset.min(pages.len());
+    let there = (offset + range.len()).min(pages.len()) - from;
+    if there == 0 {
+        return true;
+    }
+    let part = pages.part(from, there);
+    if part.len() < there {
+        return false;
+    }
+    range[..there].copy_from_slice(part);
+    true
+}
+
+/// Copies a range of the bytes over zeros, with the selected bytes of a write over them, if the range is on one page.
+/// Returns whether it is.
+fn mix(pages: &Pages, offset: usize, run: &[u8], keep: &[bool], range: &mut [u8]) -> bool
+    requires same { length keep.now ≡ length run.now }
+    requires fits { offset + length run.now < 2 ^ 64 }
+    requires some { 0 < length range.old }
+    requires end { offset + length range.old ≡ reach offset (length run.now) (is_chosen keep.now) }
+    requires zeros { range.old ≡ replicate (length range.old) 0 }
+    ensures laid { result ≡ true → IsSelectedWrite range.new (bytes pages.now) offset run.now keep.now }
+    ensures len { length range.new ≡ length range.old }
+{
+    if !copy_range(pages, offset, range) {
+        return false;
+    }
+    overlay::copy_some(range, 0, run, keep);
+    true
+}
 
 /// Copies a range of the bytes, with zeros after the last byte. The only error is out of memory.
 fn range_of(alloc: Global, pages: &Pages, offset: usize, end: usize) -> Result<Vec<u8>, AllocError>
@@ -60,6 +101,13 @@ pub fn lay_mixed(
 {
     if end <= offset {
         return Ok(());
+    }
+    if end - offset <= SMALL {
+        let mut small = [0; SMALL];
+        let range = &mut small[..end - offset];
+        if mix(pages, offset, run, keep, range) {
+            return pages.overlay(offset, range);
+        }
     }
     let all = mixed(pages.alloc(), pages, offset, end, run, keep)?;
     pages.overlay(offset, all.as_slice())

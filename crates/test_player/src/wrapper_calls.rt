@@ -103,12 +103,29 @@ fn print_holes(holes: &[Extent], line: &mut String) -> Result<(), AllocError> {
     Ok(())
 }
 
+// The contracts of a wrapper and of a snapshot take most of a minute of a proof with several of them. Only the proofs of
+// these functions see them.
+fn wrapped(alloc: Global, memory: Memory, rng: ScriptedRng, config: Config) -> Wrapper<Memory> {
+    Wrapper::new(alloc, memory, rng, config)
+}
+
+fn empty(alloc: Global) -> Wrapper<Memory> {
+    let rng = ScriptedRng::new(Vec::new(alloc));
+    wrapped(alloc, Memory::new(alloc), rng, Config::default())
+}
+
+fn unwrapped(wrapper: Wrapper<Memory>) -> (Memory, ScriptedRng, Config) {
+    wrapper.into_inner()
+}
+
+fn rebuilt(mut memory: Memory) -> Memory {
+    Memory::from_snapshot(memory.take_snapshot())
+}
+
 impl WrapperPlace<Memory> {
     /// Takes the wrapper and leaves an empty one.
     pub fn take(&mut self) -> Wrapper<Memory> {
-        let rng = ScriptedRng::new(Vec::new(self.alloc));
-        let empty = Wrapper::new(self.alloc, Memory::new(self.alloc), rng, Config::default());
-        mem::replace(&mut self.place.store, empty)
+        mem::replace(&mut self.place.store, empty(self.alloc))
     }
 
     /// Sets the wrapper that the handles use from now on.
@@ -119,14 +136,14 @@ impl WrapperPlace<Memory> {
     // Takes the store out of its wrapper and wraps it again, with the same generator and configuration. If
     // `is_rebuilt`, rebuilds the store from a snapshot first. Handles stay. Returns how many words were taken so far.
     fn rewrap(&mut self, is_rebuilt: bool) -> Result<Found, Error> {
-        let (mut memory, rng, config) = self.take().into_inner();
+        let (mut memory, rng, config) = unwrapped(self.take());
         if is_rebuilt {
-            memory = Memory::from_snapshot(memory.take_snapshot());
+            memory = rebuilt(memory);
         }
         let left = words::left(self.alloc, rng, self.left)?.ok_or(Error::Closed)?;
         self.left = left.len();
         let rng = words::generator(left)?;
-        self.place.store = Wrapper::new(self.alloc, memory, rng, config);
+        self.place.store = wrapped(self.alloc, memory, rng, config);
         Ok(Found::Taken(self.given.wrapping_sub(self.left)))
     }
 
@@ -200,7 +217,7 @@ impl WrapperPlace<Memory> {
 
     /// Returns how many words were taken, at the end of a case.
     pub fn taken(&mut self) -> Result<Found, Error> {
-        let (_memory, rng, _config) = self.take().into_inner();
+        let (_memory, rng, _config) = unwrapped(self.take());
         Ok(Found::Taken(words::taken(self.alloc, rng, self.given, self.left)?))
     }
 }

@@ -1,4 +1,4 @@
-use Rattle.std.proofs.Common.{◌≡◌, ◌&&◌, ◌-◌, ℕ, List, [], ◌∷◌, ◌++◌, Bool, true, not, Some, Vec, Global, sym, ap, subst, ◌∙◌, inl, inr, ⊎_elim, take, get_or}
+use Rattle.std.proofs.Common.{◌≡◌, ◌&&◌, ◌-◌, ℕ, List, [], ◌∷◌, ◌++◌, Bool, true, not, None, Option, Some, Vec, Global, sym, ap, subst, ◌∙◌, inl, inr, ⊎_elim, take, get_or}
 use Rattle.std.specs.List.{All, Contains}
 use Rattle.std.proofs.lemmas.Bool.{and_parts, eqb-true, false≢true}
 use Rattle.std.proofs.lemmas.List.Elements.{All-contains, All-from_all_within, All-pop, All-push, All-same, All-nil, All-weaker, AllWithin-more, AllWithin-none, AllWithin-upto, Contains-append_cases, Contains-append_left, Contains-push, at_read}
@@ -8,8 +8,12 @@ use Rattle.blob_directory.specs.Names.{Names, entry}
 use Rattle.blob_directory.specs.Tables.{bound}
 use Rattle.blob_directory.specs.Trees.{has_directory, is_directory}
 use Rattle.blob_directory.proofs.Walks.{Closed, Kept, all_found, all_seen, added_name, finds_same, is_kind, kept_grows, not_in_none, only_one, walk_begins}
+use Rattle.blob_directory.proofs.Links.{links_added}
 use Rattle.blob_directory.proofs.tree.reached.Goals.{then-branch+in_ok-push-2, else-branch}
 use Rattle.blob_directory.proofs.tree.reached.Goals as goal
+
+unbound : {A : Type 0} {x : A} → ◌≡◌ {A = Option A} None (Some x) → ⊥
+unbound e = cc
 
 pub loop-init : goal.loop-init
 loop-init c =
@@ -20,6 +24,7 @@ loop-init c =
     let P : ℕ → Type 0 = λ d. seen d ≡ true in
     let pushed : next ≡ 1 ∷ [] = c.in_ok-push.ensures.items ∙ ap (λ l. l ++ 1 ∷ []) c.new-next.ensures.items in
     record {
+      links = λ e i h. absurd (unbound (sym (c.in_ok-tree.ensures.names e) ∙ h));
       walked = walk_begins names (bound c.in_ok-tree.tree.names) seen c.in_ok-tree.ensures.names dirs;
       left = All-same P next (1 ∷ []) pushed (All-push P [] 1 (All-nil P) (dirs 1));
       closed = λ d s. inl (subst (λ l. Contains l d) (sym pushed) (subst (Contains (1 ∷ [])) (eqb-true 1 d (sym (dirs d) ∙ s)) (Contains-push [] 1)));
@@ -58,6 +63,7 @@ loop-name-init c =
     let before : c.loop.next.items ≡ left ++ directory ∷ [] = c.in-Some.ensures.items in
     let popped = All-pop (λ (d : ℕ). seen d ≡ true) c.loop.next.items left (Some directory) before c.loop.invariant.left in
     record {
+      links = c.loop.invariant.links;
       walked = c.loop.invariant.walked;
       left = popped.0;
       here = popped.1;
@@ -102,6 +108,7 @@ loop-name-preserved c =
       | else-branch w ↦ absurd (false≢true (sym w.if-branch.false ∙ new ∙ e))
     ] in
     record {
+      links = links_added c.loop-name.tree c.add.new.self (entry directory c.deref.result.now) item.1 c.in_ok-add.ensures.names c.in_ok-add.ensures.links c.loop-name.invariant.links;
       walked = added.walked;
       left = elim c.if-branch.branch [
         | then-branch+in_ok-push-2 w ↦
@@ -143,6 +150,7 @@ loop-preserved c =
     let kept : K n.0 = All-contains K items n.0 all (subst (λ (l : List (Vec ℕ Global × Binding)). Contains l n.0) (sym c.deref-name-items.ensures.value) n.1) in
     subst (λ b. Kept found seen (entry directory name) b) n.3 (subst (λ l. Kept found seen (entry directory l) n.0.1) n.2 kept) in
     record {
+      links = c.loop-name.invariant.links;
       walked = c.loop-name.invariant.walked;
       left = c.loop-name.invariant.left;
       closed = λ d s. ⊎_elim (λ x. inr (subst (Closed names found seen) (sym x) mine)) (λ y. y) (c.loop-name.invariant.closed d s);

@@ -1,4 +1,46 @@
+use Rattle.std.proofs.Common.{◌≡◌, ◌≤◌, ℕ, List, length, take, arith, subst, sym, ◌∙◌}
+use Rattle.blob_journal.specs.Blobs.{HasDurable, bytes_of}
+use Rattle.blob_fs.specs.Bytes.{kept_length}
+use Rattle.blob_fs.proofs.Cutting.{kept_is, on_map, uncut}
 use Rattle.blob_fs.proofs.recovery.cut.Goals as goal
 
 pub returns-clause-files : goal.returns-clause-files
 returns-clause-files g c = λ h r. c.cut_to.ensures.files (c.in_ok-live.ensures.given c.args.blob.now (c.in_ok-found.ensures.given c.args.blob.now h)) (c.in_ok-live.ensures.files (c.in_ok-found.ensures.files r))
+
+pub returns-then-length-size-clause-cut : goal.returns-then-length-size-clause-cut
+returns-then-length-size-clause-cut g c = λ inode found h.
+    let blob = c.args.blob.now in
+    let old = c.args.old.now in
+    let one = c.blobs.ensures.stays c.args.store.now c.read_whole.new.self inode blob found (c.in_ok-found.ensures.same inode) h in
+    let two = c.blobs.ensures.stays c.read_whole.new.self c.read_whole-2.new.self inode blob found (c.in_ok-live.ensures.same inode) one in
+    let size : c.size-size.result ≡ length found = c.size-size.ensures ∙ h.seen.size in
+    let kept : c.kept_length-length.result ≡ kept_length old.synced (bytes_of old.blob) found =
+    kept_is old.synced c.deref.result.now c.deref-2.result.now found (bytes_of old.blob) c.kept_length-length.result c.kept_length-length.ensures
+    (c.deref.ensures.value ∙ c.in_ok-found.ensures.bytes ∙ c.blobs.ensures.reads blob found h.seen) (c.deref-2.ensures.value ∙ c.in_ok-live.ensures.bytes) (omega (arith, size, c.if-size-old.false)) in
+    let long : length found ≤ kept_length old.synced (bytes_of old.blob) found = omega (arith, kept, size, c.if-length-size.true) in
+    subst (λ (l : List ℕ). HasDurable c.read_whole-2.new.self inode blob l) (sym (uncut old.synced (bytes_of old.blob) found long)) two
+
+pub returns-then-length-size-clause-others : goal.returns-then-length-size-clause-others
+returns-then-length-size-clause-others g c = λ inode bytes below h other there apart.
+    c.blobs.ensures.twice c.args.store.now c.read_whole.new.self c.read_whole-2.new.self other (c.in_ok-found.ensures.same other) (c.in_ok-live.ensures.same other)
+
+pub returns-clause-cut : goal.returns-clause-cut
+returns-clause-cut g c = on_map c.cut_to.result c.cut_to.ensures.cut (λ cuts inode found h.
+    let blob = c.args.blob.now in
+    let old = c.args.old.now in
+    let one = c.blobs.ensures.stays c.args.store.now c.read_whole.new.self inode blob found (c.in_ok-found.ensures.same inode) h in
+    let two = c.blobs.ensures.stays c.read_whole.new.self c.read_whole-2.new.self inode blob found (c.in_ok-live.ensures.same inode) one in
+    let size : c.size-size.result ≡ length found = c.size-size.ensures ∙ h.seen.size in
+    let kept : c.kept_length-length.result ≡ kept_length old.synced (bytes_of old.blob) found =
+    kept_is old.synced c.deref.result.now c.deref-2.result.now found (bytes_of old.blob) c.kept_length-length.result c.kept_length-length.ensures
+    (c.deref.ensures.value ∙ c.in_ok-found.ensures.bytes ∙ c.blobs.ensures.reads blob found h.seen) (c.deref-2.ensures.value ∙ c.in_ok-live.ensures.bytes) (omega (arith, size, c.if-size-old.false)) in
+    subst (λ (n : ℕ). HasDurable c.cut_to.new.store inode c.cut_to.new.blob (take n found)) kept (cuts inode found (omega (arith, size, c.if-length-size.false)) two))
+
+pub returns-clause-others : goal.returns-clause-others
+returns-clause-others g c = on_map c.cut_to.result c.cut_to.ensures.others (λ others inode bytes below h other there apart.
+    let blob = c.args.blob.now in
+    let one = c.blobs.ensures.stays c.args.store.now c.read_whole.new.self inode blob bytes (c.in_ok-found.ensures.same inode) h in
+    let two = c.blobs.ensures.stays c.read_whole.new.self c.read_whole-2.new.self inode blob bytes (c.in_ok-live.ensures.same inode) one in
+    c.blobs.ensures.twice c.args.store.now c.read_whole-2.new.self c.cut_to.new.store other
+    (c.blobs.ensures.twice c.args.store.now c.read_whole.new.self c.read_whole-2.new.self other (c.in_ok-found.ensures.same other) (c.in_ok-live.ensures.same other))
+    (others inode bytes below two.is other there apart))

@@ -1,3 +1,5 @@
+use Rattle.std.proofs.Common.{List, ℕ, subst}
+use Rattle.blob_journal.specs.Blobs.{HasDurable}
 use Rattle.blob_fs.proofs.recovery.cut_to.Goals as goal
 
 pub returns-in_err-resize_file-clause-files : goal.returns-in_err-resize_file-clause-files
@@ -8,3 +10,15 @@ returns-in_err-sync_file-clause-files g c = λ h r. c.sync_file.ensures.files (c
 
 pub returns-clause-files : goal.returns-clause-files
 returns-clause-files g c = λ h r. c.sync_file.ensures.files (c.resize_file.ensures.files h r)
+
+pub returns-clause-cut : goal.returns-clause-cut
+returns-clause-cut g c = λ inode bytes low h.
+    let r = c.in_ok-resize_file.ensures.resized inode bytes h.is in
+    let s = c.in_ok-sync_file.ensures.synced inode bytes _ r.0 (r.1 bytes h.seen) in
+    subst (λ (l : List ℕ). HasDurable c.sync_file.new.self inode c.sync_file.new.file l) (c.blobs.ensures.shortened bytes c.args.length low) s
+
+pub returns-clause-others : goal.returns-clause-others
+returns-clause-others g c = λ inode bytes below is other there apart.
+    let r = c.in_ok-resize_file.ensures.resized inode bytes is in
+    c.blobs.ensures.twice c.args.store.now c.resize_file.new.self c.sync_file.new.self other (c.in_ok-resize_file.ensures.same other)
+    (c.in_ok-sync_file.ensures.others inode bytes below r.0 other there apart)

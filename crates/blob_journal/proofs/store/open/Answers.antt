@@ -6,6 +6,7 @@ use Rattle.blob_faulty.specs.Wrapper.{inner_of, inside}
 use Rattle.blob_model.specs.Files.{after_open}
 use Rattle.blob_journal.proofs.Currents.{named_current, opened_keeps}
 use Rattle.blob_journal.proofs.Standing.{unrecorded}
+use Rattle.blob_journal.proofs.Blobs.{blob_same, opened_incarnation, opened_others}
 use Rattle.blob_journal.proofs.store.open.Goals as goal
 
 pub returns-in_err-blob-clause-kept : goal.returns-in_err-blob-clause-kept
@@ -59,3 +60,12 @@ returns-in_err-blob-clause-next g c = same_next (directory (inner_of c.args.stor
 
 pub returns-clause-next : goal.returns-clause-next
 returns-clause-next g c = opened_next _ _ _ _ _ _ _ _ _ _ _ c.in_ok-blob.ensures.opened
+
+pub returns-in_err-blob-clause-others : goal.returns-in_err-blob-clause-others
+returns-in_err-blob-clause-others g c = λ q m other. blob_same q m c.args.store.now c.open.new.self c.in_err-blob.ensures.err.0 c.in_err-blob.ensures.err.1
+
+pub returns-clause-others : goal.returns-clause-others
+returns-clause-others g c = opened_others c.args.store.now c.open.new.self c.args.partition.now c.args.name.now 0 0 (place (inside c.in_ok-blob.blob)) (live (inside c.in_ok-blob.blob)) 0 c.in_ok-blob.ensures.opened
+
+pub returns-clause-incarnation : goal.returns-clause-incarnation
+returns-clause-incarnation g c = opened_incarnation c.args.store.now c.open.new.self c.args.partition.now c.args.name.now (place (inside c.in_ok-blob.blob)) (live (inside c.in_ok-blob.blob)) c.in_ok-blob.ensures.opened

@@ -11,6 +11,7 @@ use Rattle.blob_model.specs.Directory.{is_current as current_in}
 use Rattle.blob_model.specs.Files.{after_remove}
 use Rattle.blob_journal.proofs.Currents.{removed_keeps}
 use Rattle.blob_journal.proofs.Standing.{unrecorded}
+use Rattle.blob_journal.proofs.Blobs.{blob_same, removed_others}
 use Rattle.blob_journal.proofs.store.remove.Goals as goal
 
 pub returns-in_err-remove-clause-current : goal.returns-in_err-remove-clause-current
@@ -60,3 +61,9 @@ returns-in_err-remove-clause-next g c = same_next (directory (inner_of c.args.st
 
 pub returns-clause-next : goal.returns-clause-next
 returns-clause-next g c = subst (λ (d : Directory). (directory (inner_of c.args.store.now)).next ≤ d.next) (sym c.in_ok-remove.ensures.directory) (omega arith)
+
+pub returns-in_err-remove-clause-others : goal.returns-in_err-remove-clause-others
+returns-in_err-remove-clause-others g c = λ q m other. blob_same q m c.args.store.now c.remove.new.self c.in_err-remove.ensures.err.0 c.in_err-remove.ensures.err.1
+
+pub returns-clause-others : goal.returns-clause-others
+returns-clause-others g c = removed_others c.args.store.now c.remove.new.self c.args.partition.now c.args.name.now c.in_ok-remove.ensures.directory c.in_ok-remove.ensures.durable

@@ -6,6 +6,7 @@ use Rattle.blob_directory.specs.declared.table.Table.{Table}
 use Rattle.blob_directory.specs.Tables.{bound}
 use Rattle.blob_directory.specs.Trees.{Finds}
 use Rattle.blob_fs.specs.Files.{IsRecovered, keeps_of, names_of, table_of}
+use Rattle.std.proofs.Common.{◌∙◌}
 use Rattle.blob_fs.proofs.file_system.FileSystem.crash.Goals as goal
 
 pub returns-clause-found : goal.returns-clause-found
@@ -31,3 +32,8 @@ pub returns-clause-kept : goal.returns-clause-kept
 returns-clause-kept g c =
     let f = c.in_ok-edits.ensures.kept in
     record { chosen = f.chosen; finds = subst (λ (l : List Found). Finds (names_of c.recover.new.self) (names_kept (keeps_of c.args.self.now) f.chosen l)) c.crash.ensures.told f.finds }
+
+pub returns-clause-bytes : goal.returns-clause-bytes
+returns-clause-bytes g c = λ name inode old found below named at is.
+    let b = c.in_ok-edits.ensures.bytes name inode old found below named at (c.in_ok-rows.ensures.bytes inode ∙ is) in
+    record { durable = b.durable; read = b.read; synced = b.synced; size = b.size }

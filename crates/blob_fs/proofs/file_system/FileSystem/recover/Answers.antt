@@ -5,6 +5,14 @@ use Rattle.blob_journal.specs.Journals.{FindsNames}
 use Rattle.blob_journal.specs.Keeping.{FindsTold}
 use Rattle.blob_directory.specs.Trees.{Finds}
 use Rattle.blob_fs.specs.Files.{keeps_of, names_of, table_of}
+use Rattle.std.proofs.Common.{true, ap}
+use Rattle.blob_directory.specs.Trees.{has_link}
+use Rattle.blob_journal.specs.Blobs.{current_file}
+use Rattle.std.proofs.Common.{ℕ, Some}
+use Rattle.std.specs.BTreeMap.{BTreeMap, get}
+use Rattle.std.specs.Ordering.{nat_cmp}
+use Rattle.blob_fs.specs.declared.file_system.File.{File}
+use Rattle.blob_fs.proofs.Recovering.{has_bytes, left_stays}
 use Rattle.blob_fs.proofs.file_system.FileSystem.recover.Goals as goal
 
 pub returns-clause-found : goal.returns-clause-found
@@ -27,3 +35,20 @@ returns-clause-kept g c =
 
 pub returns-clause-told : goal.returns-clause-told
 returns-clause-told g c = c.begin_life.ensures.settled (c.in_ok-directories.ensures.told c.in_ok-tree.ensures.fits)
+
+pub returns-clause-bytes : goal.returns-clause-bytes
+returns-clause-bytes g c = λ name inode old found below named at is.
+    let fs = c.args.self.now in
+    let searched = c.find_names.new.self in
+    let opened = c.reopen_all.new.store in
+    let renewed = c.renew.new.self in
+    let new = c.begin_life.new.self in
+    let tree = c.in_ok-tree.tree in
+    let files = c.in_ok-files.files in
+    let taken : table_of new ≡ tree.names = c.begin_life.ensures.names ∙ c.in_ok-directories.ensures.done in
+    let linked : has_link tree inode ≡ true = c.in_ok-tree.ensures.links name inode (ap (λ (t : Table). bound t name) (sym taken) ∙ named) in
+    let now : current_file searched inode ≡ Some found = c.blobs.ensures.current fs.store searched inode (c.in_ok-tree.ensures.same inode) ∙ is in
+    let l = c.in_ok-files.ensures.left inode old found below at linked now in
+    let same = c.blobs.ensures.twice opened renewed new.store inode (c.in_ok-directories.ensures.same inode) (c.begin_life.ensures.kept inode l.file below l.at) in
+    has_bytes c.blobs.ensures.found c.blobs.ensures.reads new inode found _ l.file (ap (λ (m : BTreeMap ℕ File). get nat_cmp m inode) c.begin_life.ensures.files ∙ l.at)
+    (left_stays c.blobs.ensures.stays opened new.store inode l.file found _ same l.left)

@@ -17,6 +17,7 @@ use Rattle.blob_faulty.specs.Wrapper.{config_of, next_write_of, rng_of}
 use Rattle.blob_journal.specs.Currents.{left_at}
 use Rattle.blob_journal.proofs.Overlays.{over_nothing}
 use Rattle.blob_journal.proofs.Standing.{fixed_by, kept_left}
+use Rattle.std.proofs.lemmas.Bool.{cond-false}
 use Rattle.blob_journal.proofs.journal.Journal.begin.Goals as goal
 
 pub returns-clause-bytes : goal.returns-clause-bytes
@@ -69,3 +70,6 @@ returns-clause-live g c = λ empty. live_begun (live (inside c.args.self.now.blo
     live_begun : (old new : List ℕ) (bytes : List ℕ) → new ≡ live_written true old 0 bytes → old ≡ [] → new ≡ bytes
     live_begun old new [] is empty = is ∙ empty
     live_begun old new (b ∷ bytes) is empty = is ∙ ap (λ (l : List ℕ). write_live l 0 (b ∷ bytes)) empty ∙ live_overlay [] 0 (b ∷ bytes) (omega arith) ∙ over_nothing (b ∷ bytes)
+
+pub returns-clause-only : goal.returns-clause-only
+returns-clause-only g c = λ o other. ap (λ (d : Durable). d o) (c.in_ok-write_from.ensures.synced refl) ∙ cond-false (same_place (place (inside c.args.self.now.blob)) o) _ _ other

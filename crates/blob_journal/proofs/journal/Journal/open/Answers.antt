@@ -6,6 +6,7 @@ use Rattle.blob_model.specs.Directory.{current, is_current}
 use Rattle.blob_memory.specs.Store.{directory, durable, place}
 use Rattle.blob_memory.specs.declared.storage.Storage as memory
 use Rattle.blob_faulty.specs.Wrapper.{inner_of, inside}
+use Rattle.blob_journal.proofs.Blobs.{blob_same, blob_twice, partition_beside}
 use Rattle.blob_journal.proofs.journal.Journal.open.Goals as goal
 
 pub returns-in_err-bytes-clause-kept : goal.returns-in_err-bytes-clause-kept
@@ -46,3 +47,9 @@ returns-in_err-bytes-clause-next g c = subst (λ (s : memory.Storage). (director
 
 pub returns-clause-next : goal.returns-clause-next
 returns-clause-next g c = subst (λ (s : memory.Storage). (directory (inner_of c.args.store.now)).next ≤ (directory s).next) (sym c.read_all.ensures.inner) c.open.ensures.next
+
+pub returns-clause-blobs : goal.returns-clause-blobs
+returns-clause-blobs g c = λ m.
+    let inner = c.read_all.ensures.inner in
+    blob_twice (codes "f") m c.args.store.now c.open.new.store c.read_all.new.store (partition_beside c.args.store.now c.open.new.store c.to_be_bytes.result c.open.ensures.others m)
+    (blob_same (codes "f") m c.open.new.store c.read_all.new.store (ap (λ (s : memory.Storage). directory s) inner) (ap (λ (s : memory.Storage). durable s) inner))

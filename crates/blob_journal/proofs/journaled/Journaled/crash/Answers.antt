@@ -4,7 +4,7 @@ use Rattle.blob_draws.specs.declared.selections.Selections.{Selections}
 use Rattle.blob_memory.specs.Store.{directory}
 use Rattle.blob_faulty.specs.Wrapper.{inner_of}
 use Rattle.blob_journal.proofs.Found.{same_next, still_given, still_kept}
-use Rattle.std.proofs.Common.{List, [], ap, ◌∙◌, ◌≡◌}
+use Rattle.std.proofs.Common.{List, ℕ, [], ap, ◌∙◌, ◌≡◌}
 use Rattle.std.specs.Prelude.{codes}
 use Rattle.std.specs.Int.{w64, to_be_bytes}
 use Rattle.blob_model.specs.Directory.{current}
@@ -17,6 +17,13 @@ use Rattle.blob_journal.proofs.Standing.{fixed_by, nothing_pending}
 use Rattle.blob_model.specs.Directory.{Directory, is_current}
 use Rattle.blob_memory.specs.Store.{place}
 use Rattle.blob_faulty.specs.Wrapper.{inside}
+use Rattle.std.proofs.Common.{Option}
+use Rattle.std.specs.Prelude.{option_and_then}
+use Rattle.blob_model.specs.Stands.{replayed_at}
+use Rattle.blob_memory.specs.Store.{durable}
+use Rattle.blob_faulty.specs.Wrapper.{pending_of}
+use Rattle.blob_journal.specs.Blobs.{file_name}
+use Rattle.blob_journal.proofs.Blobs.{each_current}
 use Rattle.blob_journal.proofs.journaled.Journaled.crash.Goals as goal
 
 pub invariant_of-self : goal.invariant_of-self
@@ -56,3 +63,11 @@ returns-clause-gives g c = λ before.
       };
       gives = before.gives;
     }
+
+pub returns-clause-bytes : goal.returns-clause-bytes
+returns-clause-bytes g c = λ inode.
+    let old = c.args.self.now.store in
+    let new = c.crash.new.self in
+    let left : Place → Option (List ℕ) = λ o. replayed_at (chosen_by (table_of c.in_ok-rows.rows)) (pending_of (λ (a : Place). a) old o) (durable (inner_of old) o) in
+    ap (λ (d : Directory). option_and_then (durable (inner_of new)) (current d (codes "f") (file_name inode))) c.crash.ensures.directory
+    ∙ each_current (durable (inner_of new)) left (current (directory (inner_of old)) (codes "f") (file_name inode)) c.in_ok-rows.ensures.durable

@@ -24,6 +24,8 @@ use Rattle.blob_directory.specs.Profiles.{names_told}
 use Rattle.blob_directory.specs.Tables.{bound}
 use Rattle.blob_journal.specs.Keeping.{names_in}
 use Rattle.blob_journal.proofs.Currents.{current_of_name}
+use Rattle.blob_journal.specs.Blobs.{file_name}
+use Rattle.blob_journal.proofs.Blobs.{blob_same, blob_twice}
 use Rattle.blob_journal.proofs.journaled.Journaled.find_names.Goals as goal
 
 some_same : {T : Type 0} {a b : T} → Some a ≡ Some b → a ≡ b
@@ -112,3 +114,12 @@ returns-clause-kept g c =
     let same : Same (bound c.in_ok-names.names) (names_kept c.args.keeps chosen (told_in self)) =
     λ e. told e ∙ ap (λ l. names_told c.args.keeps l e) c.deref.ensures.value ∙ ap (λ es. all_edited (λ _. None) es e) edits in
     record { chosen = chosen; finds = c.in_ok-tree.ensures.finds (names_kept c.args.keeps chosen (told_in self)) same }
+
+pub returns-clause-same : goal.returns-clause-same
+returns-clause-same g c = λ inode.
+    let self = c.args.self.now in
+    let mid = c.set_config.new.self in
+    let inner : inner_of mid ≡ inner_of self.store = ap (λ (s : OverMemory g.row.R.Denot). inner_of s) c.set_config.ensures.set in
+    blob_twice (codes "f") (file_name inode) self.store mid c.open.new.store
+    (blob_same (codes "f") (file_name inode) self.store mid (ap (λ (s : memory.Storage). directory s) inner) (ap (λ (s : memory.Storage). durable s) inner))
+    (c.in_ok-bytes.ensures.blobs (file_name inode))

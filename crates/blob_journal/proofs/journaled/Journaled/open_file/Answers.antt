@@ -1,6 +1,16 @@
 use Rattle.blob_memory.specs.Store.{place}
 use Rattle.blob_faulty.specs.Wrapper.{inside}
+use Rattle.blob_journal.specs.Currents.{Represents}
 use Rattle.blob_journal.proofs.Found.{still_given, still_kept}
+use Rattle.std.proofs.Common.{◌≡◌, ℕ, List, Some, ap, arith, refl, subst, sym, ◌∙◌}
+use Rattle.std.specs.Prelude.{codes}
+use Rattle.blob_model.specs.Directory.{current}
+use Rattle.blob_memory.specs.Store.{directory, durable, live}
+use Rattle.blob_faulty.specs.Keeps.{OverMemory}
+use Rattle.blob_faulty.specs.Wrapper.{inner_of}
+use Rattle.blob_journal.specs.Blobs.{file_name}
+use Rattle.blob_journal.specs.Incarnations.{IsIncarnation, KeepsOtherBlobs, SameBlob}
+use Rattle.blob_journal.proofs.Blobs.{current_is, file_beside}
 use Rattle.blob_journal.proofs.journaled.Journaled.open_file.Goals as goal
 
 pub invariant_of-self : goal.invariant_of-self
@@ -11,3 +21,36 @@ invariant_of-self g c = record {
   given = still_given c.args.self.now.store c.open.new.store c.args.self.now.opened c.open.ensures.next c.args.self.now.given;
   kept = still_kept c.args.self.now.store c.open.new.store c.args.self.now.journal c.args.self.now.unsettled.items (λ test k. c.open.ensures.left _ test k) c.args.self.now.kept;
 }
+
+pub returns-clause-opened : goal.returns-clause-opened
+returns-clause-opened g c =
+    let before = c.args.self.now.store in
+    let store = c.open.new.store in
+    let o = c.in_ok-blob.ensures in
+    let at = place (inside c.in_ok-blob.blob) in
+    let bytes : List ℕ = live (inside c.in_ok-blob.blob) in
+    let same = sym c.note.ensures.noted.0 in
+    let there : IsIncarnation store (codes "f") (file_name c.args.inode) at = subst (λ (n : List ℕ). IsIncarnation store (codes "f") n at) c.to_be_bytes.ensures o.incarnation in
+    record {
+      bytes = bytes;
+      has = record {
+        is = record {
+          current = subst (λ (s : OverMemory g.row.R.Denot). IsIncarnation s (codes "f") (file_name c.args.inode) at) same there;
+          durable = subst (λ (s : OverMemory g.row.R.Denot). durable (inner_of s) at ≡ Some bytes) same o.durable;
+        };
+        seen = record { live = refl; size = o.tracked };
+      };
+      found = λ x e. current_is before (codes "f") (file_name c.args.inode) bytes x
+          (λ a is. o.found a (ap (λ (n : List ℕ). current (directory (inner_of before)) (codes "f") n) c.to_be_bytes.ensures ∙ is)) e;
+    }
+
+pub returns-clause-others : goal.returns-clause-others
+returns-clause-others g c = λ other below apart.
+    let before = c.args.self.now.store in
+    let store = c.open.new.store in
+    let keeps : KeepsOtherBlobs (codes "f") (file_name c.args.inode) before store = subst (λ (n : List ℕ). KeepsOtherBlobs (codes "f") n before store) c.to_be_bytes.ensures c.open.ensures.others in
+    subst (λ (s : OverMemory g.row.R.Denot). SameBlob (codes "f") (file_name other) before s) (sym c.note.ensures.noted.0)
+    (file_beside before store c.args.inode other (omega arith) below apart keeps)
+
+pub returns-clause-files : goal.returns-clause-files
+returns-clause-files g c = λ r. subst (λ (s : OverMemory g.row.R.Denot). Represents s) (sym c.note.ensures.noted.0) (c.open.ensures.files r)

@@ -4,6 +4,10 @@ use Rattle.blob_memory.specs.Store.{directory, place}
 use Rattle.blob_memory.specs.declared.storage.Storage as memory
 use Rattle.blob_faulty.specs.Wrapper.{inner_of, inside}
 use Rattle.blob_journal.proofs.Found.{same_next, still_given, still_kept}
+use Rattle.std.specs.Prelude.{codes}
+use Rattle.blob_memory.specs.Store.{durable}
+use Rattle.blob_journal.specs.Blobs.{file_name}
+use Rattle.blob_journal.proofs.Blobs.{blob_same, on_ok}
 use Rattle.blob_journal.proofs.journaled.Journaled.read_whole.Goals as goal
 
 pub invariant_of-self : goal.invariant_of-self
@@ -17,3 +21,8 @@ invariant_of-self g c =
       given = still_given self.store new self.opened (same_next (directory (inner_of self.store)) (directory (inner_of new)) (ap (λ (s : memory.Storage). directory s) c.read_all.ensures.inner)) self.given;
       kept = still_kept self.store new self.journal self.unsettled.items (λ test k. c.read_all.ensures.left _ test k) self.kept;
     }
+
+pub returns-clause-same : goal.returns-clause-same
+returns-clause-same g c = on_ok c.read_all.result _ (λ inode.
+    let inner = c.read_all.ensures.inner in
+    blob_same (codes "f") (file_name inode) c.args.self.now.store c.read_all.new.store (ap (λ (s : memory.Storage). directory s) inner) (ap (λ (s : memory.Storage). durable s) inner))

@@ -9,6 +9,10 @@ use Rattle.blob_memory.specs.Store.{directory, place}
 use Rattle.blob_faulty.specs.Wrapper.{inner_of, inside}
 use Rattle.blob_journal.proofs.Currents.{current_named, current_of_name, named_current}
 use Rattle.blob_journal.proofs.Standing.{fixed_same}
+use Rattle.std.proofs.Common.{arith, subst}
+use Rattle.blob_journal.specs.Blobs.{file_name}
+use Rattle.blob_journal.specs.Incarnations.{KeepsOtherBlobs}
+use Rattle.blob_journal.proofs.Blobs.{file_beside}
 use Rattle.blob_journal.proofs.journaled.Journaled.remove_file.Goals as goal
 
 pub returns-clause-gives : goal.returns-clause-gives
@@ -61,3 +65,10 @@ invariant_of-self g c =
       given = still_given self.store new self.opened c.remove.ensures.next self.given;
       kept = still_kept self.store new self.journal self.unsettled.items (λ test k. c.remove.ensures.left at test other k) self.kept;
     }
+
+pub returns-clause-others : goal.returns-clause-others
+returns-clause-others g c = λ other below apart.
+    let before = c.args.self.now.store in
+    let after = c.remove.new.store in
+    let keeps : KeepsOtherBlobs (codes "f") (file_name c.args.inode) before after = subst (λ (n : List ℕ). KeepsOtherBlobs (codes "f") n before after) c.to_be_bytes.ensures c.remove.ensures.others in
+    file_beside before after c.args.inode other (omega arith) below apart keeps

@@ -28,6 +28,8 @@ use Rattle.blob_faulty.specs.Wrapper.{inner_of, inside, pending_of}
 use Rattle.blob_journal.specs.Currents.{IsEmpty, IsFixed, Represents}
 use Rattle.blob_journal.proofs.Currents.{current_of_name, next_apart}
 use Rattle.blob_journal.proofs.Standing.{fixed_same, retired_at}
+use Rattle.blob_journal.specs.Blobs.{file_name}
+use Rattle.blob_journal.proofs.Blobs.{blob_beside, blob_same, blob_twice, journal_apart, partition_beside}
 use Rattle.blob_journal.proofs.journaled.Journaled.renew.Goals as goal
 
 pub invariant_of-self : goal.invariant_of-self
@@ -210,3 +212,19 @@ returns-clause-told g c = λ fits.
           ∙ ap (λ (l : List Found). all_edited (λ _. None) (kept_edits keeps false l) e) (none_lost chosen 0 (found_in_all (length bytes / 1024) bytes) settled)
           ∙ c.in_ok-bytes.ensures.gives fits keeps e;
     }
+
+pub returns-clause-same : goal.returns-clause-same
+returns-clause-same g c = λ inode.
+    let store = c.args.self.now.store in
+    let opened = c.open.new.store in
+    let admitted = c.admit.new.self in
+    let begun = c.begin.new.store in
+    let new = c.remove.new.store in
+    let made : Place = place (inside c.in_ok-journal.journal.blob) in
+    let inner : inner_of admitted ≡ inner_of opened = c.admit.ensures.inner in
+    let p = codes "f" in
+    let n = file_name inode in
+    let begins = blob_beside p n admitted begun made c.begin.ensures.directory (λ o f m. journal_apart made o c.in_ok-journal.ensures.partition f) c.in_ok-begin.ensures.only in
+    let same = blob_same p n opened admitted (ap (λ (s : memory.Storage). directory s) inner) (ap (λ (s : memory.Storage). durable s) inner) in
+    let removes = partition_beside begun new c.to_be_bytes-old_name.result c.remove.ensures.others n in
+    blob_twice p n store opened new (c.in_ok-journal.ensures.blobs n) (blob_twice p n opened admitted new same (blob_twice p n admitted begun new begins removes))

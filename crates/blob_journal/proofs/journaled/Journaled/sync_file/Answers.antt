@@ -15,6 +15,11 @@ use Rattle.blob_model.specs.Places.{Place, same_place}
 use Rattle.blob_model.specs.Stands.{StandsFor}
 use Rattle.blob_memory.specs.Store.{durable, live, place}
 use Rattle.blob_faulty.specs.Wrapper.{inner_of, inside, next_marker_of, next_write_of, pending_of}
+use Rattle.std.specs.Prelude.{option_map}
+use Rattle.std.proofs.lemmas.Bool.{cond-true}
+use Rattle.blob_model.specs.SamePlace.{same_self}
+use Rattle.blob_journal.specs.Blobs.{file_name}
+use Rattle.blob_journal.proofs.Blobs.{blob_beside, file_names_apart, named_apart}
 use Rattle.blob_journal.proofs.journaled.Journaled.sync_file.Goals as goal
 
 pub invariant_of-self : goal.invariant_of-self
@@ -82,3 +87,36 @@ returns-clause-journal g c =
       unsettled = refl;
       told = refl;
     }
+
+pub returns-clause-synced : goal.returns-clause-synced
+returns-clause-synced g c = λ inode bytes seen is s.
+    let w = c.sync.ensures in
+    let old = c.args.self.now.store in
+    let new = c.sync.new.store in
+    let at : Place = place (inside c.args.file.now.blob) in
+    let bytes' : List ℕ = live (inside c.args.file.now.blob) in
+    let was : Option (List ℕ) = durable (inner_of old) at in
+    record {
+      is = record {
+        current = record {
+          number = is.current.number;
+          layout = is.current.layout;
+          file = ap (λ (d : Directory). d.file (codes "f") (file_name inode)) w.directory ∙ is.current.file;
+          is = w.place ∙ is.current.is;
+        };
+        durable = ap (λ (o : Place). durable (inner_of new) o) w.place
+            ∙ ap (λ (d : Durable). d at) c.in_ok-sync.ensures.synced
+            ∙ cond-true (same_place at at) (option_map (λ _. bytes') was) was (same_self at)
+            ∙ ap (option_map (λ _. bytes')) is.durable
+            ∙ ap Some s.live;
+      };
+      seen = record { live = w.live ∙ s.live; size = w.leaves.size ∙ s.size };
+    }
+
+pub returns-clause-others : goal.returns-clause-others
+returns-clause-others g c = λ inode bytes below is other there apart.
+    let at : Place = place (inside c.args.file.now.blob) in
+    blob_beside (codes "f") (file_name other) c.args.self.now.store c.sync.new.store at c.sync.ensures.directory
+    (λ o f n. named_apart (codes "f") (file_name inode) (codes "f") (file_name other) at o (ap (λ (x : Place). x.partition) is.current.is) (ap (λ (x : Place). x.name) is.current.is) f n
+    (file_names_apart inode other below there apart))
+    (λ o beside. ap (λ (d : Durable). d o) c.in_ok-sync.ensures.synced ∙ cond-false (same_place at o) _ _ beside)

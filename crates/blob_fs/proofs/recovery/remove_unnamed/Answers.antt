@@ -1,0 +1,17 @@
+use Rattle.std.proofs.Common.{◌≡◌, false, is_some, ap, sym, rules, ◌∙◌}
+use Rattle.std.proofs.lemmas.Bool.{false≢true}
+use Rattle.std.specs.BTreeMap.{get}
+use Rattle.std.specs.Ordering.{nat_cmp}
+use Rattle.blob_fs.proofs.recovery.remove_unnamed.Goals as goal
+
+pub loop-inode-preserved-then-not-contains_key : goal.loop-inode-preserved-then-not-contains_key
+loop-inode-preserved-then-not-contains_key g c =
+    let no : c.contains_key.result ≡ false = search rules in
+    record {
+      names = c.remove_blob.ensures.names ∙ c.loop-inode.invariant.names;
+      gives = λ h. c.remove_blob.ensures.gives (c.loop-inode.invariant.gives h);
+      kept = λ i f below at. c.blobs.ensures.twice c.args.store.now c.loop-inode.store c.remove_blob.new.store i (c.loop-inode.invariant.kept i f below at)
+          (c.remove_blob.ensures.others i below
+          (λ e. false≢true (sym no ∙ c.contains_key.ensures ∙ ap (λ k. is_some (get nat_cmp c.args.files.now k)) (sym e) ∙ ap is_some at)));
+      told = c.remove_blob.ensures.told ∙ c.loop-inode.invariant.told;
+    }
