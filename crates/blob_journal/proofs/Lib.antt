@@ -12,3 +12,4 @@ pub mod Kept
 pub mod Found
 pub mod Blobs
 pub mod Telling
+pub mod Writes

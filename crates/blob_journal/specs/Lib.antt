@@ -8,3 +8,4 @@ pub mod Keeping
 pub mod Blobs
 pub mod Incarnations
 pub mod Settling
+pub mod Writes

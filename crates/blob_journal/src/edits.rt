@@ -47,6 +47,7 @@ fn settle_marked<R: Rng>(
 
 impl<R: Rng + Drop> Journaled<R> {
     ghost use Rattle.blob_journal.specs.Settling.{KeepsJournal, SettlesEdits, unsettled_of};
+    ghost use Rattle.blob_journal.specs.Writes.{SameCrashes};
     ghost use Rattle.blob_journal.specs.Keeping.{AddsSector, AddsTold, Edits, KeepsTable, KeepsTold, SameBindings, SettlesSome, generator_in, names_in, table_in, told_in, with_generator};
 
     /// Returns no names over a new store, with faults drawn from the generator.
@@ -98,6 +99,7 @@ impl<R: Rng + Drop> Journaled<R> {
     pub fn set_config(&mut self, config: Config)
         ensures names { KeepsTable self.old self.new }
         ensures journal { KeepsJournal self.old self.new }
+        ensures crashes { SameCrashes self.old self.new }
     {
         self.store.set_config(config);
     }

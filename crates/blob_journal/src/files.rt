@@ -8,6 +8,7 @@ use crate::journaled::Journaled;
 use crate::store::{FILES, FileBlob, Handle, Store, open, read_all, remove, reopen};
 use blob_base::{Blob, Durable, Error, WriteOptions};
 use blob_faulty::laws::leaves;
+use blob_faulty::laws::outcomes::recorded;
 use rand_core::Rng;
 
 impl FileBlob {
@@ -32,6 +33,7 @@ impl<R: Rng + Drop> Journaled<R> {
     ghost use Rattle.blob_journal.specs.Journals.{GivesNames, HasFile, KeepsFile, KeepsFilesOf, KeepsGiven, durable_file, store_of};
     ghost use Rattle.blob_journal.specs.Keeping.{KeepsTable, KeepsTold, NotesOpened};
     ghost use Rattle.blob_journal.specs.Settling.{KeepsJournal};
+    ghost use Rattle.blob_journal.specs.Writes.{RecordsWrite};
 
     /// Opens the blob of a file's number. A missing one is created, empty.
     ///
@@ -158,9 +160,11 @@ impl<R: Rng + Drop> Journaled<R> {
     ) -> Result<(), Error>
         ensures names { KeepsTable self.old self.new }
         ensures told { KeepsTold self.old self.new }
+        ensures recorded { OnOk result (RecordsWrite offset bytes.now self.old file.old self.new file.new) }
     {
         self.check(file)?;
         leaves::other_blobs::<blob_memory::Storage, R>();
+        recorded::<blob_memory::Storage, R>();
         let options = WriteOptions::default();
         file.blob
             .write_from(&mut self.store, offset, bytes, options)

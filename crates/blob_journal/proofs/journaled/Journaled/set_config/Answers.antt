@@ -9,6 +9,11 @@ use Rattle.blob_memory.specs.Store.{durable, place}
 use Rattle.blob_faulty.specs.Keeps.{OverMemory}
 use Rattle.blob_faulty.specs.Wrapper.{inner_of, inside}
 use Rattle.blob_journal.specs.Currents.{pending_at}
+use Rattle.std.specs.Prelude.{codes}
+use Rattle.blob_model.specs.Draws.{chosen_by}
+use Rattle.blob_draws.specs.Rows.{table_of}
+use Rattle.blob_journal.specs.Blobs.{file_name}
+use Rattle.blob_journal.proofs.Writes.{crashed_in}
 use Rattle.blob_journal.proofs.journaled.Journaled.set_config.Goals as goal
 
 pub returns-clause-journal : goal.returns-clause-journal
@@ -36,4 +41,21 @@ invariant_of-self g c =
       current = ap (λ (s : memory.Storage). is_current (directory s) (place (inside self.journal.blob))) same ∙ self.current;
       given = still_given self.store new self.opened (same_next (directory (inner_of self.store)) (directory (inner_of new)) (ap (λ (s : memory.Storage). directory s) same)) self.given;
       kept = still_kept self.store new self.journal self.unsettled.items (λ test k. no_more_set self.store new c.args.config set _ test k) self.kept;
+    }
+
+pub returns-clause-crashes : goal.returns-clause-crashes
+returns-clause-crashes g c =
+    let set = c.set_config.ensures.set in
+    record {
+      files = λ r. (r.0, c.set_config.ensures.files r.0 r.1);
+      same = λ inode file bytes is. record {
+        current = record {
+          number = is.current.number;
+          layout = is.current.layout;
+          file = ap (λ (s : OverMemory g.row.R.Denot). (directory (inner_of s)).file (codes "f") (file_name inode)) set ∙ is.current.file;
+          is = is.current.is;
+        };
+        durable = ap (λ (s : OverMemory g.row.R.Denot). durable (inner_of s) (place (inside file.blob))) set ∙ is.durable;
+      };
+      left = λ inode kept. ap (λ (s : OverMemory g.row.R.Denot). crashed_in s (chosen_by (table_of kept)) inode) set;
     }
