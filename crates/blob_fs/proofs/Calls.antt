@@ -34,6 +34,13 @@ pub always : {T E P : Type 0} (r : Result T E) → P → OnErr r P
 always (Ok x) p = tt
 always (Err e) p = p
 
+pub always_ok : {T E P : Type 0} (r : Result T E) → P → OnOk r P
+always_ok (Ok x) p = p
+always_ok (Err e) p = tt
+
+pub was_ok : {T E P S : Type 0} (r : Result T E) (x : T) → r ≡ Ok x → OnOk r P → (P → S) → S
+was_ok {T} {E} {P} {S} r x is p f = f (subst (λ (q : Result T E). OnOk q P) is p)
+
 pub makes_if : {R T E : Type 0} (r : Result T E) (ok : Bool) → ok ≡ is_ok r → (edit : Edit) (fs fs' : FileSystem R)
     → OnOk r (MakesEdit edit fs fs') → OnErr r (SameNames fs fs') → OnOk r (AddsTold edit fs fs') → OnErr r (KeepsTold fs fs') → MakesIf ok edit fs fs'
 makes_if r ok is edit fs fs' made refused told untold =
@@ -89,7 +96,7 @@ grows_does (Open i) ok fs fs' m = grows_leaves fs fs' m
 grows_does (OpenTruncated i) ok fs fs' m = grows_leaves fs fs' m
 grows_does (Close f) ok fs fs' m = grows_leaves fs fs' m
 grows_does (Read f offset len) ok fs fs' m = grows_leaves fs fs' m
-grows_does (Write f offset bytes) ok fs fs' m = grows_leaves fs fs' m
+grows_does (Write f offset bytes) ok fs fs' m = grows_leaves fs fs' m.0
 grows_does (Truncate f length) ok fs fs' m = grows_leaves fs fs' m
 grows_does (Sync f) ok fs fs' m = m.0.1.grows
 grows_does (SyncData f) ok fs fs' m = m.0.1.grows

@@ -10,7 +10,10 @@ use Rattle.blob_fs.specs.declared.run.Call.{Call}
 use Rattle.blob_fs.specs.declared.run.Call.TheVariants.{Create, MakeDirectory, Link, Unlink, RemoveDirectory, Open, OpenTruncated, Close, Read, Write, Truncate, Sync, SyncData, SyncDirectory, SyncAll, Settle}
 use Rattle.blob_fs.specs.declared.run.Call.TheVariants as call
 use Rattle.blob_fs.specs.declared.switches.Syncs.TheVariants.{Honest}
+use Rattle.blob_fs.specs.declared.switches.FailedWrite.TheVariants.{ByMode}
+use Rattle.blob_fs.specs.declared.file_system.Descriptor.{Descriptor}
 use Rattle.blob_fs.specs.Bytes.{FindsBytes}
+use Rattle.blob_fs.specs.Writes.{RecordsWrite, failed_write_of}
 use Rattle.blob_fs.specs.Files.{AddsTold, FindsKept, FindsTold, GrowsTold, KeepsNames, KeepsTold, MakesEdit, SameNames, SettlesSome, SyncsAll, SyncsDirectory, SyncsFile, fresh_inode, names_of, syncs_of}
 
 -- one more edit is recorded, which nothing has settled, and the names have it
@@ -64,6 +67,10 @@ MaySettle fs fs' = KeepsNames fs fs' × SettlesSome fs fs'
 abbrev pub SyncsIf : {R : Type 0} → Bool → Type 0 → FileSystem R → FileSystem R → Type 0
 SyncsIf ok exactly fs fs' = MaySettle fs fs' × ByResult ok (syncs_of fs ≡ Honest → exactly) (Unit {0})
 
+-- a write that returned Ok, unless failed writes draw a prefix, is recorded
+abbrev pub WritesIf : {R : Type 0} → Bool → Descriptor → ℕ → List ℕ → FileSystem R → FileSystem R → Type 0
+WritesIf ok f offset bytes fs fs' = Leaves fs fs' × ByResult ok (failed_write_of fs ≡ ByMode → RecordsWrite f offset bytes fs fs') (Unit {0})
+
 -- what a call does, by whether it returned Ok
 abbrev pub Does : {R : Type 0} → Call → Bool → FileSystem R → FileSystem R → Type 0
 Does (Create d name) ok fs fs' = MakesIf ok (binds d name.items (file (fresh_inode fs))) fs fs'
@@ -77,7 +84,7 @@ Does (Open i) ok fs fs' = Leaves fs fs'
 Does (OpenTruncated i) ok fs fs' = Leaves fs fs'
 Does (Close f) ok fs fs' = Leaves fs fs'
 Does (Read f offset len) ok fs fs' = Leaves fs fs'
-Does (Write f offset bytes) ok fs fs' = Leaves fs fs'
+Does (Write f offset bytes) ok fs fs' = WritesIf ok f offset bytes.items fs fs'
 Does (Truncate f length) ok fs fs' = Leaves fs fs'
 Does (Sync f) ok fs fs' = SyncsIf ok (SyncsFile fs f fs') fs fs'
 Does (SyncData f) ok fs fs' = SyncsIf ok (SyncsFile fs f fs') fs fs'

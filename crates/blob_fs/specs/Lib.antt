@@ -6,3 +6,4 @@ pub use Rattle.blob_directory.specs.Sectors
 pub use Rattle.blob_directory.specs.Tables
 pub mod Calls
 pub mod Paths
+pub mod Writes

@@ -50,7 +50,9 @@ impl File {
     }
 
     /// Reserves capacity for what a call shows up to a position.
-    pub(crate) fn reserve_shown(&mut self, end: u64) -> Result<(), AllocError> {
+    pub(crate) fn reserve_shown(&mut self, end: u64) -> Result<(), AllocError>
+        ensures { self.new.blob ≡ self.old.blob }
+    {
         if let Some(shown) = &mut self.shown {
             let more = end.saturating_sub(shown.len() as u64);
             shown.reserve(more as usize)?;

@@ -1,6 +1,7 @@
 //! A file system over the fault wrapper.
 ghost use Rattle.std.specs.Prelude.{◌≡◌, [], None, Some, OnOk, OnErr, IfOk, option_copied};
-ghost use Rattle.blob_fs.specs.Files.{AddsTold, KeepsJournal, KeepsNames, KeepsTold, MakesEdit, SameFiles, SameNames, file_of, names_of, told_of};
+ghost use Rattle.blob_fs.specs.Files.{AddsTold, KeepsJournal, KeepsNames, KeepsTold, MakesEdit, SameFiles, SameNames, file_of, journaled_of, names_of, told_of};
+ghost use Rattle.blob_journal.specs.Writes.{SameCrashes};
 ghost use Rattle.blob_directory.specs.Names.{Same, edit_of, entry};
 
 use crate::error::FsError;
@@ -150,6 +151,7 @@ impl<R: Rng + Drop> FileSystem<R> {
         ensures names { KeepsNames self.old self.new }
         ensures told { KeepsTold self.old self.new }
         ensures journal { OnOk result (KeepsJournal self.old self.new) }
+        ensures crashes { OnOk result (SameCrashes (journaled_of self.old) (journaled_of self.new)) }
         ensures files { SameFiles self.old self.new }
     {
         if self.is_down {

@@ -1,5 +1,7 @@
 //! Open files: their bytes and sizes.
-ghost use Rattle.std.specs.Prelude.{◌≡◌, false, IfOk, None, Some};
+ghost use Rattle.std.specs.Prelude.{◌≡◌, false, IfOk, None, Some, OnOk};
+ghost use Rattle.blob_fs.specs.declared.switches.FailedWrite.TheVariants.{ByMode};
+ghost use Rattle.blob_fs.specs.Writes.{RecordsWrite, failed_write_of};
 ghost use Rattle.blob_fs.specs.Files.{KeepsNames, KeepsTold, inode_opened, journaled_of};
 
 use crate::error::FsError;
@@ -30,6 +32,18 @@ impl File {
             shown: None,
             is_gone: false,
         }
+    }
+
+    /// Shows a write if it returned Ok. If the size has grown, it did so before this edit. Returns the size. There is capacity for it.
+    fn end_write(&mut self, is_ok: bool, offset: u64, bytes: &[u8], before: u64, edit: u64) -> u64 {
+        if is_ok {
+            self.show_write(offset, bytes);
+        }
+        let now = self.size();
+        if now > before {
+            self.grown = edit;
+        }
+        now
     }
 
     /// Returns the size that calls see.
@@ -221,6 +235,7 @@ impl<R: Rng + Drop> FileSystem<R> {
     pub fn write(&mut self, file: Descriptor, offset: u64, bytes: &[u8]) -> Result<(), FsError>
         ensures names { KeepsNames self.old self.new }
         ensures told { KeepsTold self.old self.new }
+        ensures recorded { OnOk result (failed_write_of self.old ≡ ByMode → RecordsWrite file offset bytes.now self.old self.new) }
     {
         self.begin_call()?;
         let inode = self.inode_of(file)?;
@@ -242,15 +257,12 @@ impl<R: Rng + Drop> FileSystem<R> {
             offset,
             bytes,
         );
-        if written.is_ok() {
-            found.show_write(offset, bytes);
-        }
-        let now = found.size();
-        if now > size {
-            found.grown = grown;
-        }
+        let now = found.end_write(written.is_ok(), offset, bytes, size, grown);
         self.count(size, now);
-        Ok(written?)
+        match written {
+            Ok(()) => Ok(()),
+            Err(error) => Err(error.into()),
+        }
     }
 
     /// Truncates a file to a length, or extends it by zeros, unsynced.

@@ -1,5 +1,8 @@
 //! Writes of a blob, by which bytes of a failed one are written.
+ghost use Rattle.std.specs.Prelude.{◌≡◌, OnOk};
+ghost use Rattle.blob_fs.specs.declared.switches.FailedWrite.TheVariants.{ByMode};
 ghost use Rattle.blob_journal.specs.Keeping.{KeepsTable, KeepsTold};
+ghost use Rattle.blob_journal.specs.Writes.{RecordsWrite};
 
 use crate::file_system::copy_of;
 use crate::switches::FailedWrite;
@@ -16,8 +19,7 @@ fn with_writes(faults: &Config, failure_rate: Probability, writes: WriteConfig) 
     })
 }
 
-/// Writes bytes, unsynced. With `Prefix` an empty write draws whether the write fails. If it does, a prefix of the bytes is written,
-/// as by a failed write in the mode `Prefix`.
+/// Writes bytes, unsynced.
 pub(crate) fn write_blob<R: Rng + Drop>(
     blob: &mut FileBlob,
     store: &mut Journaled<R>,
@@ -28,8 +30,27 @@ pub(crate) fn write_blob<R: Rng + Drop>(
 ) -> Result<(), Error>
     ensures names { KeepsTable store.old store.new }
     ensures told { KeepsTold store.old store.new }
+    ensures recorded { OnOk result (how ≡ ByMode → RecordsWrite offset bytes.now store.old blob.old store.new blob.new) }
 {
-    let (FailedWrite::Prefix, Some(writes)) = (how, faults.write_rate) else {
+    match how {
+        FailedWrite::ByMode => store.write_file(blob, offset, bytes),
+        FailedWrite::Prefix => write_by_prefix(blob, store, faults, offset, bytes),
+    }
+}
+
+/// Writes bytes, unsynced. An empty write draws whether the write fails. If it does, a prefix of the bytes is written, as by a
+/// failed write in the mode `Prefix`.
+fn write_by_prefix<R: Rng + Drop>(
+    blob: &mut FileBlob,
+    store: &mut Journaled<R>,
+    faults: &Config,
+    offset: u64,
+    bytes: &[u8],
+) -> Result<(), Error>
+    ensures names { KeepsTable store.old store.new }
+    ensures told { KeepsTold store.old store.new }
+{
+    let Some(writes) = faults.write_rate else {
         return store.write_file(blob, offset, bytes);
     };
     let draws = WriteConfig {

@@ -4,6 +4,8 @@ use Rattle.blob_fs.specs.declared.file_system.FileSystem.{FileSystem}
 use Rattle.blob_fs.specs.declared.run.Call.{Call}
 use Rattle.blob_fs.specs.Calls.{Does, Leaves, MakesIf, RenamesAt}
 use Rattle.blob_fs.specs.Files.{SyncsAll, SyncsDirectory, SyncsFile, fresh_inode}
+use Rattle.blob_fs.specs.declared.switches.FailedWrite.TheVariants.{ByMode}
+use Rattle.blob_fs.specs.Writes.{RecordsWrite, failed_write_of}
 use Rattle.blob_fs.proofs.Calls.{always, by_result, leaves, makes_if, makes_numbered, on_err, on_ok, syncs_if}
 use Rattle.blob_fs.proofs.file_system.FileSystem.call.Goals as goal
 
@@ -95,8 +97,12 @@ returns-in-Write g c =
     let fs : FileSystem g.row.R.Denot = c.args.self.now in
     let fs' : FileSystem g.row.R.Denot = c.write.new.self in
     let r = c.write.ensures in
-    subst (λ (call : Call). Does call c.is_ok-in-Write.result fs fs') (sym c.in-Write.is)
-    (leaves fs fs' r.names r.told)
+    subst (λ (call : Call). Does call c.is_ok-in-Write.result fs fs') (sym c.in-Write.is) (
+      leaves fs fs' r.names r.told,
+      by_result (failed_write_of fs ≡ ByMode → RecordsWrite c.in-Write.file c.in-Write.offset c.in-Write.bytes.items fs fs') (Unit {0}) c.write.result c.is_ok-in-Write.result c.is_ok-in-Write.ensures.value
+          (on_ok c.write.result r.recorded r.recorded (λ x _. subst (λ (l : List ℕ). failed_write_of fs ≡ ByMode → RecordsWrite c.in-Write.file c.in-Write.offset l fs fs') c.deref-in-Write.ensures.value x))
+          (always c.write.result tt),
+    )
 
 pub returns-in-Truncate : goal.returns-in-Truncate
 returns-in-Truncate g c =
