@@ -37,3 +37,6 @@ pub returns-clause-bytes : goal.returns-clause-bytes
 returns-clause-bytes g c = λ name inode old found below named at is.
     let b = c.in_ok-edits.ensures.bytes name inode old found below named at (c.in_ok-rows.ensures.bytes inode ∙ is) in
     record { durable = b.durable; read = b.read; synced = b.synced; size = b.size }
+
+pub returns-clause-orphans : goal.returns-clause-orphans
+returns-clause-orphans g c = λ inode none. c.in_ok-edits.ensures.orphans inode none
