@@ -1,3 +1,4 @@
 pub mod Growing
 pub mod Cutting
 pub mod Recovering
+pub mod Synced
