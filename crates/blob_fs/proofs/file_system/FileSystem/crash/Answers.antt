@@ -5,7 +5,7 @@ use Rattle.std.proofs.Common.{sym, subst}
 use Rattle.blob_directory.specs.declared.table.Table.{Table}
 use Rattle.blob_directory.specs.Tables.{bound}
 use Rattle.blob_directory.specs.Trees.{Finds}
-use Rattle.blob_fs.specs.Files.{IsRecovered, keeps_of, names_of, table_of}
+use Rattle.blob_fs.specs.Files.{keeps_of, names_of}
 use Rattle.std.proofs.Common.{◌∙◌}
 use Rattle.blob_fs.proofs.file_system.FileSystem.crash.Goals as goal
 
