@@ -40,6 +40,10 @@ has_link tree i = is_some (get nat_cmp tree.links i)
 abbrev pub HasLinks : Tree → Type 0
 HasLinks tree = (e : List ℕ) (i : ℕ) → bound tree.names e ≡ Some (file i) → has_link tree i ≡ true
 
+-- each file that is counted has a name
+abbrev pub HasNamedLinks : Tree → Type 0
+HasNamedLinks tree = (i : ℕ) → has_link tree i ≡ true → (e : List ℕ) × (bound tree.names e ≡ Some (file i))
+
 -- each name is in a directory that the tree has
 abbrev pub HasPlaces : Tree → Type 0
 HasPlaces tree = (e : List ℕ) (to : Binding) → bound tree.names e ≡ Some to → (d : ℕ) × (name : List ℕ) × (e ≡ entry d name) × (has_directory tree d ≡ true)

@@ -1,11 +1,11 @@
 //! The names that a crash leaves, from the sectors of a journal.
-ghost use Rattle.std.specs.Prelude.{◌≡◌, ◌&&◌, ◌||◌, ℕ, nat_eq, not, None, IfOk, OnOk};
+ghost use Rattle.std.specs.Prelude.{◌≡◌, ◌&&◌, ◌||◌, ℕ, false, nat_eq, not, None, IfOk, OnOk};
 ghost use Rattle.blob_directory.specs.Checkpoints.{FitSectors};
 ghost use Rattle.blob_directory.specs.Names.{Names, Same, entry};
 ghost use Rattle.blob_directory.specs.Profiles.{counts, is_prefix, names_told, with_found};
 ghost use Rattle.blob_directory.specs.Sectors.{found_in};
 ghost use Rattle.blob_directory.specs.Tables.{bound};
-ghost use Rattle.blob_directory.specs.Trees.{Finds, HasLinks, HasPlaces, added, has_directory, has_then, is_directory, links_then, has_link};
+ghost use Rattle.blob_directory.specs.Trees.{Finds, HasLinks, HasNamedLinks, HasPlaces, added, has_directory, has_then, is_directory, links_then, has_link};
 
 use crate::edit::{Binding, Kind};
 use crate::profile::Keeps;
@@ -32,6 +32,7 @@ impl Tree {
     pub fn new(alloc: Global) -> Result<Tree, AllocError>
         ensures names { IfOk result (λ tree. Same (bound tree.names) (λ _. None)) }
         ensures directories { IfOk result (λ tree. (d : ℕ) → has_directory tree d ≡ nat_eq 1 d) }
+        ensures links { IfOk result (λ tree. (i : ℕ) → has_link tree i ≡ false) }
     {
         let mut directories = BTreeMap::new(alloc);
         directories.insert(ROOT, ROOT)?;
@@ -122,6 +123,7 @@ pub fn reached(alloc: Global, names: &Table) -> Result<Tree, AllocError>
     ensures finds { IfOk result (λ tree. (told : Names) → Same (bound names.now) told → Finds (bound tree.names) told) }
     ensures places { IfOk result HasPlaces }
     ensures links { IfOk result HasLinks }
+    ensures named { IfOk result HasNamedLinks }
 {
     let mut tree = Tree::new(alloc)?;
     let mut next = Vec::new(alloc);

@@ -5,3 +5,4 @@ pub mod Recovering
 pub mod Renaming
 pub mod Settling
 pub mod Walking
+pub mod Synced

@@ -1,8 +1,8 @@
 -- The files that a recovery opens again, one after another.
 use Rattle.std.proofs.Common.{◌≡◌, ◌≢◌, ◌<◌, ◌⊎◌, ◌^◌, ℕ, Bool, true, false, List, [], ◌∷◌, cond, inl, inr, ⊎_elim, Option, None, Some, Vec, if◌then◌else◌, refl, sym, ap, ap₂, subst, ◌∙◌}
 use Rattle.std.specs.Global.{Global}
-use Rattle.std.specs.Prelude.{option_and_then, option_map, unwrap_or}
-use Rattle.std.specs.BTreeMap.{BTreeMap, get, is_at}
+use Rattle.std.specs.Prelude.{is_some, option_and_then, option_map, unwrap_or}
+use Rattle.std.specs.BTreeMap.{BTreeMap, Updates, get, is_at}
 use Rattle.std.specs.Cmp.{Equal-is, nat_cmp_is}
 use Rattle.std.specs.List.{AllByRecursion}
 use Rattle.std.specs.List.Sorted.{IsStrictlySortedBy}
@@ -12,13 +12,15 @@ use Rattle.std.specs.declared.cmp.Ordering.TheVariants.{Equal, Less}
 use Rattle.std.proofs.lemmas.Bool.{cases_Bool, cond-false, cond-true, false≢true}
 use Rattle.std.proofs.lemmas.Map.Lookups.{exact_unsigned}
 use Rattle.blob_directory.specs.declared.tree.Tree.{Tree}
-use Rattle.blob_directory.specs.Trees.{has_link}
+use Rattle.blob_directory.specs.Names.{file}
+use Rattle.blob_directory.specs.Tables.{bound}
+use Rattle.blob_directory.specs.Trees.{HasNamedLinks, has_link}
 use Rattle.blob_journal.specs.declared.journaled.Journaled.{Journaled}
 use Rattle.blob_journal.specs.Blobs.{CurrentStays, DurableIsFound, DurableStays, ReadsSeen, SameFile, SameFilesBut, SameTwice, bytes_of, current_file}
 use Rattle.blob_fs.specs.declared.file_system.File.{File}
 use Rattle.blob_fs.specs.declared.file_system.FileSystem.{FileSystem}
-use Rattle.blob_fs.specs.Files.{file_of, journaled_of, shown}
-use Rattle.blob_fs.specs.Bytes.{HasBytes, IsLeft, LeftIn, Reopens, ReopensAll, bytes_read, cut_bytes}
+use Rattle.blob_fs.specs.Files.{file_of, journaled_of, names_of, shown}
+use Rattle.blob_fs.specs.Bytes.{HasBytes, HasNoOrphan, HasOnlyLinked, IsLeft, LeftIn, Reopens, ReopensAll, bytes_read, cut_bytes}
 
 -- Keys of a map.
 
@@ -131,7 +133,25 @@ module _ {R : Type 0} (j : Journaled R) (old : BTreeMap ℕ File) (tree : Tree) 
         (stands i f below at))
         (cases_Bool (is_eq (nat_cmp i k)))
 
+-- one more file of a map, which the tree counts
+pub only_more : (tree : Tree) (before after : BTreeMap ℕ File) (k : ℕ) (new : File) → Updates nat_cmp before after k (Some new) → has_link tree k ≡ true → HasOnlyLinked tree before → HasOnlyLinked tree after
+only_more tree before after k new u linked h i there = ⊎_elim
+    (λ y. subst (λ x. has_link tree x ≡ true) (key_is k i y) linked)
+    (λ n. h i (ap is_some (sym (u.2 i n)) ∙ there))
+    (cases_Bool (is_at (nat_cmp k) i))
+
 -- The files after the recovery.
+
+none_shown : (o : Option File) → is_some o ≡ false → option_and_then shown o ≡ None
+none_shown None e = refl
+none_shown (Some x) e = absurd (false≢true (sym e))
+
+-- a file that the tree doesn't count is gone
+pub no_orphan : {R : Type 0} (fs : FileSystem R) (tree : Tree) → ((name : List ℕ) → names_of fs name ≡ bound tree.names name) → HasNamedLinks tree → HasOnlyLinked tree fs.files → HasNoOrphan fs
+no_orphan fs tree same named only inode none = ⊎_elim
+    (λ y. let e = named inode (only inode y) in absurd (none e.0 (same e.0 ∙ e.1)))
+    (λ n. none_shown (get nat_cmp fs.files inode) n)
+    (cases_Bool (is_some (get nat_cmp fs.files inode)))
 
 there_is : (file : File) → file.is_gone ≡ false → shown file ≡ Some file
 there_is file e = ap (λ (b : Bool). if b then None else Some file) e

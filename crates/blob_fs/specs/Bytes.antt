@@ -1,5 +1,5 @@
 -- The bytes of files after a crash.
-use Rattle.std.specs.Prelude.{◌≡◌, ◌+◌, ◌<◌, ◌≤◌, ◌^◌, ◌==◌, ℕ, suc, Bool, true, false, List, [], ◌∷◌, length, take, drop, Option, None, Some, if◌then◌else◌, option_map}
+use Rattle.std.specs.Prelude.{◌≡◌, ◌≢◌, ◌+◌, ◌<◌, ◌≤◌, ◌^◌, ◌==◌, ℕ, suc, Bool, true, false, List, [], ◌∷◌, length, take, drop, Option, None, Some, if◌then◌else◌, is_some, option_map}
 use Rattle.std.specs.BTreeMap.{BTreeMap, get}
 use Rattle.std.specs.Ordering.{nat_cmp}
 use Rattle.blob_draws.specs.declared.selections.Selections.{Selections}
@@ -60,6 +60,10 @@ FindsBytes fs kept fs' = (name : List ℕ) (inode : ℕ) (old : File) (found : L
     → names_of fs' name ≡ Some (file inode) → file_in fs inode ≡ Some old → crashed_file fs kept inode ≡ Some found
     → HasBytes fs' inode found (bytes_left fs old found)
 
+-- there is no file that no name reaches
+abbrev pub HasNoOrphan : {R : Type 0} → FileSystem R → Type 0
+HasNoOrphan fs = (inode : ℕ) → ((name : List ℕ) → names_of fs name ≢ Some (file inode)) → file_of fs inode ≡ None
+
 -- The recovery.
 
 -- each file that a name reaches has the durable bytes of before, cut as the profile says
@@ -111,6 +115,10 @@ abbrev pub ReopensAll : {R : Type 0} → Journaled R → BTreeMap ℕ File → T
 ReopensAll {R} j old tree cuts j' files = (inode : ℕ) (file : File) (found : List ℕ) → inode < 2 ^ 64
     → get nat_cmp old inode ≡ Some file → has_link tree inode ≡ true → current_file j inode ≡ Some found
     → LeftIn j' files inode found (cut_bytes cuts file.synced (bytes_of file.blob) found)
+
+-- it counts each file of a map
+abbrev pub HasOnlyLinked : Tree → BTreeMap ℕ File → Type 0
+HasOnlyLinked tree files = (inode : ℕ) → is_some (get nat_cmp files inode) ≡ true → has_link tree inode ≡ true
 
 -- the blobs of these files are the same
 abbrev pub KeepsBlobsOf : {R : Type 0} → BTreeMap ℕ File → Journaled R → Journaled R → Type 0

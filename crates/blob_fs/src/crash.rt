@@ -1,6 +1,6 @@
 //! The crash, and the recovery after it.
 ghost use Rattle.std.specs.Prelude.{IfOk, OnErr, OnOk};
-ghost use Rattle.blob_fs.specs.Bytes.{FindsBytes};
+ghost use Rattle.blob_fs.specs.Bytes.{FindsBytes, HasNoOrphan};
 ghost use Rattle.blob_fs.specs.Files.{FindsKept, FindsTold, GivesNames, GivesTold, IsRecovered, KeepsNames, KeepsTold, SameNames};
 
 use crate::error::FsError;
@@ -49,6 +49,7 @@ impl<R: Rng + Drop> FileSystem<R> {
         ensures told { OnOk result (GivesTold self.new) }
         ensures untold { OnErr result (KeepsTold self.old self.new) }
         ensures bytes { IfOk result (λ crash. FindsBytes self.old crash.rows self.new) }
+        ensures orphans { OnOk result (HasNoOrphan self.new) }
     {
         found();
         let pending = self.pending_places()?;

@@ -8,6 +8,7 @@ pub mod error;
 pub mod file_system;
 pub mod files;
 pub mod inspection;
+pub mod laws;
 pub mod names;
 pub mod path;
 pub mod paths;

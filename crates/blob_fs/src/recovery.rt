@@ -2,7 +2,7 @@
 ghost use Rattle.std.specs.Prelude.{◌≡◌, Some, IfOk, OnOk, OnErr, length, min};
 ghost use Rattle.std.specs.BTreeMap.{Updates};
 ghost use Rattle.std.specs.Ordering.{nat_cmp};
-ghost use Rattle.blob_fs.specs.Bytes.{ChangesOnly, CutsFile, CutsTo, KeepsBlobsOf, OpensLeft, RecoversBytes, Reopens, ReopensAll, kept_length as length_kept};
+ghost use Rattle.blob_fs.specs.Bytes.{ChangesOnly, CutsFile, CutsTo, HasNoOrphan, HasOnlyLinked, KeepsBlobsOf, OpensLeft, RecoversBytes, Reopens, ReopensAll, kept_length as length_kept};
 ghost use Rattle.blob_fs.specs.Files.{FindsAgain, FindsNames, FindsTold, GivesNames, GivesTold, KeepsNames, KeepsTold, RepresentsFiles, journaled_of};
 ghost use Rattle.blob_journal.specs.Blobs.{ChangesFile, SameFilesBut};
 ghost use Rattle.blob_journal.specs.Currents.{KeepsFiles};
@@ -149,6 +149,7 @@ fn reopen_all<R: Rng + Drop>(
     ensures told { keeps_told store.old store.new }
     ensures files { KeepsFiles (store_of store.old) (store_of store.new) }
     ensures left { IfOk result (λ files. ReopensAll store.old old.now tree.now cuts store.new files) }
+    ensures linked { IfOk result (HasOnlyLinked tree.now) }
 {
     blobs::<R>();
     let mut files = BTreeMap::new(alloc);
@@ -201,6 +202,7 @@ impl<R: Rng + Drop> FileSystem<R> {
         ensures told { OnOk result (GivesTold self.new) }
         ensures untold { OnErr result (KeepsTold self.old self.new) }
         ensures bytes { OnOk result (RecoversBytes self.old self.new) }
+        ensures orphans { OnOk result (HasNoOrphan self.new) }
     {
         blobs::<R>();
         let (tree, edits) = self.store.find_names(self.options.profile.keeps)?;

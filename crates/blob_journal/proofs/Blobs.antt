@@ -19,7 +19,10 @@ use Rattle.blob_model.specs.Directory.{Directory, File, Incarnation, Raw, curren
 use Rattle.blob_model.specs.Durable.{Durable, durable_without, is_under, with_at, with_changed}
 use Rattle.blob_model.specs.Files.{raw_again}
 use Rattle.blob_model.specs.Opening.{Begins, Begun, Continued, Continues, Declines, IsOpened, Opening, opening, opening_raw, place_of}
+use Rattle.blob_model.specs.Log.{Choices}
+use Rattle.blob_model.specs.Pending.{Pending}
 use Rattle.blob_model.specs.Places.{Place, same_place}
+use Rattle.blob_model.specs.Stands.{replayed_at}
 use Rattle.blob_model.proofs.Bytes.{at_resized, length-resized}
 use Rattle.blob_memory.specs.Listing.{logical_blob_of, logical_found, raw_only}
 use Rattle.blob_memory.specs.Store.{directory, durable, live, place}
@@ -216,3 +219,11 @@ by_ok (Err e) a b f = tt
 -- the blob of a journal isn't that of a file
 pub journal_apart : (a o : Place) → a.partition ≡ codes "j" → o.partition ≡ codes "f" → same_place a o ≡ false
 journal_apart a o j f = ap₂ (λ (p q : List ℕ). bytes_eq p q && (bytes_eq a.name o.name && (a.number == o.number && a.start == o.start))) j f
+
+-- what a crash leaves of a blob of which nothing is pending
+pub crashed_is : (d : Directory) (b : Durable) (lists : Place → List Pending) (t : Choices) (p n : List ℕ) (number : ℕ) (layout : Layout) (bytes : List ℕ)
+    → d.file p n ≡ Some (Incarnation number layout 0) → b (place_of p n number layout) ≡ Some bytes → lists (place_of p n number layout) ≡ []
+    → option_and_then (λ o. replayed_at t (lists o) (b o)) (current d p n) ≡ Some bytes
+crashed_is d b lists t p n number layout bytes named there none =
+    ap (λ (f : Option File). option_and_then (λ o. replayed_at t (lists o) (b o)) (place_in p n f)) named
+    ∙ ap₂ (λ (q : List Pending) (x : Option (List ℕ)). replayed_at t q x) none there

@@ -77,6 +77,11 @@ ResizesFile {R} length j file j' file' = (inode : ℕ) (bytes : List ℕ) → Is
 abbrev pub SyncsFile : {R : Type 0} → Journaled R → FileBlob → Journaled R → FileBlob → Type 0
 SyncsFile {R} j file j' file' = (inode : ℕ) (bytes seen : List ℕ) → IsFileOf j inode file bytes → Sees file seen → HasDurable j' inode file' seen
 
+-- and every crash of the store leaves it
+abbrev pub FixesFile : {R : Type 0} → Journaled R → FileBlob → Journaled R → Type 0
+FixesFile {R} j file j' = (inode : ℕ) (bytes seen : List ℕ) → IsFileOf j inode file bytes → Sees file seen
+    → (kept : Selections) → crashed_file j' kept inode ≡ Some seen
+
 -- if it is this number's file, each other one is the same
 abbrev pub ChangesFile : {R : Type 0} → Journaled R → FileBlob → Journaled R → Type 0
 ChangesFile {R} j file j' = (inode : ℕ) (bytes : List ℕ) → inode < 2 ^ 64 → IsFileOf j inode file bytes → SameFilesBut inode j j'

@@ -25,7 +25,7 @@ impl<R: Rng + Drop> Journaled<R> {
         ensures gives { OnOk result (GivesNames self.old → GivesNames self.new) }
         ensures names { KeepsTable self.old self.new }
         ensures told { KeepsTold self.old self.new }
-        ensures bytes { IfOk result (λ rows. (inode : ℕ) → current_file self.new inode ≡ crashed_file self.old rows inode) }
+        ensures bytes { IfOk result (λ rows. (i : ℕ) → current_file self.new i ≡ crashed_file self.old rows i) }
     {
         leaves::crashed::<R>();
         leaves::same_bytes::<blob_memory::Storage, R>();

@@ -28,7 +28,7 @@ fn number_of<R: Rng>(blob: &Handle) -> u64
 }
 
 impl<R: Rng + Drop> Journaled<R> {
-    ghost use Rattle.blob_journal.specs.Blobs.{ChangesFile, OpensFile, ResizesFile, SameFiles, SameFilesBut, SyncsFile, bytes_of};
+    ghost use Rattle.blob_journal.specs.Blobs.{ChangesFile, FixesFile, OpensFile, ResizesFile, SameFiles, SameFilesBut, SyncsFile, bytes_of};
     ghost use Rattle.blob_journal.specs.Currents.{IsGiven, KeepsFiles};
     ghost use Rattle.blob_journal.specs.Journals.{GivesNames, HasFile, KeepsFile, KeepsFilesOf, KeepsGiven, durable_file, store_of};
     ghost use Rattle.blob_journal.specs.Keeping.{KeepsTable, KeepsTold, NotesOpened};
@@ -201,6 +201,7 @@ impl<R: Rng + Drop> Journaled<R> {
         ensures given { KeepsFile file.old self.old file.new self.new }
         ensures synced { OnOk result (SyncsFile self.old file.old self.new file.new) }
         ensures others { OnOk result (ChangesFile self.old file.old self.new) }
+        ensures fixed { OnOk result (FixesFile self.old file.old self.new) }
     {
         self.check(file)?;
         leaves::other_blobs::<blob_memory::Storage, R>();

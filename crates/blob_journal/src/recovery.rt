@@ -2,7 +2,7 @@
 ghost use Rattle.std.specs.Prelude.{◌≡◌, IfOk, OnOk, OnErr};
 ghost use Rattle.blob_directory.specs.Checkpoints.{FitsJournal};
 ghost use Rattle.blob_directory.specs.Tables.{bound};
-ghost use Rattle.blob_directory.specs.Trees.{Finds, HasLinks};
+ghost use Rattle.blob_directory.specs.Trees.{Finds, HasLinks, HasNamedLinks};
 
 use crate::journal::Journal;
 use crate::journaled::Journaled;
@@ -38,6 +38,7 @@ impl<R: Rng + Drop> Journaled<R> {
         ensures told { KeepsTold self.old self.new }
         ensures kept { IfOk result (λ r. FindsTold self.old keeps (bound r.0.names)) }
         ensures links { IfOk result (λ r. HasLinks r.0) }
+        ensures named { IfOk result (λ r. HasNamedLinks r.0) }
         ensures same { OnOk result (SameFiles self.old self.new) }
     {
         self.store.set_config(Config::default());

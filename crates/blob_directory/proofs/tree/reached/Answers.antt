@@ -8,7 +8,7 @@ use Rattle.blob_directory.specs.Names.{Names, entry}
 use Rattle.blob_directory.specs.Tables.{bound}
 use Rattle.blob_directory.specs.Trees.{has_directory, is_directory}
 use Rattle.blob_directory.proofs.Walks.{Closed, Kept, all_found, all_seen, added_name, finds_same, is_kind, kept_grows, not_in_none, only_one, walk_begins}
-use Rattle.blob_directory.proofs.Links.{links_added}
+use Rattle.blob_directory.proofs.Links.{links_added, named_added}
 use Rattle.blob_directory.proofs.tree.reached.Goals.{then-branch+in_ok-push-2, else-branch}
 use Rattle.blob_directory.proofs.tree.reached.Goals as goal
 
@@ -25,6 +25,7 @@ loop-init c =
     let pushed : next ≡ 1 ∷ [] = c.in_ok-push.ensures.items ∙ ap (λ l. l ++ 1 ∷ []) c.new-next.ensures.items in
     record {
       links = λ e i h. absurd (unbound (sym (c.in_ok-tree.ensures.names e) ∙ h));
+      named = λ i h. absurd (false≢true (sym (c.in_ok-tree.ensures.links i) ∙ h));
       walked = walk_begins names (bound c.in_ok-tree.tree.names) seen c.in_ok-tree.ensures.names dirs;
       left = All-same P next (1 ∷ []) pushed (All-push P [] 1 (All-nil P) (dirs 1));
       closed = λ d s. inl (subst (λ l. Contains l d) (sym pushed) (subst (Contains (1 ∷ [])) (eqb-true 1 d (sym (dirs d) ∙ s)) (Contains-push [] 1)));
@@ -64,6 +65,7 @@ loop-name-init c =
     let popped = All-pop (λ (d : ℕ). seen d ≡ true) c.loop.next.items left (Some directory) before c.loop.invariant.left in
     record {
       links = c.loop.invariant.links;
+      named = c.loop.invariant.named;
       walked = c.loop.invariant.walked;
       left = popped.0;
       here = popped.1;
@@ -109,6 +111,7 @@ loop-name-preserved c =
     ] in
     record {
       links = links_added c.loop-name.tree c.add.new.self (entry directory c.deref.result.now) item.1 c.in_ok-add.ensures.names c.in_ok-add.ensures.links c.loop-name.invariant.links;
+      named = named_added c.loop-name.tree c.add.new.self (entry directory c.deref.result.now) item.1 added.grows.names added.kept.0 c.in_ok-add.ensures.links c.loop-name.invariant.named;
       walked = added.walked;
       left = elim c.if-branch.branch [
         | then-branch+in_ok-push-2 w ↦
@@ -151,6 +154,7 @@ loop-preserved c =
     subst (λ b. Kept found seen (entry directory name) b) n.3 (subst (λ l. Kept found seen (entry directory l) n.0.1) n.2 kept) in
     record {
       links = c.loop-name.invariant.links;
+      named = c.loop-name.invariant.named;
       walked = c.loop-name.invariant.walked;
       left = c.loop-name.invariant.left;
       closed = λ d s. ⊎_elim (λ x. inr (subst (Closed names found seen) (sym x) mine)) (λ y. y) (c.loop-name.invariant.closed d s);

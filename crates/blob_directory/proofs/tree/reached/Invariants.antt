@@ -2,7 +2,7 @@ use Rattle.std.proofs.Common.{◌≡◌, ◌⊎◌, ℕ, true}
 use Rattle.std.specs.List.{All, AllWithin, Contains}
 use Rattle.blob_directory.specs.Names.{entry}
 use Rattle.blob_directory.specs.Tables.{bound}
-use Rattle.blob_directory.specs.Trees.{HasLinks, has_directory}
+use Rattle.blob_directory.specs.Trees.{HasLinks, HasNamedLinks, has_directory}
 use Rattle.blob_directory.proofs.Walks.{Closed, Kept, Walked}
 use Rattle.blob_directory.proofs.tree.reached.Given as goal
 
@@ -10,6 +10,7 @@ use Rattle.blob_directory.proofs.tree.reached.Given as goal
 abbrev pub invariant-loop : goal.invariant-loop
 invariant-loop l = record {
   links : HasLinks l.tree;
+  named : HasNamedLinks l.tree;
   walked : Walked (bound l.names) (bound l.tree.names) (has_directory l.tree);
   left : All (λ d. has_directory l.tree d ≡ true) l.next.items;
   closed : (d : ℕ) → has_directory l.tree d ≡ true → Contains l.next.items d ⊎ Closed (bound l.names) (bound l.tree.names) (has_directory l.tree) d;
@@ -19,6 +20,7 @@ invariant-loop l = record {
 abbrev pub invariant-loop-name : goal.invariant-loop-name
 invariant-loop-name l = record {
   links : HasLinks l.tree;
+  named : HasNamedLinks l.tree;
   walked : Walked (bound l.names) (bound l.tree.names) (has_directory l.tree);
   left : All (λ d. has_directory l.tree d ≡ true) l.next.items;
   here : has_directory l.tree l.directory ≡ true;

@@ -3,7 +3,7 @@ use Rattle.std.specs.Map.Iter.{deref_pair}
 use Rattle.std.proofs.lemmas.Map.Iter.{rest_all, rest_more}
 use Rattle.blob_directory.specs.Trees.{has_link}
 use Rattle.blob_fs.specs.declared.file_system.File.{File}
-use Rattle.blob_fs.proofs.Recovering.{Stands, ascend_rest, Ascend, ends, passes, takes}
+use Rattle.blob_fs.proofs.Recovering.{Stands, ascend_rest, Ascend, ends, only_more, passes, takes}
 use Rattle.blob_fs.proofs.recovery.reopen_all.Goals as goal
 
 pub loop-inode-preserved-in-Continue-branch-2 : goal.loop-inode-preserved-in-Continue-branch-2
@@ -25,6 +25,7 @@ loop-inode-preserved-in-Continue-branch-2 g c =
           (subst Ascend is i.ascend) c.in_ok-put.ensures.0 c.in_ok-file.ensures.others c.in_ok-file.ensures.left
           (subst (λ (l : List (ℕ × File)). Stands j old tree c.args.cuts l c.loop-inode.store c.loop-inode.files) is i.left);
       told = c.reopen.ensures.told ∙ i.told;
+      linked = only_more tree c.loop-inode.files c.put.new.files k c.in_ok-file.file c.in_ok-put.ensures (search rules) i.linked;
     }
 
 pub loop-inode-preserved : goal.loop-inode-preserved
@@ -45,6 +46,7 @@ loop-inode-preserved g c =
       left = passes j old tree c.args.cuts k v rest c.loop-inode.store c.loop-inode.files (subst Ascend is i.ascend) unlinked
           (subst (λ (l : List (ℕ × File)). Stands j old tree c.args.cuts l c.loop-inode.store c.loop-inode.files) is i.left);
       told = i.told;
+      linked = i.linked;
     }
 
 pub returns-clause-left : goal.returns-clause-left

@@ -2,6 +2,7 @@ use Rattle.std.proofs.Common.{◌≡◌}
 use Rattle.blob_journal.specs.Currents.{KeepsFiles}
 use Rattle.blob_journal.specs.Journals.{store_of}
 use Rattle.blob_journal.specs.Keeping.{table_in, told_in}
+use Rattle.blob_fs.specs.Bytes.{HasOnlyLinked}
 use Rattle.blob_fs.proofs.Recovering.{Ascend, Stands}
 use Rattle.blob_fs.proofs.recovery.reopen_all.Given as goal
 
@@ -12,4 +13,5 @@ invariant-loop-inode g l = record {
   ascend : Ascend l.inode-iterator;
   left : Stands l.fn.store l.old l.tree l.cuts l.inode-iterator l.store l.files;
   told : told_in l.store ≡ told_in l.fn.store;
+  linked : HasOnlyLinked l.tree l.files;
 }

@@ -5,7 +5,7 @@ use Rattle.std.proofs.Common.{sym, subst}
 use Rattle.blob_directory.specs.declared.table.Table.{Table}
 use Rattle.blob_directory.specs.Tables.{bound}
 use Rattle.blob_directory.specs.Trees.{Finds}
-use Rattle.blob_fs.specs.Files.{IsRecovered, keeps_of, names_of, table_of}
+use Rattle.blob_fs.specs.Files.{keeps_of, names_of}
 use Rattle.std.proofs.Common.{◌∙◌}
 use Rattle.blob_fs.proofs.file_system.FileSystem.crash.Goals as goal
 
@@ -37,3 +37,6 @@ pub returns-clause-bytes : goal.returns-clause-bytes
 returns-clause-bytes g c = λ name inode old found below named at is.
     let b = c.in_ok-edits.ensures.bytes name inode old found below named at (c.in_ok-rows.ensures.bytes inode ∙ is) in
     record { durable = b.durable; read = b.read; synced = b.synced; size = b.size }
+
+pub returns-clause-orphans : goal.returns-clause-orphans
+returns-clause-orphans g c = λ inode none. c.in_ok-edits.ensures.orphans inode none

@@ -11,8 +11,9 @@ use Rattle.blob_journal.specs.Blobs.{current_file}
 use Rattle.std.proofs.Common.{ℕ, Some}
 use Rattle.std.specs.BTreeMap.{BTreeMap, get}
 use Rattle.std.specs.Ordering.{nat_cmp}
+use Rattle.blob_fs.specs.Bytes.{HasOnlyLinked}
 use Rattle.blob_fs.specs.declared.file_system.File.{File}
-use Rattle.blob_fs.proofs.Recovering.{has_bytes, left_stays}
+use Rattle.blob_fs.proofs.Recovering.{has_bytes, left_stays, no_orphan}
 use Rattle.blob_fs.proofs.file_system.FileSystem.recover.Goals as goal
 
 pub returns-clause-found : goal.returns-clause-found
@@ -52,3 +53,11 @@ returns-clause-bytes g c = λ name inode old found below named at is.
     let same = c.blobs.ensures.twice opened renewed new.store inode (c.in_ok-directories.ensures.same inode) (c.begin_life.ensures.kept inode l.file below l.at) in
     has_bytes c.blobs.ensures.found c.blobs.ensures.reads new inode found _ l.file (ap (λ (m : BTreeMap ℕ File). get nat_cmp m inode) c.begin_life.ensures.files ∙ l.at)
     (left_stays c.blobs.ensures.stays opened new.store inode l.file found _ same l.left)
+
+pub returns-clause-orphans : goal.returns-clause-orphans
+returns-clause-orphans g c =
+    let new = c.begin_life.new.self in
+    let tree = c.in_ok-tree.tree in
+    let taken : table_of new ≡ tree.names = c.begin_life.ensures.names ∙ c.in_ok-directories.ensures.done in
+    no_orphan new tree (λ name. ap (λ (t : Table). bound t name) taken) c.in_ok-tree.ensures.named
+    (subst (HasOnlyLinked tree) (sym c.begin_life.ensures.files) c.in_ok-files.ensures.linked)

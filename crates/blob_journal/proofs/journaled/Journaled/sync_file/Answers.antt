@@ -19,7 +19,10 @@ use Rattle.std.specs.Prelude.{option_map}
 use Rattle.std.proofs.lemmas.Bool.{cond-true}
 use Rattle.blob_model.specs.SamePlace.{same_self}
 use Rattle.blob_journal.specs.Blobs.{file_name}
-use Rattle.blob_journal.proofs.Blobs.{blob_beside, file_names_apart, named_apart}
+use Rattle.std.proofs.Common.{[]}
+use Rattle.blob_model.specs.Draws.{chosen_by}
+use Rattle.blob_draws.specs.Rows.{table_of}
+use Rattle.blob_journal.proofs.Blobs.{blob_beside, crashed_is, file_names_apart, named_apart}
 use Rattle.blob_journal.proofs.journaled.Journaled.sync_file.Goals as goal
 
 pub invariant_of-self : goal.invariant_of-self
@@ -120,3 +123,24 @@ returns-clause-others g c = λ inode bytes below is other there apart.
     (λ o f n. named_apart (codes "f") (file_name inode) (codes "f") (file_name other) at o (ap (λ (x : Place). x.partition) is.current.is) (ap (λ (x : Place). x.name) is.current.is) f n
     (file_names_apart inode other below there apart))
     (λ o beside. ap (λ (d : Durable). d o) c.in_ok-sync.ensures.synced ∙ cond-false (same_place at o) _ _ beside)
+
+pub returns-clause-fixed : goal.returns-clause-fixed
+returns-clause-fixed g c = λ inode bytes seen is s kept.
+    let w = c.sync.ensures in
+    let old = c.args.self.now.store in
+    let new = c.sync.new.store in
+    let at : Place = place (inside c.args.file.now.blob) in
+    let live_bytes : List ℕ = live (inside c.args.file.now.blob) in
+    let was : Option (List ℕ) = durable (inner_of old) at in
+    let there = is.current.is in
+    let named = ap (λ (d : Directory). d.file (codes "f") (file_name inode)) w.directory ∙ is.current.file in
+    let now : durable (inner_of new) at ≡ Some seen =
+    ap (λ (d : Durable). d at) c.in_ok-sync.ensures.synced
+    ∙ cond-true (same_place at at) (option_map (λ _. live_bytes) was) was (same_self at)
+    ∙ ap (option_map (λ _. live_bytes)) is.durable
+    ∙ ap Some s.live in
+    let none : pending_of (λ (o : Place). o) new at ≡ [] = c.in_ok-sync.ensures.leaves.pending refl at ∙ cond-true (same_place at at) [] (pending_of (λ (o : Place). o) old at) (same_self at) in
+    crashed_is (directory (inner_of new)) (durable (inner_of new)) (pending_of (λ (o : Place). o) new) (chosen_by (table_of kept)) (codes "f") (file_name inode) is.current.number is.current.layout seen
+    named
+    (ap (λ (o : Place). durable (inner_of new) o) (sym there) ∙ now)
+    (ap (λ (o : Place). pending_of (λ (a : Place). a) new o) (sym there) ∙ none)

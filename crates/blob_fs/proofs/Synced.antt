@@ -1,0 +1,28 @@
+-- Files that are synced aren't cut.
+use Rattle.std.proofs.Common.{◌≡◌, ◌≤◌, ◌==◌, ℕ, suc, Bool, true, false, List, [], ◌∷◌, drop, length, refl, ap, subst, ◌∙◌, arith}
+use Rattle.std.proofs.lemmas.Bool.{cond-true, eq-eqb}
+use Rattle.std.proofs.lemmas.List.{length-drop}
+use Rattle.blob_fs.specs.Bytes.{HasBytes, bytes_left, common_length, cut_bytes, kept_length}
+use Rattle.blob_fs.specs.Synced.{SyncedIsFound}
+use Rattle.blob_fs.proofs.Cutting.{uncut}
+
+-- a file of which exactly the seen bytes are found isn't cut
+
+common_all : (bytes : List ℕ) → common_length bytes bytes ≡ length bytes
+common_all [] = refl
+common_all (x ∷ bytes) = cond-true (x == x) (suc (common_length bytes bytes)) 0 (eq-eqb x x refl) ∙ ap suc (common_all bytes)
+
+kept_all : (synced : ℕ) (bytes : List ℕ) → length bytes ≤ kept_length synced bytes bytes
+kept_all synced bytes =
+    let all : common_length (drop synced bytes) (drop synced bytes) ≡ length (drop synced bytes) = common_all (drop synced bytes) in
+    omega (arith, all, length-drop synced bytes)
+
+pub uncut_same : (cuts : Bool) (synced : ℕ) (bytes : List ℕ) → cut_bytes cuts synced bytes bytes ≡ bytes
+uncut_same true synced bytes = uncut synced bytes bytes (kept_all synced bytes)
+uncut_same false synced bytes = refl
+
+pub synced_is_found : (R : Type 0) → SyncedIsFound R
+synced_is_found R fs fs' kept name inode bytes below finds synced named =
+    let cut : bytes_left fs synced.was bytes ≡ bytes =
+    ap (λ (seen : List ℕ). cut_bytes fs.options.profile.cuts synced.was.synced seen bytes) synced.seen ∙ uncut_same fs.options.profile.cuts synced.was.synced bytes in
+    subst (λ (l : List ℕ). HasBytes fs' inode bytes l) cut (finds name inode synced.was bytes below named synced.at (synced.left kept))
