@@ -80,13 +80,13 @@ class List:
         self.handles, self.started, self.syncs_succeed = [], {}, True
 
     def ask(self, line):
-        told = self.run.ask(line)
+        answer = self.run.ask(line)
         kind = line.split()[0]
         self.counts[kind] += 1
-        self.counts[" ".join(told[1:2]) if told[0] == "error" else told[0]] += 1
-        if told[:2] == ["error", "Injected"]:
+        self.counts[" ".join(answer[1:2]) if answer[0] == "error" else answer[0]] += 1
+        if answer[:2] == ["error", "Injected"]:
             self.counts["Injected " + kind] += 1
-        return told
+        return answer
 
     def expect(self, holds, text):
         if not holds:
@@ -133,10 +133,10 @@ class List:
 
     def open(self, file):
         versions = self.chance.choice([""] * 11 + [" 0 9"] * 4 + [" 5 3"])
-        told = self.ask(f"open {FILES[file][0]} {FILES[file][1]}{versions}")
-        if told[0] != "opened":
+        answer = self.ask(f"open {FILES[file][0]} {FILES[file][1]}{versions}")
+        if answer[0] != "opened":
             return
-        number, size = int(told[1]), int(told[2])
+        number, size = int(answer[1]), int(answer[2])
         self.expect(number == len(self.handles) and all(self.handles[at].file != file for at in self.current()), "another handle is open")
         found = None
         for _ in range(9):
@@ -198,19 +198,19 @@ class List:
             self.fix(handle.file, 0, handle.live.bytes)
 
     def start_sync(self):
-        """A started sync fixes the bytes from its start on. Whether it succeeded is told when it is finished."""
+        """A started sync fixes the bytes from its start on. Whether it succeeded is reported when it is finished."""
         number = self.number()
-        told = self.ask(f"startsync {number}")
-        if told[0] != "started":
+        answer = self.ask(f"startsync {number}")
+        if answer[0] != "started":
             return
         handle = self.of(number)
         if handle is not None:
             fixed = dict(enumerate(handle.live.bytes))
-            self.started[int(told[1])] = handle.file, fixed
+            self.started[int(answer[1])] = handle.file, fixed
             if self.syncs_succeed:
                 self.fixed[handle.file].update(fixed)
         if self.chance.random() < 0.7:
-            self.finish(int(told[1]))
+            self.finish(int(answer[1]))
 
     def finish(self, number):
         if self.ask(f"finish {number}") == ["ok"] and number in self.started:
