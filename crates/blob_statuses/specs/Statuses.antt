@@ -4,8 +4,8 @@ use Rattle.blob_header.specs.Refusals as refusals
 use Rattle.blob_header.specs.Refusals.{Refusal, refusal_of}
 use Rattle.blob_script.specs.declared.reply.Reply.{Reply}
 use Rattle.blob_script.specs.declared.reply.Reply.TheVariants.{Failed, NoHandle}
-use Rattle.blob_sessions.specs.declared.ran.TheConstants.{OTHER_REPLY}
-use Rattle.blob_sessions.specs.declared.refusals.TheConstants.{OFFSET_OVERFLOW, BLOB_INSUFFICIENT_LENGTH, PARTITION_NAME_INVALID, PARTITION_MISSING, BLOB_MISSING, BLOB_ALREADY_OPEN, BLOB_CORRUPT, BLOB_LAYOUT_MISMATCH, BLOB_VERSION_MISMATCH, BLOB_CLOSED, READ_FAILED, WRITE_FAILED, INJECTED, MEMORY, GENERATIONS_EXHAUSTED, NO_HANDLE}
+use Rattle.blob_statuses.specs.declared.ran.TheConstants.{OTHER_REPLY}
+use Rattle.blob_statuses.specs.declared.refusals.TheConstants.{OFFSET_OVERFLOW, BLOB_INSUFFICIENT_LENGTH, PARTITION_NAME_INVALID, PARTITION_MISSING, BLOB_MISSING, BLOB_ALREADY_OPEN, BLOB_CORRUPT, BLOB_LAYOUT_MISMATCH, BLOB_VERSION_MISMATCH, BLOB_CLOSED, READ_FAILED, WRITE_FAILED, INJECTED, MEMORY, GENERATIONS_EXHAUSTED, NO_HANDLE}
 
 abbrev pub refusal_status : Refusal → ℕ
 refusal_status refusals.OffsetOverflow = OFFSET_OVERFLOW

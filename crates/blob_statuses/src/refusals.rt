@@ -1,11 +1,12 @@
 // The status of a call that was made and refused. Below 16 a status is one of `ran`.
-ghost use Rattle.std.specs.Prelude.{◌≡◌, ◌≢◌};
+ghost use Rattle.std.specs.Prelude.{◌≡◌, ◌≢◌, ◌≤◌};
 ghost use Rattle.blob_header.specs.Refusals.{refusal_of};
-ghost use Rattle.blob_sessions.specs.Statuses.{refusal_status, refused_status};
+ghost use Rattle.blob_script.specs.declared.reply.Reply.TheVariants.{Done};
+ghost use Rattle.blob_statuses.specs.Statuses.{refusal_status, refused_status};
 
 use crate::ran::{DONE, OTHER_REPLY};
 use blob_base::Error;
-use blob_lab::Reply;
+use blob_script::Reply;
 
 pub const OFFSET_OVERFLOW: u32 = 16;
 
@@ -43,7 +44,8 @@ pub const EMPTY_RANGE: u32 = 32;
 
 /// Returns the status of an error.
 pub fn status_of(error: &Error) -> u32
-    ensures { result ≡ refusal_status (refusal_of error.now) }
+    ensures is { result ≡ refusal_status (refusal_of error.now) }
+    ensures above { 16 ≤ result }
 {
     match error {
         Error::OffsetOverflow => OFFSET_OVERFLOW,
@@ -73,5 +75,17 @@ pub fn refused_status(reply: &Reply) -> u32
         Reply::Failed(error) => status_of(error),
         Reply::NoHandle => NO_HANDLE,
         _ => OTHER_REPLY,
+    }
+}
+
+/// Returns the status of a write with this reply. `DONE` only if it is done.
+pub fn write_status(reply: &Reply) -> u32
+    ensures done { result ≡ DONE → reply.now ≡ Done }
+    ensures not_done { result ≢ DONE → reply.now ≢ Done }
+    ensures refused { result ≢ DONE → result ≡ refused_status reply.now }
+{
+    match reply {
+        Reply::Done => DONE,
+        _ => refused_status(reply),
     }
 }
