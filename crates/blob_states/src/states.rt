@@ -4,12 +4,12 @@ ghost use Rattle.blob_header.specs.Refusals.{IsMemory};
 ghost use Rattle.blob_states.specs.CrashStates.{AreStatesOf};
 ghost use Rattle.blob_states.specs.Recorded.{state_after};
 
-use crate::found::add;
 use crate::names::names_until;
 use crate::recorded::Recorded;
 use crate::visit::visit;
 use blob_base::Error;
 use blob_choices::laws::draws;
+use blob_distinct::found::add;
 use blob_tree::Explorer;
 use indexmap::IndexMap;
 use std::alloc::Global;

@@ -6,16 +6,13 @@ use Rattle.std.specs.Str.{bytes_eq}
 use Rattle.std.specs.List.{list_any}
 use Rattle.std.specs.Map.{keys_of}
 use Rattle.indexmap.specs.IndexMap.{insert_entry}
-use Rattle.blob_states.specs.CrashStates.{LeftState, has_lines, left_by, with_state}
+use Rattle.blob_distinct.specs.Found.{LeftState, has_lines, left_by, state_in, with_state}
 
 abbrev pub Entries : Type 0
 Entries = List (String Global × Vec ℕ Global)
 
 abbrev pub is_at : List ℕ → String Global → Bool
 is_at text key = bytes_eq text (string_bytes key)
-
-abbrev pub state_in : String Global × Vec ℕ Global → LeftState
-state_in entry = left_by entry.1.items (string_bytes entry.0)
 
 -- whether it has the lines
 pub has_key : (text : List ℕ) (es : Entries) → list_any (is_at text) (keys_of es) ≡ has_lines (map state_in es) text

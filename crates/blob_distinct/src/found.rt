@@ -1,12 +1,12 @@
-// The distinct states so far.
+//! The distinct states so far.
 ghost use Rattle.std.specs.Prelude.{◌≡◌, OnOk, OnErr, string_bytes};
-ghost use Rattle.blob_states.specs.CrashStates.{left_by, states_in, with_state};
+ghost use Rattle.blob_distinct.specs.Found.{left_by, states_in, with_state};
 
 use indexmap::IndexMap;
 use std::alloc::AllocError;
 
-/// Adds a state by its lines, with words that lead to it, unless it exists.
-pub(crate) fn add(
+/// Adds a state by its lines, with words that lead to it, unless it exists. The only error is a refused allocation.
+pub fn add(
     states: &mut IndexMap<String, Vec<u64>>,
     lines: String,
     words: Vec<u64>,

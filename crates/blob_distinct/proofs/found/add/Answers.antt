@@ -2,9 +2,9 @@ use Rattle.std.proofs.Common.{rules, ◌≡◌, true, false, map, string_bytes, 
 use Rattle.std.specs.List.{list_any}
 use Rattle.std.specs.Map.{keys_of}
 use Rattle.std.proofs.lemmas.Map.Made.{is_some-lookup}
-use Rattle.blob_states.specs.CrashStates.{left_by, states_in}
-use Rattle.blob_states.proofs.Table.{added, has_key, is_at, not_there, state_in, there}
-use Rattle.blob_states.proofs.found.add.Goals as goal
+use Rattle.blob_distinct.specs.Found.{left_by, state_in, states_in}
+use Rattle.blob_distinct.proofs.Table.{added, has_key, is_at, not_there, there}
+use Rattle.blob_distinct.proofs.found.add.Goals as goal
 
 pub returns-then-contains_key : goal.returns-then-contains_key
 returns-then-contains_key c =

@@ -1,0 +1,4 @@
+//! The distinct states that were found so far.
+#![tactic(auto)]
+
+pub mod found;
