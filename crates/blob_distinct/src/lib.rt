@@ -1,4 +1,5 @@
-//! The distinct states that were found so far.
+//! A search with a limit, and the distinct states that it found so far.
 #![tactic(auto)]
 
 pub mod found;
+pub mod limit;
