@@ -16,7 +16,8 @@ from blobcrash import foreign
 HEADERS = os.path.join(TOP, "bindings", "c")
 CRATES = os.path.join(TOP, "crates")
 # The source files of a crate that have numbers, each with what precedes their names in the header.
-SESSIONS = {"ran.rt": "", "refusals.rt": "E_", "kinds.rt": "", "headers.rt": "H_", "debts.rt": "DEBT_"}
+STATUSES = {"ran.rt": "", "refusals.rt": "E_"}
+SESSIONS = {"kinds.rt": "", "headers.rt": "H_", "debts.rt": "DEBT_"}
 FILES = {"kinds.rt": "F_", "refusals.rt": "F_"}
 TREES = {"choice.rt": ""}
 # Names that the header has otherwise.
@@ -102,7 +103,7 @@ def main():
     checks = [(f"{name} is {value}", numbers_of("blobcrash.h").get(name) == value) for name, value in named().items()]
     checks.append(("nine numbers are compared", len(checks) == 9))
     for crates, header in (
-        ({"blob_sessions": SESSIONS, "blob_tree": TREES}, "blobcrash.h"),
+        ({"blob_statuses": STATUSES, "blob_sessions": SESSIONS, "blob_tree": TREES}, "blobcrash.h"),
         ({"blob_file_sessions": FILES}, "blobcrash_files.h"),
     ):
         numbers = {}

@@ -10,7 +10,7 @@ use Rattle.blob_script.specs.Lines.{Said, line_of}
 use Rattle.blob_script.specs.Preambles.{Words, only, words_of}
 use Rattle.blob_script.specs.Readers.{HasRead, MakesCall, MakesNoCall, config_of, has_begun, lines_read, preamble_of, with_meaning, with_preamble}
 use Rattle.blob_script.specs.Scripts.{with_call}
-use Rattle.blob_script.specs.Tokens.{is_empty}
+use Rattle.blob_tokens.specs.Tokens.{is_empty}
 use Rattle.blob_script.proofs.Readers.{read_call, read_on}
 use Rattle.blob_lab.specs.Scripts as lab
 use Rattle.blob_lab.specs.Scripts.{lines_of, script_of, with_line}

@@ -8,6 +8,7 @@ use crate::script::Script;
 use crate::tally::{Outcome, tally};
 use blob_base::Error;
 use blob_choices::laws::{every_run, outcomes};
+use blob_distinct::limit::may_try;
 use blob_script::Reply;
 use blob_script::script::print_reply;
 use indexmap::IndexMap;
@@ -38,7 +39,7 @@ pub fn explore(alloc: Global, script: Script, limit: u64, last: bool) -> Result<
     let mut exploration = Exploration::new(alloc, script);
     let mut found = IndexMap::new(alloc);
     let mut leaves = 0;
-    'visits: while leaves < limit {
+    'visits: while may_try(leaves, limit) {
         let Some(leaf) = exploration.next()? else {
             return Ok(Explored {
                 outcomes: found,

@@ -3,8 +3,8 @@ use Rattle.std.specs.Prelude.{◌≡◌, ◌⊎◌, ◌++◌, ℕ, List, true, i
 use Rattle.blob_lab_model.specs.Scripted.{scripted_stream}
 use Rattle.blob_tree.specs.WordsLeft.{EndsAfter}
 use Rattle.blob_fs.specs.Files.{KeepsNames, generator_of}
-use Rattle.blob_sessions.specs.declared.ran.TheConstants.{BAD_CALL, BAD_LINE, DONE, ENDLESS, NO_MEMORY}
-use Rattle.blob_sessions.specs.declared.ran.Ran.{Ran}
+use Rattle.blob_statuses.specs.declared.ran.TheConstants.{BAD_CALL, BAD_LINE, DONE, ENDLESS, NO_MEMORY}
+use Rattle.blob_statuses.specs.declared.ran.Ran.{Ran}
 use Rattle.blob_file_sessions.specs.Held.{fs_of}
 use Rattle.blob_file_sessions.specs.Replies.{last_reply, no_reply}
 use Rattle.blob_file_sessions.specs.declared.call.FileReply.{FileReply}

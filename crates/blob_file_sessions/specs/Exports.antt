@@ -2,8 +2,8 @@
 use Rattle.std.specs.Prelude.{◌≡◌, ℕ, List, Option, Some, None}
 use Rattle.blob_fs.specs.Files.{KeepsNames}
 use Rattle.blob_sessions.specs.Sessions.{stopped}
-use Rattle.blob_sessions.specs.declared.ran.Ran.{Ran}
-use Rattle.blob_sessions.specs.declared.ran.TheConstants.{CLOSED}
+use Rattle.blob_statuses.specs.declared.ran.Ran.{Ran}
+use Rattle.blob_statuses.specs.declared.ran.TheConstants.{CLOSED}
 use Rattle.blob_file_sessions.specs.Calls.{Answers, Configures, TakesWords}
 use Rattle.blob_file_sessions.specs.Held.{files_of, fs_of}
 use Rattle.blob_file_sessions.specs.LastParts.{CopiesEntry}

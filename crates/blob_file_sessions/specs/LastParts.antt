@@ -8,8 +8,8 @@ use Rattle.blob_fs.specs.declared.crash.Place.{Place}
 use Rattle.blob_sessions.specs.Parts.{CopiesBytes, no_run, run_from}
 use Rattle.blob_sessions.specs.Sessions.{stopped}
 use Rattle.blob_sessions.specs.declared.parts.KeptRun.{KeptRun}
-use Rattle.blob_sessions.specs.declared.ran.Ran.{Ran}
-use Rattle.blob_sessions.specs.declared.ran.TheConstants.{DONE, OTHER_REPLY}
+use Rattle.blob_statuses.specs.declared.ran.Ran.{Ran}
+use Rattle.blob_statuses.specs.declared.ran.TheConstants.{DONE, OTHER_REPLY}
 use Rattle.blob_file_sessions.specs.Replies.{bound_reply, no_reply, place_reply}
 use Rattle.blob_file_sessions.specs.declared.call.FileReply.{FileReply}
 use Rattle.blob_file_sessions.specs.declared.reply.Reply.{Reply}

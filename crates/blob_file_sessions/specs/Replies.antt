@@ -9,8 +9,8 @@ use Rattle.blob_directory.specs.declared.edit.Kind.TheVariants.{File, Directory}
 use Rattle.blob_fs.specs.declared.crash.Place.{Place}
 use Rattle.blob_fs.specs.declared.error.FsError.{FsError}
 use Rattle.blob_fs.specs.declared.error.FsError.TheVariants.{Exists, NotFound, NotEmpty, IsDirectory, NotDirectory, NameTooLong, InvalidName, TooManyLinks, Stale, NoSpace, Loop, Crashed, Store}
-use Rattle.blob_sessions.specs.Statuses.{refusal_status}
-use Rattle.blob_sessions.specs.declared.ran.TheConstants.{DONE}
+use Rattle.blob_statuses.specs.Statuses.{refusal_status}
+use Rattle.blob_statuses.specs.declared.ran.TheConstants.{DONE}
 use Rattle.blob_file_sessions.specs.declared.call.FileReply.{FileReply}
 use Rattle.blob_file_sessions.specs.declared.kept.KeptFiles.{KeptFiles}
 use Rattle.blob_file_sessions.specs.declared.refusals.TheConstants.{EXISTS, NOT_FOUND, NOT_EMPTY, IS_DIRECTORY, NOT_DIRECTORY, NAME_TOO_LONG, INVALID_NAME, TOO_MANY_LINKS, STALE, NO_SPACE, LOOP, CRASHED}

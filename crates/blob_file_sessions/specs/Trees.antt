@@ -5,8 +5,8 @@ use Rattle.blob_fs.specs.declared.error.FsError.{FsError}
 use Rattle.blob_fs.specs.declared.whole.TreeEntry.{TreeEntry}
 use Rattle.blob_sessions.specs.Parts.{CopiesBytes}
 use Rattle.blob_sessions.specs.Sessions.{stopped}
-use Rattle.blob_sessions.specs.declared.ran.Ran.{Ran}
-use Rattle.blob_sessions.specs.declared.ran.TheConstants.{DONE, OTHER_REPLY}
+use Rattle.blob_statuses.specs.declared.ran.Ran.{Ran}
+use Rattle.blob_statuses.specs.declared.ran.TheConstants.{DONE, OTHER_REPLY}
 use Rattle.blob_file_sessions.specs.Held.{fs_of}
 use Rattle.blob_file_sessions.specs.LastParts.{of_last}
 use Rattle.blob_file_sessions.specs.Replies.{bound_reply, file_status, no_reply}

@@ -12,12 +12,12 @@ pub use Rattle.blob_debt.specs.History
 pub use Rattle.blob_debt.specs.Recreated
 pub use Rattle.blob_script.specs.Acts
 pub use Rattle.blob_script.specs.CallLines
-pub use Rattle.blob_script.specs.Forms
+pub use Rattle.blob_tokens.specs.Forms
 pub use Rattle.blob_script.specs.Lines
 pub use Rattle.blob_script.specs.Replies
 pub use Rattle.blob_script.specs.SettingLines
 pub use Rattle.blob_script.specs.Settings
-pub use Rattle.blob_script.specs.Tokens
+pub use Rattle.blob_tokens.specs.Tokens
 pub use Rattle.blob_script.specs.Told
 pub use Rattle.blob_lab_model.specs.Accepted
 pub use Rattle.blob_lab_model.specs.After

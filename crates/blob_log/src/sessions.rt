@@ -76,8 +76,8 @@ pub fn sessions_survive<R: Rng>(
     for entries in sessions {
         let answers = append_all(alloc, &mut log, store, entries)?;
         store.crash()?;
-        let (again, after) = Log::recover(alloc, store, partition, name)?;
         done.push(Session { before, answers })?;
+        let (again, after) = Log::recover(alloc, store, partition, name)?;
         log = again;
         before = after;
     }

@@ -1,12 +1,7 @@
-pub mod HexDigits
 pub mod HexFields
-pub mod HexLanes
-pub mod HexParts
-pub mod Numbers
 pub mod OtherWords
 pub mod Readers
 pub mod SaidLines
 pub mod Through
-pub mod Tokens
 pub mod WordLists
 pub mod WorkedLines

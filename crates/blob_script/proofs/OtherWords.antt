@@ -3,7 +3,7 @@ use Rattle.std.proofs.Common.{◌≡◌, ◌≢◌, ℕ, List, Bool, None, if◌
 use Rattle.std.proofs.lemmas.Bool.{false_from_ne_true}
 use Rattle.std.proofs.lemmas.Slice.Eq.{bytes_eq-Decides}
 use Rattle.std.specs.Str.{bytes_eq}
-use Rattle.blob_script.specs.Forms.{Form}
+use Rattle.blob_tokens.specs.Forms.{Form}
 
 -- the row has another word
 pub passes : {X : Type 0} (word row : List ℕ) (here after : Form X) (tokens : List (List ℕ)) → word ≢ row → (if bytes_eq word row then here else after) tokens ≡ after tokens

@@ -7,7 +7,7 @@ use Rattle.blob_script.specs.Lines.{Said}
 use Rattle.blob_script.specs.Preambles.{images_of, words_of}
 use Rattle.blob_script.specs.Readers.{HasRead, IsSame, MakesCall, MakesNoCall, config_of, has_begun, preamble_of, with_meaning, with_preamble}
 use Rattle.blob_script.specs.Scripts.{Script, with_call}
-use Rattle.blob_script.specs.Tokens.{is_empty}
+use Rattle.blob_tokens.specs.Tokens.{is_empty}
 
 -- A preamble changes no call and no setting.
 

@@ -1,18 +1,22 @@
 -- The meaning of a line, step by step.
-use Rattle.std.proofs.Common.{◌≡◌, ◌==◌, ℕ, List, ◌∷◌, Bool, true, false, Option, Some, None, if◌then◌else◌, slice_index, refl, sym, ap, ◌∙◌, cond, option_and_then, IsUtf8}
+use Rattle.std.proofs.Common.{◌≡◌, ◌==◌, ℕ, List, [], ◌∷◌, Bool, true, false, Option, Some, None, if◌then◌else◌, slice_index, refl, sym, ap, ◌∙◌, cond, option_and_then, IsUtf8}
 use Rattle.std.specs.Str.{is_utf8, byte}
 use Rattle.std.proofs.lemmas.Str.{is_utf8-from_IsUtf8, IsUtf8-from_is_utf8}
 use Rattle.blob_script.specs.Acts.{Act}
 use Rattle.blob_script.specs.CallLines.{call}
-use Rattle.blob_script.specs.Forms.{◌>>=◌, gives}
+use Rattle.blob_tokens.specs.Forms.{◌>>=◌, gives}
 use Rattle.blob_script.specs.Lines.{Said, Blank, Call, said_of, line_of, statement}
-use Rattle.blob_script.specs.Tokens.{is_empty, tokens}
+use Rattle.blob_tokens.specs.Tokens.{is_empty, tokens}
 
 abbrev pub is_comment : List ℕ → Bool
 is_comment word = slice_index word 0 == byte "#"
 
 abbrev pub unless_left : {X : Type 0} → X → List (List ℕ) → Option X
 unless_left x tokens = if is_empty tokens then Some x else None
+
+pub not_ended : {X : Type 0} (x : X) (tokens : List (List ℕ)) → (tokens ≡ [] → ⊥) → unless_left x tokens ≡ None
+not_ended x [] some = absurd (some refl)
+not_ended x (token ∷ tokens) some = refl
 
 false_of : (test : Bool) → (test ≡ true → ⊥) → test ≡ false
 false_of true h = absurd (h refl)

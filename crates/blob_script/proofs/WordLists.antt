@@ -1,8 +1,8 @@
 -- The words of a line, read one by one.
 use Rattle.std.proofs.Common.{◌≡◌, ℕ, List, [], ◌∷◌, ◌++◌, length, Option, Some, None, option_map, refl, sym, ap, ◌∙◌, append-nil}
 use Rattle.std.specs.Option.{option_and_then}
-use Rattle.blob_script.specs.Forms.{all_tokens, words}
-use Rattle.blob_script.specs.Tokens.{word_of}
+use Rattle.blob_tokens.specs.Forms.{all_tokens, words}
+use Rattle.blob_tokens.specs.Tokens.{word_of}
 
 -- words already parsed, then the rest
 abbrev pub behind : List ℕ → Option (List ℕ) → Option (List ℕ)

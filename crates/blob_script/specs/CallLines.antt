@@ -1,7 +1,12 @@
 -- The lines of calls.
-use Rattle.std.specs.Prelude.{ℕ, List, [], ◌∷◌, Bool, true, false, Option, codes}
-use Rattle.blob_script.specs.Acts.{Act, AcceptedVersions, Open, OpenLoose, Admit, Close, Through, Read, Write, Resize, Size, Sync, StartSync, Finish, Remove, Scan, Crash, Reopen}
-use Rattle.blob_script.specs.Forms.{Form, ◌>>=◌, gives, no_form, form_in_table, text, hex, name, digits, versions}
+use Rattle.std.specs.Prelude.{ℕ, List, [], ◌∷◌, Bool, true, false, Option, Some, codes}
+use Rattle.blob_script.specs.Acts.{Act, AcceptedVersions, accepted_versions, Open, OpenLoose, Admit, Close, Through, Read, Write, Resize, Size, Sync, StartSync, Finish, Remove, Scan, Crash, Reopen}
+use Rattle.blob_tokens.specs.Forms.{Form, ◌>>=◌, gives, no_form, form_in_table, token, at_end, text, hex, name, digits}
+use Rattle.blob_tokens.specs.Tokens.{version_of}
+
+-- the first and the last version, if tokens remain; otherwise only version 0
+abbrev pub versions : Form (Option AcceptedVersions)
+versions = at_end (Some (0, 0)) (do first ← token version_of; last ← token version_of; gives (accepted_versions false first last))
 
 abbrev pub open_form : (List ℕ → List ℕ → Option AcceptedVersions → Act) → Form Act
 open_form act = do partition ← text; name ← hex; accepts ← versions; gives (act partition name accepts)

@@ -1,8 +1,6 @@
 pub mod Acts
 pub mod CallLines
-pub mod Forms
 pub mod Lines
-pub mod Pairs
 pub mod Preambles
 pub mod Readers
 pub mod Reads
@@ -10,5 +8,4 @@ pub mod Replies
 pub mod Scripts
 pub mod SettingLines
 pub mod Settings
-pub mod Tokens
 pub mod Told

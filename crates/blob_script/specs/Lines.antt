@@ -6,9 +6,9 @@ use Rattle.blob_script.specs.declared.script.line.Line.TheVariants as line
 use Rattle.blob_script.specs.declared.script.setting.Setting.{Setting}
 use Rattle.blob_script.specs.Acts.{Act, act_of}
 use Rattle.blob_script.specs.CallLines.{call}
-use Rattle.blob_script.specs.Forms.{Form, ◌>>=◌, gives, whole, form_in_table, text, hex, digits, words}
+use Rattle.blob_tokens.specs.Forms.{Form, ◌>>=◌, gives, whole, form_in_table, text, hex, digits, words}
 use Rattle.blob_script.specs.SettingLines.{setting}
-use Rattle.blob_script.specs.Tokens.{tokens}
+use Rattle.blob_tokens.specs.Tokens.{tokens}
 
 pub data Said : Type 0 where
   Blank : Said  -- an empty line or a comment

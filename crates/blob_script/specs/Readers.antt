@@ -10,7 +10,7 @@ use Rattle.blob_script.specs.Lines.{Said, Call, Configure}
 use Rattle.blob_script.specs.Preambles.{images_of, words_of}
 use Rattle.blob_script.specs.Scripts.{Script, with_call, with_said}
 use Rattle.blob_script.specs.Settings.{with_setting}
-use Rattle.blob_script.specs.Tokens.{is_empty}
+use Rattle.blob_tokens.specs.Tokens.{is_empty}
 
 abbrev pub preamble_of : Reader → Preamble
 preamble_of r = r.preamble

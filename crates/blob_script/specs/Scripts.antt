@@ -8,7 +8,7 @@ use Rattle.blob_script.specs.Lines.{Said, Blank, Image, Given, Seed, Configure, 
 use Rattle.blob_script.specs.Preambles as preambles
 use Rattle.blob_script.specs.Preambles.{Words, only, behind_seeded}
 use Rattle.blob_script.specs.Settings.{no_rates, with_setting}
-use Rattle.blob_script.specs.Tokens.{is_empty}
+use Rattle.blob_tokens.specs.Tokens.{is_empty}
 
 -- the bytes before each line feed, and those after the last one, if there are any
 abbrev pub lines_of : List ℕ → List (List ℕ)

@@ -5,7 +5,7 @@ use Rattle.blob_model.specs.declared.mode.PartialWriteMode.{PartialWriteMode}
 use Rattle.blob_model.specs.declared.mode.PartialWriteMode.TheVariants.{Prefix, Subset, Sectors}
 use Rattle.blob_script.specs.declared.script.setting.Setting.{Setting}
 use Rattle.blob_script.specs.declared.script.setting.Setting.TheVariants.{Open, Read, Write, Sync, Resize, Remove, Scan, Clear}
-use Rattle.blob_script.specs.Forms.{Form, ◌>>=◌, gives, gives_some, by_word, digits}
+use Rattle.blob_tokens.specs.Forms.{Form, ◌>>=◌, gives, gives_some, by_word, digits}
 
 -- a fraction that is at most one
 abbrev pub rate : Form Rate

@@ -10,8 +10,8 @@ use Rattle.blob_script.specs.Readers.{SaysCall}
 use Rattle.blob_script.specs.Replies.{reply_line}
 use Rattle.blob_draws.specs.declared.config.Config.{Config}
 use Rattle.blob_sessions.specs.declared.kept.Kept.{Kept}
-use Rattle.blob_sessions.specs.declared.ran.Ran.{Ran}
-use Rattle.blob_sessions.specs.declared.ran.TheConstants.{BAD_LINE}
+use Rattle.blob_statuses.specs.declared.ran.Ran.{Ran}
+use Rattle.blob_statuses.specs.declared.ran.TheConstants.{BAD_LINE}
 use Rattle.blob_sessions.specs.Sessions.{RunsLine, IsNoCall, IsTooLong, Makes, TellsAgain, settings_of}
 
 performs_alike : (a b c d : Lab) (act : Act) (reply : Reply) → b ≡ a → d ≡ c → Performs b act reply c → Performs a act reply d

@@ -11,7 +11,7 @@ use Rattle.blob_script.proofs.Readers.{at_begun, read_begun}
 use Rattle.blob_script.specs.Preambles.{behind_seeded, only}
 use Rattle.blob_script.specs.Scripts.{with_call}
 use Rattle.blob_script.specs.Settings.{with_setting}
-use Rattle.blob_script.specs.Tokens.{is_empty}
+use Rattle.blob_tokens.specs.Tokens.{is_empty}
 use Rattle.blob_lab.specs.Scripts.{Script}
 use Rattle.blob_sessions.specs.Preambles.{IsSetting}
 

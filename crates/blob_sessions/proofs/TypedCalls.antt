@@ -11,10 +11,10 @@ use Rattle.blob_header.specs.Refusals as refusals
 use Rattle.blob_header.specs.Refusals.{Refusal, refusal_of}
 use Rattle.blob_sessions.specs.Applying.{Applies}
 use Rattle.blob_sessions.specs.Sessions.{Makes, settings_of}
-use Rattle.blob_sessions.specs.Statuses.{refusal_status}
+use Rattle.blob_statuses.specs.Statuses.{refusal_status}
 use Rattle.blob_sessions.specs.Typed.{IsNoTypedCall, last_reply, typed_act, typed_reply, without_reply}
 use Rattle.blob_sessions.specs.declared.kept.Kept.{Kept}
-use Rattle.blob_sessions.specs.declared.ran.TheConstants.{BAD_CALL}
+use Rattle.blob_statuses.specs.declared.ran.TheConstants.{BAD_CALL}
 use Rattle.blob_sessions.specs.declared.typed.TypedCall.{TypedCall}
 use Rattle.blob_sessions.specs.declared.typed.TypedReply.{TypedReply}
 

@@ -6,7 +6,7 @@ use Rattle.blob_lab_store.specs.LabStands.{Performs}
 use Rattle.blob_sessions.specs.Sessions.{Makes, OnHeld, kept_of, settings_of}
 use Rattle.blob_sessions.specs.Typed.{IsNoTypedCall, typed_act, typed_reply, without_reply}
 use Rattle.blob_sessions.specs.declared.kept.Kept.{Kept}
-use Rattle.blob_sessions.specs.declared.ran.TheConstants.{BAD_CALL, CLOSED}
+use Rattle.blob_statuses.specs.declared.ran.TheConstants.{BAD_CALL, CLOSED}
 use Rattle.blob_sessions.specs.declared.session.Session.{Session}
 use Rattle.blob_sessions.specs.declared.typed.TypedCall.{TypedCall}
 use Rattle.blob_sessions.specs.declared.typed.TypedReply.{TypedReply}

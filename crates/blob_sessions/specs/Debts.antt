@@ -6,14 +6,14 @@ use Rattle.blob_debt.specs.History.{AdmittedOpen, Call, History, Operation, To, 
 use Rattle.blob_header.specs.Refusals as refusals
 use Rattle.blob_header.specs.Refusals.{IsMemory, Refusal, refusal_of}
 use Rattle.blob_header.specs.declared.error.Error.{Error}
-use Rattle.blob_sessions.specs.Statuses.{refusal_status}
+use Rattle.blob_statuses.specs.Statuses.{refusal_status}
 use Rattle.blob_sessions.specs.Typed.{by_kind}
 use Rattle.blob_sessions.specs.declared.debts.Debts.{Debts}
 use Rattle.blob_sessions.specs.declared.debts.DebtCall.{DebtCall}
 use Rattle.blob_sessions.specs.declared.debts.DebtReply.{DebtReply}
 use Rattle.blob_sessions.specs.declared.debts.TheConstants.{ADMIT, RELEASE, SETTLE, DEBT, CLEAR, FAIL, CLOSE_OPEN, FORGET, FORGET_PARTITION, IS_SETTLED, KEEPS}
-use Rattle.blob_sessions.specs.declared.ran.TheConstants.{BAD_CALL, DONE}
-use Rattle.blob_sessions.specs.declared.refusals.TheConstants.{OFFSET_OVERFLOW, BLOB_INSUFFICIENT_LENGTH, BLOB_CLOSED, READ_FAILED, WRITE_FAILED, INJECTED, MEMORY, GENERATIONS_EXHAUSTED, NO_HANDLE}
+use Rattle.blob_statuses.specs.declared.ran.TheConstants.{BAD_CALL, DONE}
+use Rattle.blob_statuses.specs.declared.refusals.TheConstants.{OFFSET_OVERFLOW, BLOB_INSUFFICIENT_LENGTH, BLOB_CLOSED, READ_FAILED, WRITE_FAILED, INJECTED, MEMORY, GENERATIONS_EXHAUSTED, NO_HANDLE}
 
 -- what a slot of a table has
 abbrev pub kept_at : {T : Type 0} → List (Option T) → ℕ → Option T

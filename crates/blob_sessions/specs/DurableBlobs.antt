@@ -11,9 +11,9 @@ use Rattle.blob_sessions.specs.Parts.{CopiesBytes}
 use Rattle.blob_sessions.specs.Sessions.{IsClosed, Inspects, stopped}
 use Rattle.blob_sessions.specs.declared.session.Session.{Session}
 use Rattle.blob_sessions.specs.declared.kept.Kept.{Kept}
-use Rattle.blob_sessions.specs.declared.ran.Ran.{Ran}
-use Rattle.blob_sessions.specs.declared.ran.TheConstants.{BAD_CALL, NO_MEMORY}
-use Rattle.blob_sessions.specs.declared.refusals.TheConstants.{BLOB_MISSING}
+use Rattle.blob_statuses.specs.declared.ran.Ran.{Ran}
+use Rattle.blob_statuses.specs.declared.ran.TheConstants.{BAD_CALL, NO_MEMORY}
+use Rattle.blob_statuses.specs.declared.refusals.TheConstants.{BLOB_MISSING}
 
 abbrev pub store_of : Kept → Storage
 store_of k = inner_of (wrapper_of k.lab)

@@ -11,8 +11,8 @@ use Rattle.blob_sessions.specs.Parts.{CopiesBytes}
 use Rattle.blob_sessions.specs.declared.headers.Accepts.{Accepts}
 use Rattle.blob_sessions.specs.declared.headers.ParsedHeader.{ParsedHeader}
 use Rattle.blob_sessions.specs.declared.headers.TheConstants.{INVALID_MAGIC, UNSUPPORTED_LAYOUT_VERSION, LAYOUT_MISMATCH, VERSION_MISMATCH, INVALID_CHECKSUM, INVALID_PADDING, TRUNCATED, TO_CREATE}
-use Rattle.blob_sessions.specs.declared.ran.Ran.{Ran}
-use Rattle.blob_sessions.specs.declared.ran.TheConstants.{BAD_CALL, DONE, NO_MEMORY}
+use Rattle.blob_statuses.specs.declared.ran.Ran.{Ran}
+use Rattle.blob_statuses.specs.declared.ran.TheConstants.{BAD_CALL, DONE, NO_MEMORY}
 
 abbrev pub layout_numbered : ℕ → Option Layout
 layout_numbered number = if number == 0 then Some V0 else if number == 1 then Some V1 else None

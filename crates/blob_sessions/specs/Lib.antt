@@ -7,7 +7,6 @@ pub mod Parts
 pub mod Preambles
 pub mod ReplyTexts
 pub mod Sessions
-pub mod Statuses
 pub mod Typed
 pub mod WholeScripts
 pub mod Words

@@ -8,9 +8,9 @@ use Rattle.blob_draws.specs.Rows.{row_in, rows_of}
 use Rattle.blob_model.specs.Draws.{Row}
 use Rattle.blob_sessions.specs.Sessions.{Inspects, IsClosed, stopped}
 use Rattle.blob_sessions.specs.declared.parts.KeptRun.{KeptRun}
-use Rattle.blob_sessions.specs.declared.ran.Ran.{Ran}
+use Rattle.blob_statuses.specs.declared.ran.Ran.{Ran}
 use Rattle.blob_sessions.specs.declared.session.Session.{Session}
-use Rattle.blob_sessions.specs.declared.ran.TheConstants.{DONE, NO_ROOM, OTHER_REPLY}
+use Rattle.blob_statuses.specs.declared.ran.TheConstants.{DONE, NO_ROOM, OTHER_REPLY}
 
 -- the names and the rows of the last reply; of another reply, and before the first call, none
 abbrev pub names_in : Reply → List (Vec ℕ Global)

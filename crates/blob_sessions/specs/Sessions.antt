@@ -14,9 +14,9 @@ use Rattle.blob_sessions.specs.declared.debts.DebtCall.{DebtCall}
 use Rattle.blob_sessions.specs.declared.debts.DebtReply.{DebtReply}
 use Rattle.blob_sessions.specs.declared.kept.Kept.{Kept}
 use Rattle.blob_sessions.specs.declared.session.Session.{Session}
-use Rattle.blob_sessions.specs.declared.ran.Ran.{Ran}
-use Rattle.blob_sessions.specs.declared.ran.TheConstants.{DONE, BAD_LINE, NO_MEMORY, NO_ROOM, CLOSED, UNPRINTED}
-use Rattle.blob_sessions.specs.Statuses.{refused_status}
+use Rattle.blob_statuses.specs.declared.ran.Ran.{Ran}
+use Rattle.blob_statuses.specs.declared.ran.TheConstants.{DONE, BAD_LINE, NO_MEMORY, NO_ROOM, CLOSED, UNPRINTED}
+use Rattle.blob_statuses.specs.Statuses.{refused_status}
 
 -- A laboratory with its settings, the last reply and the registry.
 

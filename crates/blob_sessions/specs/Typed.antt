@@ -6,10 +6,10 @@ use Rattle.blob_script.specs.declared.reply.Reply.{Reply}
 use Rattle.blob_script.specs.declared.reply.Reply.TheVariants.{Done, Opened, Bytes, Size, Names, Started, Crashed, Failed, NoHandle, EmptyRange}
 use Rattle.blob_draws.specs.Rows.{rows_of}
 use Rattle.blob_header.specs.Refusals.{refusal_of}
-use Rattle.blob_sessions.specs.Statuses.{refusal_status}
+use Rattle.blob_statuses.specs.Statuses.{refusal_status}
 use Rattle.blob_sessions.specs.declared.kinds.TheConstants.{OPEN, OPEN_LOOSE, ADMIT, CLOSE, RESIZE, SIZE, SYNC, START_SYNC, FINISH, REMOVE_BLOB, REMOVE_PARTITION, SCAN, CRASH, REOPEN}
-use Rattle.blob_sessions.specs.declared.ran.TheConstants.{DONE}
-use Rattle.blob_sessions.specs.declared.refusals.TheConstants.{EMPTY_RANGE, NO_HANDLE}
+use Rattle.blob_statuses.specs.declared.ran.TheConstants.{DONE}
+use Rattle.blob_statuses.specs.declared.refusals.TheConstants.{EMPTY_RANGE, NO_HANDLE}
 use Rattle.blob_sessions.specs.declared.typed.TypedCall.{TypedCall}
 use Rattle.blob_sessions.specs.declared.typed.TypedReply.{TypedReply}
 

@@ -3,7 +3,7 @@ use Rattle.std.specs.Prelude.{◌≡◌, ◌⊎◌, ℕ, List, [], Some, length}
 use Rattle.blob_lab.specs.declared.ending.Ending.{Ending}
 use Rattle.blob_lab.specs.declared.ending.Ending.TheVariants.{BadCall, Done}
 use Rattle.blob_lab.specs.Scripts.{Prints, PrintsBeforeLine, lines_of, script_of}
-use Rattle.blob_sessions.specs.declared.ran.TheConstants.{BAD_LINE, DONE, ENDLESS, NO_MEMORY, NO_ROOM}
+use Rattle.blob_statuses.specs.declared.ran.TheConstants.{BAD_LINE, DONE, ENDLESS, NO_MEMORY, NO_ROOM}
 
 -- these bytes are a script, and this is its output
 abbrev pub PrintsScript : List ℕ → List ℕ → Type 0

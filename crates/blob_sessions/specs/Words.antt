@@ -5,8 +5,8 @@ use Rattle.blob_lab_store.specs.LabStands.{LabStandsFor}
 use Rattle.blob_tree.specs.WordsLeft.{EndsAfter}
 use Rattle.blob_lab_model.specs.States.{State}
 use Rattle.blob_sessions.specs.declared.kept.Kept.{Kept}
-use Rattle.blob_sessions.specs.declared.ran.Ran.{Ran}
-use Rattle.blob_sessions.specs.declared.ran.TheConstants.{CLOSED, DONE, ENDLESS, NO_MEMORY}
+use Rattle.blob_statuses.specs.declared.ran.Ran.{Ran}
+use Rattle.blob_statuses.specs.declared.ran.TheConstants.{CLOSED, DONE, ENDLESS, NO_MEMORY}
 use Rattle.blob_sessions.specs.declared.session.Session.{Session}
 use Rattle.blob_sessions.specs.Sessions.{OnHeld, kept_of}
 

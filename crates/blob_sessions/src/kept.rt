@@ -7,7 +7,7 @@ ghost use Rattle.blob_script.specs.Readers.{IfCall, IfNoCall, SaysCall, config_o
 use crate::debts::{DebtCall, DebtReply, Debts};
 use crate::kinds::{ADMIT, OPEN, OPEN_LOOSE, REMOVE_BLOB, REMOVE_PARTITION, SCAN};
 use crate::ran::{BAD_CALL, BAD_LINE, DONE, ENDLESS, NO_MEMORY, NO_ROOM, Ran, UNPRINTED};
-use crate::refusals::refused_status;
+use crate::refusals::{refused_status, write_status};
 use crate::reply_text::{line_len, write_line};
 use crate::typed::{TypedCall, TypedReply, numbered_call, versions};
 use blob_faulty::Config;
@@ -182,10 +182,7 @@ impl Kept {
         ensures { AnswersWrite self.old self.new handle offset bytes.now sync result }
     {
         let reply = self.lab.write(handle, offset, bytes, sync);
-        let status = match &reply {
-            Reply::Done => DONE,
-            _ => refused_status(&reply),
-        };
+        let status = write_status(&reply);
         self.last = Some(reply);
         status
     }

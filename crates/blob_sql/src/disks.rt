@@ -1,45 +1,16 @@
-//! The disks of a database in each mode, and their crash.
+//! The disks of a database in each mode.
+ghost use Rattle.std.specs.Prelude.{◌<◌};
 ghost use Rattle.blob_faulty.specs.Certain.{IsNever, partial_resizes};
 
-use crate::file::File;
-use crate::lying::Lying;
+use crate::file::{BlobFile, File, Habits};
 use crate::mode::{Mode, below};
 use anyhow::Result;
 use blob_disk::BlobDisk;
 use blob_faulty::Config;
 use rand_core::{Rng, SeedableRng};
 use rand_xoshiro::Xoshiro256PlusPlus;
-use sqlite_disk::{Crash, Disk, Files, Fuse};
+use sqlite_disk::Files;
 use std::alloc::Global;
-
-type BlobFile = BlobDisk<Xoshiro256PlusPlus>;
-
-/// The disk of a database. It is one type, so that the database code is compiled once.
-pub type AnyFile = File<BlobFile, Lying<BlobFile>, Fuse<BlobFile>>;
-
-/// A disk that can crash.
-pub trait Crashing: Disk {
-    /// Crashes: bytes that aren't durable are lost by the disk's draws. Faults are then drawn with these rates. A fused
-    /// file ignores the rates, and its next fuse never blows.
-    fn crash_to(&mut self, config: Config)
-        requires { IsNever (partial_resizes config.resize_rate) };
-}
-
-impl Crashing for AnyFile {
-    fn crash_to(&mut self, config: Config) {
-        match self {
-            File::Drawn(disk) => {
-                disk.crash();
-                disk.set_config(config);
-            }
-            File::Lying(disk) => {
-                disk.inner.crash();
-                disk.inner.set_config(config);
-            }
-            File::Fused(disk) => disk.crash(),
-        }
-    }
-}
 
 fn disk(
     alloc: Global,
@@ -53,37 +24,44 @@ fn disk(
     Ok(BlobDisk::new(alloc, draws, config, is_mixing)?)
 }
 
-/// Returns files that fail from some call on, as if the machine stopped.
-fn fused(alloc: Global, mode: &Mode, rng: &mut Xoshiro256PlusPlus) -> Result<Files<AnyFile>> {
-    let (log, db) = (mode.faults.config(rng), mode.faults.config(rng));
-    let log = disk(alloc, rng, log, mode.is_mixing)?;
-    let db = disk(alloc, rng, db, mode.is_mixing)?;
-    Ok(Files {
-        log: File::Fused(Fuse::new(log, below(rng, 150))),
-        db: File::Fused(Fuse::new(db, below(rng, 60))),
-    })
+/// Returns the rates of a file before its first crash. Only a fused file has any.
+fn first_config(mode: &Mode, rng: &mut Xoshiro256PlusPlus) -> Config
+    ensures { IsNever (partial_resizes result.resize_rate) }
+{
+    if mode.is_fused {
+        mode.faults.config(rng)
+    } else {
+        Config::default()
+    }
 }
 
-/// Returns the empty files of a mode. Before the first crash, only fused files fail.
+/// Returns what a file does. A fused one stops after less than `bound` calls.
+fn habits(mode: &Mode, is_lying: bool, rng: &mut Xoshiro256PlusPlus, bound: u64) -> Habits
+    requires { 0 < bound }
+{
+    Habits {
+        is_lying,
+        is_fused: mode.is_fused,
+        calls: if mode.is_fused {
+            below(rng, bound)
+        } else {
+            u64::MAX
+        },
+    }
+}
+
+/// Returns the empty files of a mode. Before the first crash, only fused files fail: from some call on, as if the machine stopped.
 pub fn files(
     alloc: Global,
     mode: &Mode,
     is_lying: bool,
     rng: &mut Xoshiro256PlusPlus,
-) -> Result<Files<AnyFile>> {
-    if mode.is_fused {
-        return fused(alloc, mode, rng);
-    }
-    let log = disk(alloc, rng, Config::default(), mode.is_mixing)?;
-    let db = disk(alloc, rng, Config::default(), mode.is_mixing)?;
-    if is_lying {
-        return Ok(Files {
-            log: File::Lying(Lying { inner: log }),
-            db: File::Lying(Lying { inner: db }),
-        });
-    }
+) -> Result<Files<File>> {
+    let (log, db) = (first_config(mode, rng), first_config(mode, rng));
+    let log = disk(alloc, rng, log, mode.is_mixing)?;
+    let db = disk(alloc, rng, db, mode.is_mixing)?;
     Ok(Files {
-        log: File::Drawn(log),
-        db: File::Drawn(db),
+        log: File::new(log, habits(mode, is_lying, rng, 150)),
+        db: File::new(db, habits(mode, is_lying, rng, 60)),
     })
 }

@@ -1,121 +1,163 @@
-//! A file that fails and crashes in one of three ways.
-use sqlite_disk::{Disk, Tally};
+//! A file of the database: its faults and its crash.
+ghost use Rattle.std.specs.Prelude.{◌≡◌, false};
+ghost use Rattle.sqlite_disk.specs.Disk.{CountsFault};
+ghost use Rattle.sqlite_disk.specs.Refusal.{finds_no_room};
+ghost use Rattle.blob_faulty.specs.Certain.{IsNever, partial_resizes};
+
+use blob_disk::BlobDisk;
+use blob_faulty::Config;
+use rand_xoshiro::Xoshiro256PlusPlus;
+use sqlite_disk::{Crash, Disk, Tally};
 use std::io;
 
-/// The three kinds as one type, so that the database code is compiled once.
-#[derive(Drop)]
-pub enum File<A, B, C> {
-    /// Calls fail by draws.
-    Drawn(A),
-    /// Calls fail by draws, and a sync does nothing.
-    Lying(B),
-    /// From some call on, every call fails.
-    Fused(C),
+pub type BlobFile = BlobDisk<Xoshiro256PlusPlus>;
+
+/// Which calls of a file fail, in addition to its draws.
+#[derive(Clone, Copy)]
+pub struct Habits {
+    /// A sync does nothing and reports success.
+    pub is_lying: bool,
+    /// Calls fail from some call on, and no crash changes the rates of the draws.
+    pub is_fused: bool,
+    /// How many calls succeed before the others fail. A crash ends that.
+    pub calls: u64,
 }
 
-impl<A: Disk, B: Disk, C: Disk> Disk for File<A, B, C> {
-    ghost use Rattle.std.specs.Prelude.{ℕ, IsTrue};
-    ghost use Rattle.blob_sql.specs.File.{by_kind, leaves_by_kind, by_each};
+/// A file that fails and crashes by the draws of its disk and by its habits. It is one type, so that the database code is compiled
+/// once.
+///
+/// Its contract says that a crash leaves all written bytes, synced or not. That satisfies `Disk`, also if a sync does nothing. It
+/// doesn't implement `Crash`, because a crash leaves what its inner disk leaves.
+#[derive(Drop)]
+pub struct File {
+    inner: BlobFile,
+    is_lying: bool,
+    is_fused: bool,
+    calls_left: u64,
+    refused: u64,
+    sync_refused: bool,
+}
 
-    ghost seen = { by_kind A.Disk.seen B.Disk.seen C.Disk.seen };
+impl File {
+    pub fn new(inner: BlobFile, habits: Habits) -> File {
+        File {
+            inner,
+            is_lying: habits.is_lying,
+            is_fused: habits.is_fused,
+            calls_left: habits.calls,
+            refused: 0,
+            sync_refused: false,
+        }
+    }
+}
 
-    ghost may_leave = { leaves_by_kind A.Disk.may_leave B.Disk.may_leave C.Disk.may_leave };
+/// A disk that can crash.
+pub trait Crashing: Disk {
+    /// Crashes: bytes that aren't durable are lost by the disk's draws. Faults are then drawn with these rates. A fused
+    /// file ignores the rates, and no call of it fails any more.
+    fn crash_to(&mut self, config: Config)
+        requires { IsNever (partial_resizes config.resize_rate) };
+}
 
-    ghost is_usable = { by_kind A.Disk.is_usable B.Disk.is_usable C.Disk.is_usable };
+impl Crashing for File {
+    fn crash_to(&mut self, config: Config) {
+        self.inner.crash();
+        self.calls_left = u64::MAX;
+        self.sync_refused = false;
+        if !self.is_fused {
+            self.inner.set_config(config);
+        }
+    }
+}
 
-    ghost faults = { by_kind A.Disk.faults B.Disk.faults C.Disk.faults };
+/// Counts a call, which fails if none is left.
+fn spend(calls_left: &mut u64, refused: &mut u64) -> io::Result<()>
+    ensures faults { CountsFault result refused.old refused.new }
+    ensures kind { finds_no_room result ≡ false }
+{
+    if *calls_left == 0 {
+        *refused = refused.saturating_add(1);
+        return Err(io::Error::other("the machine has stopped"));
+    }
+    *calls_left -= 1;
+    Ok(())
+}
 
-    ghost tally_of = { by_kind A.Disk.tally_of B.Disk.tally_of C.Disk.tally_of };
+impl Disk for File {
+    ghost use Rattle.std.specs.Prelude.{◌≡◌, ◌+◌, ◌&&◌, not, refl, true};
+    ghost use Rattle.blob_disk.specs.Calls.{seen_of, is_usable_of, faults_of, counts_of};
 
-    ghost is_clean = { by_kind A.Disk.is_clean B.Disk.is_clean C.Disk.is_clean };
+    ghost seen = { λ d. seen_of d.inner };
 
-    ghost key_of = { by_kind A.Disk.key_of B.Disk.key_of C.Disk.key_of };
+    ghost may_leave = { λ d c. c ≡ seen_of d.inner };
 
-    ghost is_fair = { by_kind A.Disk.is_fair B.Disk.is_fair C.Disk.is_fair };
+    ghost is_usable = { λ d. is_usable_of d.inner && not d.sync_refused };
 
-    ghost is_mixing = { by_kind A.Disk.is_mixing B.Disk.is_mixing C.Disk.is_mixing };
+    ghost faults = { λ d. faults_of d.inner + d.refused };
 
-    ghost seen_may_stay = { by_each (λ f. leaves_by_kind A.Disk.may_leave B.Disk.may_leave C.Disk.may_leave f (by_kind A.Disk.seen B.Disk.seen C.Disk.seen f)) A.Disk.seen_may_stay B.Disk.seen_may_stay C.Disk.seen_may_stay };
+    ghost tally_of = { λ d. counts_of d.inner };
 
-    ghost fair_if_clean = { by_each (λ f. (key : ℕ) → IsTrue (by_kind A.Disk.is_clean B.Disk.is_clean C.Disk.is_clean f) → IsTrue (by_kind A.Disk.is_fair B.Disk.is_fair C.Disk.is_fair f key)) A.Disk.fair_if_clean B.Disk.fair_if_clean C.Disk.fair_if_clean };
+    ghost key_of = { λ _. 0 };
+
+    ghost is_clean = { λ _. true };
+
+    ghost is_fair = { λ _ _. true };
+
+    ghost fair_if_clean = { λ _ _ _. refl };
+
+    ghost seen_may_stay = { λ _. refl };
+
+    ghost is_mixing = { λ d. ⟦<BlobFile as Disk>⟧.is_mixing d.inner && not d.is_lying };
 
     fn mixes(&self) -> bool {
-        match self {
-            File::Drawn(disk) => disk.mixes(),
-            File::Lying(disk) => disk.mixes(),
-            File::Fused(disk) => disk.mixes(),
-        }
+        self.inner.mixes() && !self.is_lying
     }
 
     fn key(&self) -> u64 {
-        match self {
-            File::Drawn(disk) => disk.key(),
-            File::Lying(disk) => disk.key(),
-            File::Fused(disk) => disk.key(),
-        }
+        self.inner.key()
     }
 
     fn tally(&self) -> Tally {
-        match self {
-            File::Drawn(disk) => disk.tally(),
-            File::Lying(disk) => disk.tally(),
-            File::Fused(disk) => disk.tally(),
-        }
+        self.inner.tally()
     }
 
     fn may_be_used(&self) -> bool {
-        match self {
-            File::Drawn(disk) => disk.may_be_used(),
-            File::Lying(disk) => disk.may_be_used(),
-            File::Fused(disk) => disk.may_be_used(),
-        }
+        self.inner.may_be_used() && !self.sync_refused
     }
 
     fn len(&mut self) -> io::Result<usize> {
-        match self {
-            File::Drawn(disk) => disk.len(),
-            File::Lying(disk) => disk.len(),
-            File::Fused(disk) => disk.len(),
-        }
+        spend(&mut self.calls_left, &mut self.refused)?;
+        self.inner.len()
     }
 
     fn read_at(&mut self, at: usize, buf: &mut [u8]) -> io::Result<()> {
-        match self {
-            File::Drawn(disk) => disk.read_at(at, buf),
-            File::Lying(disk) => disk.read_at(at, buf),
-            File::Fused(disk) => disk.read_at(at, buf),
-        }
+        spend(&mut self.calls_left, &mut self.refused)?;
+        self.inner.read_at(at, buf)
     }
 
     fn read_checked(&mut self, key: u64, want: u64, at: usize, buf: &mut [u8]) -> io::Result<()> {
-        match self {
-            File::Drawn(disk) => disk.read_checked(key, want, at, buf),
-            File::Lying(disk) => disk.read_checked(key, want, at, buf),
-            File::Fused(disk) => disk.read_checked(key, want, at, buf),
-        }
+        spend(&mut self.calls_left, &mut self.refused)?;
+        self.inner.read_checked(key, want, at, buf)
     }
 
     fn write_at(&mut self, at: usize, bytes: &[u8]) -> io::Result<()> {
-        match self {
-            File::Drawn(disk) => disk.write_at(at, bytes),
-            File::Lying(disk) => disk.write_at(at, bytes),
-            File::Fused(disk) => disk.write_at(at, bytes),
-        }
+        spend(&mut self.calls_left, &mut self.refused)?;
+        self.inner.write_at(at, bytes)
     }
 
     fn set_len(&mut self, len: usize) -> io::Result<()> {
-        match self {
-            File::Drawn(disk) => disk.set_len(len),
-            File::Lying(disk) => disk.set_len(len),
-            File::Fused(disk) => disk.set_len(len),
-        }
+        spend(&mut self.calls_left, &mut self.refused)?;
+        self.inner.set_len(len)
     }
 
     fn sync(&mut self) -> io::Result<()> {
-        match self {
-            File::Drawn(disk) => disk.sync(),
-            File::Lying(disk) => disk.sync(),
-            File::Fused(disk) => disk.sync(),
+        if let Err(error) = spend(&mut self.calls_left, &mut self.refused) {
+            self.sync_refused = true;
+            return Err(error);
         }
+        if self.is_lying {
+            return Ok(());
+        }
+        self.inner.sync()
     }
 }

@@ -12,7 +12,6 @@
 mod counts;
 mod disks;
 mod file;
-mod lying;
 mod mode;
 mod state;
 mod transaction;

@@ -2,7 +2,8 @@
 ghost use Rattle.blob_faulty.specs.Certain.{IsNever, partial_resizes};
 
 use crate::counts::{Counts, add};
-use crate::disks::{Crashing, files};
+use crate::disks::files;
+use crate::file::Crashing;
 use crate::mode::{Faults, Mode, below};
 use crate::state::{State, read};
 use crate::transaction::fill;

@@ -1,5 +1,4 @@
 pub mod Crashing
-pub mod Table
 pub mod Adding
 pub mod Visiting
 pub mod Naming

@@ -7,7 +7,8 @@ use Rattle.blob_tree.specs.Trees.{DecisionTree, Leaf, Choice, Advances, IsLeaf, 
 use Rattle.blob_lab_model.specs.States.{State}
 use Rattle.blob_choices.specs.Decided.{Decides, path_stream, zeros}
 use Rattle.blob_states.specs.Crashed.{crash_draws, lines_left}
-use Rattle.blob_states.specs.CrashStates.{AreLeft, IsFound, IsLeft, LeftState, left_by, lines_in, only_words, with_state}
+use Rattle.blob_distinct.specs.Found.{LeftState, left_by, lines_in, with_state}
+use Rattle.blob_states.specs.CrashStates.{AreLeft, IsFound, IsLeft, only_words}
 use Rattle.blob_states.specs.Recorded.{Name}
 use Rattle.blob_states.proofs.Crashing.{Took, along, same_lines}
 use Rattle.blob_states.proofs.Adding.{all_with, has_now, has_still, once_with}

@@ -4,7 +4,7 @@ use Rattle.std.specs.Global.{Global}
 use Rattle.std.specs.List.{All, AllPairs, Contains, list_any}
 use Rattle.std.specs.Str.{bytes_eq}
 use Rattle.rand_core.specs.Stream.{Stream}
-use Rattle.indexmap.specs.IndexMap.{IndexMap}
+use Rattle.blob_distinct.specs.Found.{LeftState, lines_in, states_in}
 use Rattle.blob_header.specs.Refusals.{Memory}
 use Rattle.blob_script.specs.declared.call.Call.TheVariants.{Crash}
 use Rattle.blob_script.specs.declared.reply.Reply.{Reply}
@@ -21,14 +21,6 @@ use Rattle.blob_states.specs.Recorded.{HaveEachFile, Name}
 use Rattle.blob_states.specs.declared.states.CrashStates.{CrashStates}
 use Rattle.blob_states.specs.declared.visit.Leaf.{Leaf}
 
--- a state that a crash leaves: the words of such a crash, and the lines that set its files
-pub record LeftState : Type 0 where
-  pub words : List ℕ
-  pub lines : List ℕ
-
-abbrev pub left_by : List ℕ → List ℕ → LeftState
-left_by words lines = record { words = words; lines = lines }
-
 -- these words, and then zeros
 abbrev pub only_words : List ℕ → Stream
 only_words words = scripted_stream (words, None)
@@ -36,24 +28,6 @@ only_words words = scripted_stream (words, None)
 -- A crash by the words of the state leaves it.
 abbrev pub IsLeft : State → List Name → LeftState → Type 0
 IsLeft v names state = state.lines ≡ lines_left v names (only_words state.words)
-
--- the states of a table
-abbrev pub states_in : {S : Type 0} → IndexMap (String Global) (Vec ℕ Global) S → List LeftState
-states_in table = map (λ entry. left_by entry.1.items (string_bytes entry.0)) table.entries
-
-abbrev pub lines_of : LeftState → List ℕ
-lines_of state = state.lines
-
-abbrev pub lines_in : List LeftState → List (List ℕ)
-lines_in states = map lines_of states
-
--- one of the states has these lines
-abbrev pub has_lines : List LeftState → List ℕ → Bool
-has_lines states lines = list_any (bytes_eq lines) (lines_in states)
-
--- a state is left out if an earlier one has the same lines
-abbrev pub with_state : List LeftState → LeftState → List LeftState
-with_state states state = if has_lines states state.lines then states else states ++ state ∷ []
 
 -- the crash along a path leaves one of the states
 abbrev pub IsFound : State → List Name → List LeftState → List Bool → Type 0

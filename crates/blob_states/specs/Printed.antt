@@ -3,7 +3,8 @@ use Rattle.std.specs.Prelude.{◌≡◌, ◌≤◌, ◌<◌, ◌+◌, ◌-◌, �
 use Rattle.std.specs.List.{AllByRecursion, flat_map}
 use Rattle.std.specs.Fmt.{decimal}
 pub use Rattle.blob_states.specs.Crashed.{Appends}
-use Rattle.blob_states.specs.CrashStates.{AreAllLeft, LeftState, states_in}
+use Rattle.blob_distinct.specs.Found.{LeftState, states_in}
+use Rattle.blob_states.specs.CrashStates.{AreAllLeft}
 use Rattle.blob_states.specs.Recorded.{state_after}
 use Rattle.blob_states.specs.ScriptTexts.{IsBadAt, IsScriptOf}
 use Rattle.blob_states.specs.declared.print.Total.{Total}

@@ -1,7 +1,6 @@
 //! The states in which a crash could have left a recorded run: after each of its calls, by every outcome of the crash's draws.
 #![tactic(auto)]
 
-mod found;
 mod images;
 mod names;
 mod print;

@@ -2,7 +2,7 @@
 ghost use Rattle.std.specs.Prelude.{◌≡◌, [], IfOk, IfErr, IfSome, OnOk, length, string_bytes};
 ghost use Rattle.blob_states.specs.Printed.{Appends, HasFewerCalls, HasNoStates, IsCrashRange, PrintsStates};
 ghost use Rattle.blob_states.specs.Printed.{call_text, counted, limit_text, point_of, point_text, state_text, total_line, total_of, with_point, words_text};
-ghost use Rattle.blob_states.specs.CrashStates.{left_by};
+ghost use Rattle.blob_distinct.specs.Found.{left_by};
 
 use crate::recorded::Recorded;
 use crate::script::{RefusedScript, read_script};

@@ -4,12 +4,13 @@ ghost use Rattle.blob_header.specs.Refusals.{IsMemory};
 ghost use Rattle.blob_states.specs.CrashStates.{AreStatesOf};
 ghost use Rattle.blob_states.specs.Recorded.{state_after};
 
-use crate::found::add;
 use crate::names::names_until;
 use crate::recorded::Recorded;
 use crate::visit::visit;
 use blob_base::Error;
 use blob_choices::laws::draws;
+use blob_distinct::found::add;
+use blob_distinct::limit::may_try;
 use blob_tree::Explorer;
 use indexmap::IndexMap;
 use std::alloc::Global;
@@ -46,7 +47,7 @@ pub fn crash_states(
     let mut states = IndexMap::new(alloc);
     let mut outcomes = 0;
     let mut is_complete = false;
-    'outcomes: while outcomes < limit && !is_complete {
+    'outcomes: while !is_complete && may_try(outcomes, limit) {
         let leaf = visit(alloc, run, count, &names, &explorer, &mut spare)?;
         let taken = leaf.words.len();
         add(&mut states, leaf.lines, leaf.words)?;

@@ -260,15 +260,20 @@ fn look_up(word: &str, count: usize) -> Option<(&'static str, Ask)> {
 pub fn read<'a>(alloc: Global, line: &'a str) -> Result<(Ask, Args<'a>), Error> {
     let (word, text) = line.split_once(' ').unwrap_or((line, ""));
     let tokens: Vec<&str> = line.split(' ').collect(alloc)?;
-    let mut rest = tokens.as_slice();
+    let (letters, ask) = look_up(word, tokens.len().wrapping_sub(1)).ok_or(Error::Closed)?;
     let mut args = Args::new(alloc, text);
-    let count = rest.len().wrapping_sub(1);
-    let (letters, ask) = look_up(word, count).ok_or(Error::Closed)?;
+    take_each(&mut args, letters, &tokens)?;
+    Ok((ask, args))
+}
+
+// Takes the arguments of these letters. The first token is the call's word.
+fn take_each(args: &mut Args<'_>, letters: &str, tokens: &[&str]) -> Result<(), Error> {
+    let mut rest = tokens;
     for letter in letters.bytes() {
         if let [_, later @ ..] = rest {
             rest = later;
         }
         args.take(letter, rest)?;
     }
-    Ok((ask, args))
+    Ok(())
 }

@@ -62,6 +62,39 @@ fn start(started: &mut Started, handle: Handle) -> Result<Found, Error> {
     Ok(Found::Started(number, marker))
 }
 
+// Runs a write.
+fn write<S: Durable, B: Blob<S>>(
+    store: &mut S,
+    blob: &mut B,
+    own: Own,
+    args: &mut Args<'_>,
+) -> Result<Found, Error> {
+    let [_, at, _, _] = args.numbers;
+    match own {
+        Own::Write => blob
+            .write_at(store, at, args.take_bufs(), WriteOptions::default())
+            .map(done),
+        Own::WriteSynced => blob
+            .write_at(store, at, args.take_bufs(), WriteOptions::SYNC)
+            .map(done),
+        Own::WriteFrom => blob
+            .write_from(store, at, &args.take_bytes(), WriteOptions::default())
+            .map(done),
+        Own::WriteFromSynced => blob
+            .write_from(store, at, &args.take_bytes(), WriteOptions::SYNC)
+            .map(done),
+        _ => Err(Error::Closed),
+    }
+}
+
+/// Takes a started sync. Returns `Closed` if there is none.
+pub fn taken(started: &mut Started, number: usize) -> Result<Handle, Error> {
+    match started.get_mut(number) {
+        Some(started) => started.take().ok_or(Error::Closed),
+        None => Err(Error::Closed),
+    }
+}
+
 /// Runs a call through a handle.
 pub fn call<S: Durable, B: Blob<S>>(
     store: &mut S,
@@ -79,18 +112,6 @@ pub fn call<S: Durable, B: Blob<S>>(
             Some(buf) => read_into(store, blob, at, len as usize, buf),
             None => Err(Error::Closed),
         },
-        Own::Write => blob
-            .write_at(store, at, args.take_bufs(), WriteOptions::default())
-            .map(done),
-        Own::WriteSynced => blob
-            .write_at(store, at, args.take_bufs(), WriteOptions::SYNC)
-            .map(done),
-        Own::WriteFrom => blob
-            .write_from(store, at, &args.take_bytes(), WriteOptions::default())
-            .map(done),
-        Own::WriteFromSynced => blob
-            .write_from(store, at, &args.take_bytes(), WriteOptions::SYNC)
-            .map(done),
         Own::Resize => blob.resize(store, at).map(done),
         Own::Sync => blob.sync(store).map(done),
         Own::StartSync => start(started, blob.start_sync(store)),
@@ -99,6 +120,6 @@ pub fn call<S: Durable, B: Blob<S>>(
         Own::Current => Ok(Found::Is(store.is_current(blob.origin_ref()))),
         Own::Live => live(store, blob, at),
         Own::All => all(store, blob),
-        _ => Err(Error::Closed),
+        _ => write(store, blob, own, args),
     }
 }

@@ -17,6 +17,28 @@ pub struct Layers {
     above: Option<WrapperPlace<Wrapper<Memory>>>,
 }
 
+// Each function that makes a wrapper over a wrapper, or takes or leaves one, is one by itself: the proof of a function that does
+// more than that takes most of a minute.
+fn over(
+    alloc: Global,
+    inner: Wrapper<Memory>,
+    words: Vec<u64>,
+) -> Result<WrapperPlace<Wrapper<Memory>>, Error> {
+    WrapperPlace::new(alloc, inner, words, (0, 0))
+}
+
+fn parted(above: WrapperPlace<Wrapper<Memory>>) -> Result<(Wrapper<Memory>, usize), Error> {
+    above.into_inner()
+}
+
+fn call_of_above(
+    above: &mut WrapperPlace<Wrapper<Memory>>,
+    own: Own,
+    args: &mut Args<'_>,
+) -> Result<Found, Error> {
+    above.place.call_wrapper(own, args)
+}
+
 impl Layers {
     pub fn new(alloc: Global, below: WrapperPlace<Memory>) -> Layers {
         Layers {
@@ -41,14 +63,19 @@ impl Layers {
         }
         let words = mem::replace(&mut args.words, Vec::new(self.alloc));
         let inner = self.below.take();
-        self.above = Some(WrapperPlace::new(self.alloc, inner, words, (0, 0))?);
+        let above = over(self.alloc, inner, words)?;
+        self.put(above);
         Ok(done(()))
+    }
+
+    fn put(&mut self, above: WrapperPlace<Wrapper<Memory>>) {
+        self.above = Some(above);
     }
 
     // Takes the inner wrapper out again, for its handles. Returns how many words the outer one took.
     fn unwrap(&mut self) -> Result<Found, Error> {
         let above = self.above.take().ok_or(Error::Closed)?;
-        let (inner, taken) = above.into_inner()?;
+        let (inner, taken) = parted(above)?;
         self.below.put_back(inner);
         Ok(Found::Taken(taken))
     }
@@ -59,7 +86,7 @@ impl Layers {
             Own::Wrap => self.wrap(args),
             Own::Unwrap => self.unwrap(),
             _ => match &mut self.above {
-                Some(above) => above.place.call_wrapper(own, args),
+                Some(above) => call_of_above(above, own, args),
                 None => self.below.call(own, args),
             },
         }

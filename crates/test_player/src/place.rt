@@ -80,9 +80,20 @@ impl<S: Storage + Drop> Place<S> {
     }
 
     fn finish(&mut self, number: usize) -> Result<Found, Error> {
-        let started = self.started.get_mut(number).ok_or(Error::Closed)?;
-        let started = started.take().ok_or(Error::Closed)?;
+        let started = handles::taken(&mut self.started, number)?;
         self.store.finish(started).map(done)
+    }
+
+    // Runs a removal or a scan.
+    fn call_of_names(&mut self, own: Own, args: &Args<'_>) -> Result<Found, Error> {
+        match own {
+            Own::Remove => self
+                .store
+                .remove(&args.partition, Some(&args.name))
+                .map(done),
+            Own::RemovePartition => self.store.remove(&args.partition, None).map(done),
+            _ => self.store.scan(&args.partition).map(names),
+        }
     }
 
     /// Runs a call of every store.
@@ -92,12 +103,7 @@ impl<S: Storage + Drop> Place<S> {
             Own::OpenVersioned => self.open_versioned(args),
             Own::Fresh => self.fresh(args),
             Own::Same => self.is_same(args),
-            Own::Remove => self
-                .store
-                .remove(&args.partition, Some(&args.name))
-                .map(done),
-            Own::RemovePartition => self.store.remove(&args.partition, None).map(done),
-            Own::Scan => self.store.scan(&args.partition).map(names),
+            Own::Remove | Own::RemovePartition | Own::Scan => self.call_of_names(own, args),
             Own::Finish => self.finish(args.handle()),
             _ => match self.blobs.get_mut(args.handle()) {
                 Some(blob) => handles::call(&mut self.store, blob, &mut self.started, own, args),

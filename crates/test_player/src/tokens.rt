@@ -111,25 +111,40 @@ pub fn configured(alloc: Global, config: Config, setting: Line) -> Result<Config
 /// Parses an error by its name and its fields; `-` is none.
 pub fn error(alloc: Global, tokens: &[&str]) -> Result<Option<Error>, Error> {
     Ok(match tokens {
-        ["-"] => None,
-        ["OffsetOverflow"] => Some(Error::OffsetOverflow),
-        ["BlobInsufficientLength"] => Some(Error::BlobInsufficientLength),
-        ["Closed"] => Some(Error::Closed),
-        ["ReadFailed"] => Some(Error::ReadFailed),
-        ["WriteFailed"] => Some(Error::WriteFailed),
-        ["Injected"] => Some(Error::Injected),
-        ["Memory"] => Some(Error::Memory(AllocError)),
-        ["GenerationsExhausted"] => Some(Error::GenerationsExhausted),
-        ["BlobLayoutMismatch", oldest, newest, found] => Some(Error::BlobLayoutMismatch {
-            expected: layout(oldest)?..=layout(newest)?,
-            found: layout(found)?,
-        }),
-        ["BlobVersionMismatch", first, last, found] => Some(Error::BlobVersionMismatch {
-            expected: version(first)?..=version(last)?,
-            found: version(found)?,
-        }),
+        [] | ["-"] => None,
+        [name] => Some(error_without_fields(name)),
+        ["BlobLayoutMismatch", oldest, newest, found] => {
+            Some(layout_mismatch(oldest, newest, found)?)
+        }
+        ["BlobVersionMismatch", first, last, found] => Some(version_mismatch(first, last, found)?),
         [name, texts @ ..] => Some(error_with_texts(alloc, name, texts)?),
-        [] => None,
+    })
+}
+
+fn error_without_fields(name: &str) -> Error {
+    match name {
+        "OffsetOverflow" => Error::OffsetOverflow,
+        "BlobInsufficientLength" => Error::BlobInsufficientLength,
+        "ReadFailed" => Error::ReadFailed,
+        "WriteFailed" => Error::WriteFailed,
+        "Injected" => Error::Injected,
+        "Memory" => Error::Memory(AllocError),
+        "GenerationsExhausted" => Error::GenerationsExhausted,
+        _ => Error::Closed,
+    }
+}
+
+fn layout_mismatch(oldest: &str, newest: &str, found: &str) -> Result<Error, Error> {
+    Ok(Error::BlobLayoutMismatch {
+        expected: layout(oldest)?..=layout(newest)?,
+        found: layout(found)?,
+    })
+}
+
+fn version_mismatch(first: &str, last: &str, found: &str) -> Result<Error, Error> {
+    Ok(Error::BlobVersionMismatch {
+        expected: version(first)?..=version(last)?,
+        found: version(found)?,
     })
 }
 

@@ -122,6 +122,10 @@ fn rebuilt(mut memory: Memory) -> Memory {
     Memory::from_snapshot(memory.take_snapshot())
 }
 
+fn again(memory: Memory, is_rebuilt: bool) -> Memory {
+    if is_rebuilt { rebuilt(memory) } else { memory }
+}
+
 impl WrapperPlace<Memory> {
     /// Takes the wrapper and leaves an empty one.
     pub fn take(&mut self) -> Wrapper<Memory> {
@@ -136,15 +140,18 @@ impl WrapperPlace<Memory> {
     // Takes the store out of its wrapper and wraps it again, with the same generator and configuration. If
     // `is_rebuilt`, rebuilds the store from a snapshot first. Handles stay. Returns how many words were taken so far.
     fn rewrap(&mut self, is_rebuilt: bool) -> Result<Found, Error> {
-        let (mut memory, rng, config) = unwrapped(self.take());
-        if is_rebuilt {
-            memory = rebuilt(memory);
-        }
+        let (memory, rng, config) = unwrapped(self.take());
+        let memory = again(memory, is_rebuilt);
+        let rng = self.next_generator(rng)?;
+        self.put_back(wrapped(self.alloc, memory, rng, config));
+        Ok(Found::Taken(self.given.wrapping_sub(self.left)))
+    }
+
+    // Returns a generator of the words that are left, and counts them.
+    fn next_generator(&mut self, rng: ScriptedRng) -> Result<ScriptedRng, Error> {
         let left = words::left(self.alloc, rng, self.left)?.ok_or(Error::Closed)?;
         self.left = left.len();
-        let rng = words::generator(left)?;
-        self.place.store = wrapped(self.alloc, memory, rng, config);
-        Ok(Found::Taken(self.given.wrapping_sub(self.left)))
+        words::generator(left)
     }
 
     // Admits a name, which retires its pending entries.

@@ -2,9 +2,9 @@
 ghost use Rattle.std.specs.Prelude.{◌≡◌, IfOk, Some, None, option_map, codes, if◌then◌else◌};
 ghost use Rattle.std.specs.Range.{range_inclusive_start, range_inclusive_end, range_inclusive_exhausted};
 ghost use Rattle.blob_script.specs.Acts.{Open, OpenLoose, act_of, versions_of};
-ghost use Rattle.blob_script.specs.CallLines.{call, open_form};
-ghost use Rattle.blob_script.specs.Forms.{name, versions};
-ghost use Rattle.blob_script.specs.Tokens.{version_of};
+ghost use Rattle.blob_script.specs.CallLines.{call, open_form, versions, writing};
+ghost use Rattle.blob_tokens.specs.Forms.{name};
+ghost use Rattle.blob_tokens.specs.Tokens.{version_of};
 
 use crate::Call;
 use crate::script::RefusedLine;
@@ -24,12 +24,8 @@ pub(crate) fn call(alloc: Global, word: &str, tokens: &mut Tokens) -> Result<Cal
         "admit" => admit(alloc, tokens),
         "close" => Ok(Call::Close(tokens.number()? as usize)),
         "read" => read(tokens),
-        "write" | "writes" => Ok(Call::Write {
-            handle: tokens.number()? as usize,
-            offset: tokens.number()?,
-            bytes: tokens.bytes(alloc)?,
-            sync: word == "writes",
-        }),
+        "write" => write(alloc, tokens, false),
+        "writes" => write(alloc, tokens, true),
         "resize" => resize(tokens),
         "size" => Ok(Call::Size(tokens.number()? as usize)),
         "sync" => Ok(Call::Sync(tokens.number()? as usize)),
@@ -82,6 +78,18 @@ fn read(tokens: &mut Tokens) -> Result<Call, RefusedLine>
         handle: tokens.number()? as usize,
         offset: tokens.number()?,
         len: tokens.number()? as usize,
+    })
+}
+
+fn write(alloc: Global, tokens: &mut Tokens, sync: bool) -> Result<Call, RefusedLine>
+    ensures ok { IfOk result (λ asked. writing sync tokens.old ≡ Some (act_of asked, tokens.new)) }
+    ensures bad { result ≡ Err RefusedLine.BadCall → writing sync tokens.old ≡ None }
+{
+    Ok(Call::Write {
+        handle: tokens.number()? as usize,
+        offset: tokens.number()?,
+        bytes: tokens.bytes(alloc)?,
+        sync,
     })
 }
 

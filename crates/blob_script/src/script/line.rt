@@ -1,6 +1,6 @@
 // One line of a script.
 ghost use Rattle.std.specs.Prelude.{◌≡◌, IfOk, Some, None};
-ghost use Rattle.blob_script.specs.Forms.{words};
+ghost use Rattle.blob_tokens.specs.Forms.{words};
 ghost use Rattle.blob_script.specs.Lines.{line_of, said_by};
 
 use crate::Call;
@@ -62,10 +62,8 @@ pub fn read_line(alloc: Global, line: &[u8]) -> Result<Line, RefusedLine>
         "config" => Line::Configure(read_setting(&mut tokens).ok_or(RefusedLine::BadCall)?),
         _ => Line::Call(call(alloc, word, &mut tokens)?),
     };
-    match tokens.next() {
-        None => Ok(read),
-        Some(_) => Err(RefusedLine::BadCall),
-    }
+    tokens.end()?;
+    Ok(read)
 }
 
 /// Parses the remaining tokens as words, at least one.

@@ -7,7 +7,7 @@ ghost use Rattle.blob_draws.specs.Rows.{row_in, rows_in};
 ghost use Rattle.blob_script.specs.Replies.{reply_line, hex_field, name_fields, row_field};
 
 use crate::Reply;
-use crate::script::hex_text::encode_hex;
+use crate::script::encode_hex;
 use blob_base::RefusalLine;
 use std::alloc::AllocError;
 use std::mem;

@@ -5,9 +5,9 @@ use Rattle.std.specs.List.{flat_map}
 use Rattle.std.specs.Map.Iter.{deref_pair}
 use Rattle.std.proofs.lemmas.List.{flat_map_more, map-append}
 use Rattle.std.proofs.lemmas.Map.Iter.{iter_end}
-use Rattle.blob_states.specs.CrashStates.{LeftState, left_by}
+use Rattle.blob_distinct.specs.Found.{LeftState, left_by}
 use Rattle.blob_states.specs.Printed.{state_text}
-use Rattle.blob_states.proofs.Table.{state_in}
+use Rattle.blob_distinct.specs.Found.{state_in}
 use Rattle.blob_states.proofs.print.print_states.Goals as goal
 
 pub loop-lines-preserved : goal.loop-lines-preserved

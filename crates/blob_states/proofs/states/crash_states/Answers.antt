@@ -2,7 +2,8 @@ use Rattle.std.proofs.Common.{rules, arith, ◌≡◌, Bool, false, not, if◌th
 use Rattle.blob_model.specs.Files.{all_needs}
 use Rattle.blob_script.specs.Preambles.{words_of}
 use Rattle.blob_script.specs.Settings.{no_rates}
-use Rattle.blob_states.specs.CrashStates.{TakesPath, states_in}
+use Rattle.blob_distinct.specs.Found.{states_in}
+use Rattle.blob_states.specs.CrashStates.{TakesPath}
 use Rattle.blob_states.specs.Recorded.{first_acts, first_images, names_of, state_after}
 use Rattle.blob_states.proofs.Naming.{named}
 use Rattle.blob_states.proofs.Visiting.{all_found, next_tried}

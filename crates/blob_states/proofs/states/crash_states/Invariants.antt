@@ -2,7 +2,7 @@ use Rattle.std.proofs.Common.{◌≤◌, ◌-◌, if◌then◌else◌, Some, Non
 use Rattle.blob_tree.specs.Trees.{DecisionTree}
 use Rattle.blob_choices.specs.Decided.{Decides}
 use Rattle.blob_states.specs.Crashed.{crash_draws}
-use Rattle.blob_states.specs.CrashStates.{states_in}
+use Rattle.blob_distinct.specs.Found.{states_in}
 use Rattle.blob_states.specs.Recorded.{names_of, state_after}
 use Rattle.blob_states.proofs.Visiting.{Tried}
 use Rattle.blob_states.proofs.states.crash_states.Given as goal

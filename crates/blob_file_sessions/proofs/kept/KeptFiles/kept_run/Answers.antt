@@ -7,7 +7,7 @@ use Rattle.blob_fs.specs.declared.crash.Crash.{Crash}
 use Rattle.blob_model.specs.Draws.{Row}
 use Rattle.blob_sessions.specs.Parts.{no_run, run_from}
 use Rattle.blob_sessions.specs.declared.parts.KeptRun.{KeptRun}
-use Rattle.blob_sessions.specs.declared.ran.TheConstants.{OTHER_REPLY}
+use Rattle.blob_statuses.specs.declared.ran.TheConstants.{OTHER_REPLY}
 use Rattle.blob_file_sessions.specs.LastParts.{FindsRow, of_last, rows_in}
 use Rattle.blob_file_sessions.specs.declared.reply.Reply.{Reply}
 use Rattle.blob_file_sessions.specs.declared.reply.Reply.TheVariants.{Crashed}

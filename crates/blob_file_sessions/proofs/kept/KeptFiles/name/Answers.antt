@@ -4,8 +4,8 @@ use Rattle.std.specs.Prelude.{slice_get}
 use Rattle.std.proofs.lemmas.Option.{slice_get-get_or}
 use Rattle.blob_directory.specs.declared.edit.Binding.{Binding}
 use Rattle.blob_sessions.specs.Parts.{CopiesBytes}
-use Rattle.blob_sessions.specs.declared.ran.Ran.{Ran}
-use Rattle.blob_sessions.specs.declared.ran.TheConstants.{OTHER_REPLY}
+use Rattle.blob_statuses.specs.declared.ran.Ran.{Ran}
+use Rattle.blob_statuses.specs.declared.ran.TheConstants.{OTHER_REPLY}
 use Rattle.blob_file_sessions.specs.LastParts.{CopiesEntry, names_in, of_last}
 use Rattle.blob_file_sessions.specs.Replies.{bound_reply, no_reply}
 use Rattle.blob_file_sessions.specs.declared.call.FileReply.{FileReply}

@@ -1,7 +1,7 @@
 use Rattle.std.proofs.Common.{rules, arith, ◌≡◌, ◌∙◌, sym, Some, None, [], ◌∷◌, ap}
 use Rattle.std.proofs.lemmas.Grind.{common_steps}
-use Rattle.blob_script.specs.Forms.{all_tokens}
-use Rattle.blob_script.specs.Tokens.{word_of}
+use Rattle.blob_tokens.specs.Forms.{all_tokens}
+use Rattle.blob_tokens.specs.Tokens.{word_of}
 use Rattle.blob_script.proofs.WordLists.{behind, words_stop, words_bad, words_missing, words_all, words_end}
 use Rattle.blob_script.proofs.script.line.words.Goals as goal
 

@@ -1,6 +1,6 @@
 use Rattle.std.proofs.Common.{◌≡◌, length}
-use Rattle.blob_script.specs.Forms.{all_tokens}
-use Rattle.blob_script.specs.Tokens.{word_of}
+use Rattle.blob_tokens.specs.Forms.{all_tokens}
+use Rattle.blob_tokens.specs.Tokens.{word_of}
 use Rattle.blob_script.proofs.WordLists.{behind}
 use Rattle.blob_script.proofs.script.line.words.Given as goal
 

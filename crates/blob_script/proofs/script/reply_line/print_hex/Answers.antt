@@ -1,6 +1,6 @@
 use Rattle.std.proofs.Common.{IsUtf8, subst, sym}
 use Rattle.std.proofs.lemmas.Str.{IsUtf8-had}
-use Rattle.blob_script.proofs.HexDigits.{still_utf8}
+use Rattle.blob_tokens.proofs.HexDigits.{still_utf8}
 use Rattle.blob_script.proofs.script.reply_line.print_hex.Goals as goal
 
 pub from_utf8_unchecked-requires : goal.from_utf8_unchecked-requires

@@ -9,7 +9,7 @@ use Rattle.blob_draws.specs.declared.selections.Selections.{Selections}
 use Rattle.blob_model.specs.Draws.{Row}
 use Rattle.blob_sessions.specs.Parts.{FindsRun, no_run, row_at, run_from}
 use Rattle.blob_sessions.specs.declared.parts.KeptRun.{KeptRun}
-use Rattle.blob_sessions.specs.declared.ran.TheConstants.{OTHER_REPLY}
+use Rattle.blob_statuses.specs.declared.ran.TheConstants.{OTHER_REPLY}
 use Rattle.blob_sessions.proofs.kept.Kept.kept_run.Goals as goal
 
 finds : (last : Option Reply) (selections : Selections) (row from : ℕ) (run : KeptRun) (found : ℕ × Vec Bool Global) → last ≡ Some (Crashed selections) → slice_get (rows_of selections) row ≡ Some found

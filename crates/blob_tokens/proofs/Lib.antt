@@ -1,0 +1,5 @@
+pub mod HexDigits
+pub mod HexLanes
+pub mod HexParts
+pub mod Numbers
+pub mod Tokens

@@ -1,0 +1,3 @@
+pub mod Forms
+pub mod Pairs
+pub mod Tokens
