@@ -14,7 +14,7 @@ use Rattle.blob_model.specs.Opening.{IsOpened, Continued, Begun, Continues, Begi
 use Rattle.blob_model.specs.Places.{Place}
 use Rattle.blob_header.specs.Versions.{is_in_range}
 
-decided : (b : Bool) (number : ℕ) (l : Layout) (v : ℕ) (r : Refusal) (layout : Layout) (version : ℕ) (live : List ℕ)
+pub decided : (b : Bool) (number : ℕ) (l : Layout) (v : ℕ) (r : Refusal) (layout : Layout) (version : ℕ) (live : List ℕ)
     → (if b then Continues number l v else Declines r) ≡ Begins layout version live → ⊥
 decided true number l v r layout version live e = cc
 decided false number l v r layout version live e = cc
@@ -28,7 +28,7 @@ begins_alone p n (Some (Incarnation number l v)) first last layout version live 
     decided (is_in_range first last v) number l v (Refusal.BlobVersionMismatch first last v) layout version live e
 
 -- the file of any other name is the same
-other_file : (f : List ℕ → List ℕ → Option File) (p n q m : List ℕ) (new : Option File) → (bytes_eq p q ≡ true → bytes_eq n m ≡ true → ⊥)
+pub other_file : (f : List ℕ → List ℕ → Option File) (p n q m : List ℕ) (new : Option File) → (bytes_eq p q ≡ true → bytes_eq n m ≡ true → ⊥)
     → with_file f p n new q m ≡ f q m
 other_file f p n q m new apart = ⊎_elim
     (λ y. cond-true (bytes_eq p q) (cond (bytes_eq n m) new (f q m)) (f q m) y

@@ -22,7 +22,7 @@ use Rattle.blob_draws.specs.Recorded.{kept_entries}
 use Rattle.blob_faulty.specs.Fits.{FitsAll}
 use Rattle.blob_faulty.specs.Keeps.{OverMemory}
 use Rattle.blob_faulty.specs.Leaves.{Test}
-use Rattle.blob_faulty.specs.Lends.{with_config}
+use Rattle.blob_faulty.specs.Lends.{with_config, with_rng}
 use Rattle.blob_faulty.specs.Names.{Steps}
 use Rattle.blob_faulty.specs.Wrapper.{Adds, inner_of, inside, pending_of}
 use Rattle.blob_faulty.proofs.FoundSteps.{leaves_added}
@@ -55,6 +55,13 @@ configured store config o test k = record { files = k.files; stands = k.stands; 
 
 pub no_more_set : {R : Type 0} (before after : OverMemory R) (config : Config) → after ≡ with_config before config → FindsNoMore before after
 no_more_set before after config is = λ o test k. subst (λ s. FindsOnly s o test) (sym is) (configured before config o test k)
+
+-- another generator
+drawn_by : {R : Type 0} (store : OverMemory R) (rng : R) (o : Place) (test : Test) → FindsOnly store o test → FindsOnly (with_rng store rng) o test
+drawn_by store rng o test k = record { files = k.files; stands = k.stands; here = k.here; given = k.given; durable = k.durable; crash = k.crash }
+
+pub no_more_drawn : {R : Type 0} (before after : OverMemory R) (rng : R) → after ≡ with_rng before rng → FindsNoMore before after
+no_more_drawn before after rng is = λ o test k. subst (λ s. FindsOnly s o test) (sym is) (drawn_by before rng o test k)
 
 -- the same directory gives the same numbers
 pub same_next : (d d' : Directory) → d' ≡ d → d.next ≤ d'.next

@@ -13,3 +13,4 @@ pub mod Found
 pub mod Blobs
 pub mod Telling
 pub mod Writes
+pub mod Fixed

@@ -1,26 +1,22 @@
 -- What an unsynced write that was done records.
-use Rattle.std.proofs.Common.{◌≡◌, ℕ, List, [], ◌∷◌, true, false, Option, Some, None, ap, refl, sym, ◌∙◌}
+use Rattle.std.proofs.Common.{◌≡◌, ℕ, List, [], ◌∷◌, false, Option, Some, None, ap, refl, sym, ◌∙◌}
 use Rattle.std.specs.Prelude.{codes, option_and_then, option_map}
 use Rattle.rand_core.specs.Stream.{Stream}
-use Rattle.blob_model.specs.Directory.{File, Directory, current, is_current, place_in}
+use Rattle.blob_model.specs.Directory.{Directory, current}
 use Rattle.blob_model.specs.Log.{Choices}
 use Rattle.blob_model.specs.Places.{Place}
 use Rattle.blob_model.specs.Rates.{Rate}
 use Rattle.blob_model.specs.declared.mode.PartialWriteMode.{PartialWriteMode}
-use Rattle.blob_memory.specs.Store.{directory, place}
+use Rattle.blob_memory.specs.Store.{directory}
 use Rattle.blob_draws.specs.Changes.{loose, write_changes}
 use Rattle.blob_draws.specs.Faults.{WriteFate, Idle, Uncounted, Done, Unsynced, Failed, retention, write_fate}
 use Rattle.blob_draws.specs.Recorded.{recorded_write}
 use Rattle.blob_draws.specs.declared.config.Config.{Config}
 use Rattle.blob_faulty.specs.Keeps.{OverMemory}
-use Rattle.blob_faulty.specs.Wrapper.{inner_of, inside}
-use Rattle.blob_journal.specs.declared.journaled.Journaled.{Journaled}
-use Rattle.blob_journal.specs.declared.store.FileBlob.{FileBlob}
-use Rattle.blob_journal.specs.Blobs.{IsFileOf, file_name}
+use Rattle.blob_faulty.specs.Wrapper.{inner_of}
+use Rattle.blob_journal.specs.Blobs.{file_name}
 use Rattle.blob_journal.specs.Currents.{left_at}
-use Rattle.blob_journal.specs.Journals.{store_of}
 use Rattle.blob_journal.specs.Writes.{IsWrite}
-use Rattle.blob_journal.proofs.Currents.{named_current}
 
 of_loose : (kept : Option (PartialWriteMode × Rate)) (number offset : ℕ) (bytes : List ℕ) → IsWrite offset bytes (loose kept number offset bytes)
 of_loose kept number offset [] = tt
@@ -37,17 +33,7 @@ of_fate (Failed chosen) kept number offset bytes = tt
 pub is_write : (config : Config) (number : ℕ) (stream : Stream) (offset : ℕ) (bytes : List ℕ) → IsWrite offset bytes (recorded_write config number stream false offset bytes None)
 is_write config number stream offset bytes = of_fate (write_fate config false offset bytes stream).0 (retention config.write_rate) number offset bytes
 
--- the blob of an open file is the current one of its number
-
-pub here : {R : Type 0} (j : Journaled R) (inode : ℕ) (file : FileBlob) (durable : List ℕ) → IsFileOf j inode file durable
-    → current (directory (inner_of (store_of j))) (codes "f") (file_name inode) ≡ Some (place (inside file.blob))
-here j inode file durable is = ap (λ (f : Option File). place_in (codes "f") (file_name inode) f) is.current.file ∙ ap (λ (o : Place). let x : Option Place = Some o in x) (sym is.current.is)
-
-pub is_here : {R : Type 0} (j : Journaled R) (inode : ℕ) (file : FileBlob) (durable : List ℕ) → IsFileOf j inode file durable
-    → is_current (directory (inner_of (store_of j))) (place (inside file.blob)) ≡ true
-is_here j inode file durable is = named_current (directory (inner_of (store_of j))) (codes "f") (file_name inode) (place (inside file.blob)) (here j inode file durable is)
-
--- so a crash leaves of the number what it leaves of the blob
+-- a crash leaves of a file's number what it leaves of its current blob
 
 abbrev pub crashed_in : {R : Type 0} → OverMemory R → Choices → ℕ → Option (List ℕ)
 crashed_in store t inode = option_and_then (λ (o : Place). left_at store t o) (current (directory (inner_of store)) (codes "f") (file_name inode))

@@ -47,15 +47,25 @@ SameFilesBut inode j j' = (other : ℕ) → other < 2 ^ 64 → other ≢ inode �
 abbrev pub bytes_of : FileBlob → List ℕ
 bytes_of file = take (size_of file.blob) (live (inside file.blob))
 
+-- its blob is the current one of this number
+abbrev pub IsCurrent : {R : Type 0} → Journaled R → ℕ → FileBlob → Type 0
+IsCurrent j inode file = IsIncarnation (store_of j) (codes "f") (file_name inode) (place (inside file.blob))
+
 -- its blob is that of this number, with these durable bytes
 pub record IsFileOf {R : Type 0} (j : Journaled R) (inode : ℕ) (file : FileBlob) (bytes : List ℕ) : Type 0 where
-  pub current : IsIncarnation (store_of j) (codes "f") (file_name inode) (place (inside file.blob))
+  pub current : IsCurrent j inode file
   pub durable : durable (inner_of (store_of j)) (place (inside file.blob)) ≡ Some bytes
 
 -- calls see these bytes
 pub record Sees (file : FileBlob) (bytes : List ℕ) : Type 0 where
   pub live : live (inside file.blob) ≡ bytes
   pub size : size_of file.blob ≡ length bytes
+
+-- its blob is the current one of this number, with some durable bytes, and its size is that of the bytes that calls see
+pub record IsOpen {R : Type 0} (j : Journaled R) (inode : ℕ) (file : FileBlob) : Type 0 where
+  pub durable : List ℕ
+  pub is : IsFileOf j inode file durable
+  pub tracked : size_of file.blob ≡ length (live (inside file.blob))
 
 -- calls see exactly the durable bytes of this number's blob
 pub record HasDurable {R : Type 0} (j : Journaled R) (inode : ℕ) (file : FileBlob) (bytes : List ℕ) : Type 0 where
@@ -75,12 +85,11 @@ ResizesFile {R} length j file j' file' = (inode : ℕ) (bytes : List ℕ) → Is
 
 -- what calls see of a file is durable
 abbrev pub SyncsFile : {R : Type 0} → Journaled R → FileBlob → Journaled R → FileBlob → Type 0
-SyncsFile {R} j file j' file' = (inode : ℕ) (bytes seen : List ℕ) → IsFileOf j inode file bytes → Sees file seen → HasDurable j' inode file' seen
+SyncsFile {R} j file j' file' = (inode : ℕ) → IsOpen j inode file → HasDurable j' inode file' (bytes_of file)
 
 -- and every crash of the store leaves it
 abbrev pub FixesFile : {R : Type 0} → Journaled R → FileBlob → Journaled R → Type 0
-FixesFile {R} j file j' = (inode : ℕ) (bytes seen : List ℕ) → IsFileOf j inode file bytes → Sees file seen
-    → (kept : Selections) → crashed_file j' kept inode ≡ Some seen
+FixesFile {R} j file j' = (inode : ℕ) → IsOpen j inode file → (kept : Selections) → crashed_file j' kept inode ≡ Some (bytes_of file)
 
 -- if it is this number's file, each other one is the same
 abbrev pub ChangesFile : {R : Type 0} → Journaled R → FileBlob → Journaled R → Type 0
@@ -111,3 +120,15 @@ ResizeShortens = (bytes : List ℕ) (n : ℕ) → n ≤ length bytes → resize 
 -- blobs that are the same after each of two calls are the same after both
 abbrev pub SameTwice : Type 0 → Type 0
 SameTwice R = (a b c : Journaled R) (inode : ℕ) → SameFile inode a b → SameFile inode b c → SameFile inode a c
+
+-- calls see the bytes of an open file
+abbrev pub OpenIsSeen : Type 0 → Type 0
+OpenIsSeen R = (j : Journaled R) (inode : ℕ) (file : FileBlob) → IsOpen j inode file → Sees file (bytes_of file)
+
+-- a file of which calls see the durable bytes is open
+abbrev pub DurableIsOpen : Type 0 → Type 0
+DurableIsOpen R = (j : Journaled R) (inode : ℕ) (file : FileBlob) (bytes : List ℕ) → HasDurable j inode file bytes → IsOpen j inode file
+
+-- the number of an open file has its durable bytes
+abbrev pub OpenIsFound : Type 0 → Type 0
+OpenIsFound R = (j : Journaled R) (inode : ℕ) (file : FileBlob) (is : IsOpen j inode file) → current_file j inode ≡ Some is.durable

@@ -32,3 +32,7 @@ pub record IsIncarnation {R : Type 0} (store : OverMemory R) (p n : List ℕ) (o
   pub layout : Layout
   pub file : (directory (inner_of store)).file p n ≡ Some (Incarnation number layout 0)
   pub is : o ≡ place_of p n number layout
+
+-- each one still is
+abbrev pub KeepsIncarnations : {R : Type 0} → OverMemory R → OverMemory R → Type 0
+KeepsIncarnations before after = (p n : List ℕ) (o : Place) → IsIncarnation before p n o → IsIncarnation after p n o

@@ -9,3 +9,4 @@ pub mod Blobs
 pub mod Incarnations
 pub mod Settling
 pub mod Writes
+pub mod Fixed

@@ -6,8 +6,8 @@ use Rattle.blob_draws.specs.Rows.{table_of}
 use Rattle.blob_draws.specs.declared.selections.Selections.{Selections}
 use Rattle.blob_journal.specs.declared.journaled.Journaled.{Journaled}
 use Rattle.blob_journal.specs.declared.store.FileBlob.{FileBlob}
-use Rattle.blob_journal.specs.Blobs.{IsFileOf, crashed_file}
-use Rattle.blob_journal.specs.Currents.{KeepsFiles, Represents}
+use Rattle.blob_journal.specs.Blobs.{IsCurrent, IsFileOf, crashed_file}
+use Rattle.blob_journal.specs.Currents.{KeepsFiles}
 use Rattle.blob_journal.specs.Journals.{store_of}
 
 -- nothing, or exactly this write, of which a crash may lose any bytes
@@ -23,7 +23,7 @@ pub record RecordsWrite {R : Type 0} (offset : ℕ) (bytes : List ℕ) (j : Jour
   pub entries : List Entry
   pub is : IsWrite offset bytes entries
   pub same : (inode : ℕ) (durable : List ℕ) → IsFileOf j inode file durable → IsFileOf j' inode file' durable
-  pub left : (inode : ℕ) (durable : List ℕ) (kept : Selections) → Represents (store_of j) → IsFileOf j inode file durable
+  pub left : (inode : ℕ) (kept : Selections) → IsCurrent j inode file
       → crashed_file j' kept inode ≡ option_map (λ x. replay_log x entries (chosen_by (table_of kept))) (crashed_file j kept inode)
 
 -- The open files are the same, and a crash leaves the same of each number.

@@ -10,6 +10,7 @@ use rand_core::Rng;
 impl<R: Rng + Drop> Journaled<R> {
     ghost use Rattle.blob_journal.specs.Blobs.{crashed_file, current_file};
     ghost use Rattle.blob_journal.specs.Currents.{Represents};
+    ghost use Rattle.blob_journal.specs.Fixed.{KeepsOpen};
     ghost use Rattle.blob_journal.specs.Journals.{CrashKeeps, GivesNames, store_of};
     ghost use Rattle.blob_journal.specs.Keeping.{KeepsTable, KeepsTold};
 
@@ -26,6 +27,7 @@ impl<R: Rng + Drop> Journaled<R> {
         ensures names { KeepsTable self.old self.new }
         ensures told { KeepsTold self.old self.new }
         ensures bytes { IfOk result (λ rows. (i : ℕ) → current_file self.new i ≡ crashed_file self.old rows i) }
+        ensures still { KeepsOpen self.old self.new }
     {
         leaves::crashed::<R>();
         leaves::same_bytes::<blob_memory::Storage, R>();

@@ -3,7 +3,7 @@ ghost use Rattle.std.specs.Prelude.{◌≡◌, None, [], IfOk, OnOk, OnErr};
 ghost use Rattle.blob_memory.specs.Store.{place};
 ghost use Rattle.blob_faulty.specs.Wrapper.{inside};
 ghost use Rattle.blob_directory.specs.Names.{Same, edit_of};
-ghost use Rattle.blob_journal.specs.Currents.{SameDirectory};
+ghost use Rattle.blob_journal.specs.Currents.{FindsNoMoreBut, SameDirectory};
 ghost use Rattle.blob_journal.specs.Found.{IsKept};
 ghost use Rattle.blob_journal.specs.Keeping.{told_by};
 ghost use Rattle.blob_journal.specs.Settling.{Changes, all_settled};
@@ -36,6 +36,7 @@ fn settle_marked<R: Rng>(
     ensures kept { IsKept store.old journal.old edits.now → IsKept store.new journal.new edits.now }
     ensures told { OnOk result (IsKept store.old journal.old edits.now → told_by journal.new ≡ settled_in (is_marked_in edits.now) 0 (told_by journal.old)) }
     ensures grows { IsKept store.old journal.old edits.now → Grows (told_by journal.old) (told_by journal.new) }
+    ensures beside { FindsNoMoreBut (place (inside journal.old.blob)) store.old store.new }
 {
     for edit in edits {
         if edit.is_wanted {
@@ -46,6 +47,7 @@ fn settle_marked<R: Rng>(
 }
 
 impl<R: Rng + Drop> Journaled<R> {
+    ghost use Rattle.blob_journal.specs.Fixed.{KeepsOpen};
     ghost use Rattle.blob_journal.specs.Settling.{KeepsJournal, SettlesEdits, unsettled_of};
     ghost use Rattle.blob_journal.specs.Writes.{SameCrashes};
     ghost use Rattle.blob_journal.specs.Keeping.{AddsSector, AddsTold, Edits, KeepsTable, KeepsTold, SameBindings, SettlesSome, generator_in, names_in, table_in, told_in, with_generator};
@@ -91,6 +93,7 @@ impl<R: Rng + Drop> Journaled<R> {
         ensures set { self.new ≡ with_generator self.old rng }
         ensures names { KeepsTable self.old self.new }
         ensures told { KeepsTold self.old self.new }
+        ensures still { KeepsOpen self.old self.new }
     {
         self.store.replace_rng(rng)
     }
@@ -100,6 +103,7 @@ impl<R: Rng + Drop> Journaled<R> {
         ensures names { KeepsTable self.old self.new }
         ensures journal { KeepsJournal self.old self.new }
         ensures crashes { SameCrashes self.old self.new }
+        ensures still { KeepsOpen self.old self.new }
     {
         self.store.set_config(config);
     }
@@ -140,6 +144,7 @@ impl<R: Rng + Drop> Journaled<R> {
         ensures refused { OnErr result (SameBindings self.old self.new) }
         ensures told { OnOk result (AddsTold (edit_of edit) self.old self.new) }
         ensures untold { OnErr result (KeepsTold self.old self.new) }
+        ensures still { KeepsOpen self.old self.new }
     {
         self.names.prepare(&edit)?;
         self.unsettled.reserve(1)?;
@@ -169,6 +174,7 @@ impl<R: Rng + Drop> Journaled<R> {
         ensures names { KeepsTable self.old self.new }
         ensures settled { OnOk result (SettlesEdits settles synced self.old self.new) }
         ensures some { SettlesSome self.old self.new }
+        ensures still { KeepsOpen self.old self.new }
     {
         want(self.alloc, &mut self.unsettled, settles, synced)?;
         settle_marked(

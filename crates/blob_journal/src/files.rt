@@ -1,5 +1,6 @@
-//! The blobs of files, beside the journal.
-ghost use Rattle.std.specs.Prelude.{◌≡◌, IfOk, OnOk};
+//! The blobs of files, beside the journal. Each call says, whatever it returns, which open files stay open, and which of their
+//! bytes that no crash changes stay so.
+ghost use Rattle.std.specs.Prelude.{◌≡◌, ◌<◌, IfOk, OnOk, length};
 ghost use Rattle.blob_memory.specs.Store.{place};
 ghost use Rattle.blob_memory.specs.Contents.{items_of};
 ghost use Rattle.blob_faulty.specs.Wrapper.{inside, size_of};
@@ -7,6 +8,7 @@ ghost use Rattle.blob_faulty.specs.Wrapper.{inside, size_of};
 use crate::journaled::Journaled;
 use crate::store::{FILES, FileBlob, Handle, Store, open, read_all, remove, reopen};
 use blob_base::{Blob, Durable, Error, WriteOptions};
+use blob_faulty::laws::current_handles::{found, sizes};
 use blob_faulty::laws::leaves;
 use blob_faulty::laws::outcomes::recorded;
 use rand_core::Rng;
@@ -30,6 +32,7 @@ fn number_of<R: Rng>(blob: &Handle) -> u64
 impl<R: Rng + Drop> Journaled<R> {
     ghost use Rattle.blob_journal.specs.Blobs.{ChangesFile, FixesFile, OpensFile, ResizesFile, SameFiles, SameFilesBut, SyncsFile, bytes_of};
     ghost use Rattle.blob_journal.specs.Currents.{IsGiven, KeepsFiles};
+    ghost use Rattle.blob_journal.specs.Fixed.{ChangesOpen, FixesOpen, IsBeside, KeepsHandles, KeepsOpen, KeepsOpenBut, ReopensFile};
     ghost use Rattle.blob_journal.specs.Journals.{GivesNames, HasFile, KeepsFile, KeepsFilesOf, KeepsGiven, durable_file, store_of};
     ghost use Rattle.blob_journal.specs.Keeping.{KeepsTable, KeepsTold, NotesOpened};
     ghost use Rattle.blob_journal.specs.Settling.{KeepsJournal};
@@ -47,6 +50,8 @@ impl<R: Rng + Drop> Journaled<R> {
         ensures given { IfOk result (λ file. HasFile self.new file) }
         ensures opened { IfOk result (λ file. OpensFile self.old inode self.new file) }
         ensures others { OnOk result (SameFilesBut inode self.old self.new) }
+        ensures still { KeepsOpen self.old self.new }
+        ensures reopened { IfOk result (λ file. ReopensFile self.old inode self.new file) }
     {
         let (blob, _) = open(&mut self.store, FILES, &inode.to_be_bytes())?;
         self.note(&blob);
@@ -61,6 +66,8 @@ impl<R: Rng + Drop> Journaled<R> {
     pub fn reopen_file(&mut self, inode: u64) -> Result<FileBlob, Error>
         ensures names { KeepsTable self.old self.new }
         ensures told { KeepsTold self.old self.new }
+        ensures still { KeepsOpen self.old self.new }
+        ensures reopened { IfOk result (λ file. ReopensFile self.old inode self.new file) }
     {
         let blob = reopen(&mut self.store, FILES, &inode.to_be_bytes())?;
         self.note(&blob);
@@ -101,6 +108,7 @@ impl<R: Rng + Drop> Journaled<R> {
         ensures gives { GivesNames self.old → GivesNames self.new }
         ensures journal { KeepsJournal self.old self.new }
         ensures others { SameFilesBut inode self.old self.new }
+        ensures still { KeepsOpenBut inode self.old self.new }
     {
         remove(&mut self.store, FILES, &inode.to_be_bytes())
     }
@@ -117,6 +125,7 @@ impl<R: Rng + Drop> Journaled<R> {
         ensures given { KeepsGiven self.old self.new }
         ensures bytes { IfOk result (λ bytes. bytes.items ≡ bytes_of file.now) }
         ensures same { OnOk result (SameFiles self.old self.new) }
+        ensures still { KeepsOpen self.old self.new }
     {
         let size = file.size();
         read_all(self.alloc, &mut self.store, &file.blob, size)
@@ -142,6 +151,7 @@ impl<R: Rng + Drop> Journaled<R> {
     pub fn read_file(&mut self, file: &FileBlob, offset: u64, buf: &mut [u8]) -> Result<(), Error>
         ensures names { KeepsTable self.old self.new }
         ensures told { KeepsTold self.old self.new }
+        ensures still { KeepsOpen self.old self.new }
     {
         leaves::same_bytes::<blob_memory::Storage, R>();
         file.blob.read_into(&mut self.store, offset, buf)
@@ -161,10 +171,15 @@ impl<R: Rng + Drop> Journaled<R> {
         ensures names { KeepsTable self.old self.new }
         ensures told { KeepsTold self.old self.new }
         ensures recorded { OnOk result (RecordsWrite offset bytes.now self.old file.old self.new file.new) }
+        ensures still { ChangesOpen (IsBeside offset (length bytes.now)) self.old file.old self.new file.new }
+        ensures handles { KeepsHandles self.old self.new }
     {
         self.check(file)?;
         leaves::other_blobs::<blob_memory::Storage, R>();
+        leaves::written::<blob_memory::Storage, R>();
         recorded::<blob_memory::Storage, R>();
+        found::<R>();
+        sizes();
         let options = WriteOptions::default();
         file.blob
             .write_from(&mut self.store, offset, bytes, options)
@@ -182,9 +197,13 @@ impl<R: Rng + Drop> Journaled<R> {
         ensures given { KeepsFile file.old self.old file.new self.new }
         ensures resized { OnOk result (ResizesFile length self.old file.old self.new file.new) }
         ensures same { OnOk result (SameFiles self.old self.new) }
+        ensures still { ChangesOpen (λ at. at < length) self.old file.old self.new file.new }
+        ensures handles { KeepsHandles self.old self.new }
     {
         self.check(file)?;
         leaves::other_blobs::<blob_memory::Storage, R>();
+        leaves::resized::<blob_memory::Storage, R>();
+        sizes();
         file.blob.resize(&mut self.store, length)
     }
 
@@ -202,10 +221,14 @@ impl<R: Rng + Drop> Journaled<R> {
         ensures synced { OnOk result (SyncsFile self.old file.old self.new file.new) }
         ensures others { OnOk result (ChangesFile self.old file.old self.new) }
         ensures fixed { OnOk result (FixesFile self.old file.old self.new) }
+        ensures still { ChangesOpen (λ at. Unit) self.old file.old self.new file.new }
+        ensures handles { KeepsHandles self.old self.new }
+        ensures fixes { OnOk result (FixesOpen self.old file.old self.new file.new) }
     {
         self.check(file)?;
         leaves::other_blobs::<blob_memory::Storage, R>();
         leaves::same_bytes::<blob_memory::Storage, R>();
+        leaves::synced::<blob_memory::Storage, R>();
         file.blob.sync(&mut self.store)?;
         Ok(())
     }

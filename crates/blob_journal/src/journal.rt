@@ -8,7 +8,7 @@ ghost use Rattle.blob_directory.specs.Names.{edit_of};
 ghost use Rattle.blob_directory.specs.Sectors.{found_in, sector_of};
 ghost use Rattle.blob_memory.specs.Store.{directory, durable, place};
 ghost use Rattle.blob_faulty.specs.Wrapper.{inner_of, inside};
-ghost use Rattle.blob_journal.specs.Incarnations.{ChangesOnly, KeepsPartition};
+ghost use Rattle.blob_journal.specs.Incarnations.{ChangesOnly, KeepsIncarnations, KeepsPartition};
 ghost use Rattle.blob_journal.specs.Currents.{BeginsAs, FindsNoMore, FindsNoMoreBut, FixesBytes, IsGiven, KeepsCurrent, KeepsFiles, KeepsNext, SameDirectory, SamePending};
 ghost use Rattle.blob_journal.specs.Draws.{DrawsSectors};
 ghost use Rattle.blob_journal.specs.Found.{HasSectors};
@@ -76,6 +76,7 @@ impl Journal {
         ensures left { FindsNoMore store.old store.new }
         ensures next { KeepsNext store.old store.new }
         ensures blobs { OnOk result (KeepsPartition (codes "f") store.old store.new) }
+        ensures incarnations { KeepsIncarnations store.old store.new }
     {
         let (blob, size) = open(store, JOURNALS, &generation.to_be_bytes())?;
         let bytes = read_all(alloc, store, &blob, size)?;
@@ -110,7 +111,9 @@ impl Journal {
         ensures unmoved { OnErr result (self.new.sectors ≡ self.old.sectors) }
         ensures told { OnOk result (HasSectors store.old self.old → told_by self.new ≡ told_by self.old ++ found_in (sector_of (edit_of edit.now) false) ∷ []) }
         ensures left { HasSectors store.old self.old → HasSectors store.new self.new }
+        ensures beside { FindsNoMoreBut (place (inside self.old.blob)) store.old store.new }
     {
+        leaves::other_blobs::<blob_memory::Storage, R>();
         let sector = self.sectors;
         let Some(offset) = sector.checked_mul(SECTOR as u64) else {
             return Err(Error::OffsetOverflow);
@@ -146,7 +149,9 @@ impl Journal {
         ensures bytes { OnOk result (bytes_in self.new ≡ write_live (bytes_in self.old) (sector * 1024) (sector_of (edit_of edit.now) true)) }
         ensures refused { OnErr result (HasSectors store.old self.old → bytes_in self.new ≡ bytes_in self.old) }
         ensures left { sector < self.old.sectors → HasSectors store.old self.old → HasSectors store.new self.new }
+        ensures beside { FindsNoMoreBut (place (inside self.old.blob)) store.old store.new }
     {
+        leaves::other_blobs::<blob_memory::Storage, R>();
         writes::<blob_memory::Storage, R, blob_memory::Blob>();
         recorded::<blob_memory::Storage, R>();
         found::<R>();

@@ -1,5 +1,6 @@
 //! Laws about calls that keep the journal, before and after a sync, and about the blobs of files.
-ghost use Rattle.blob_journal.specs.Blobs.{CurrentStays, DurableIsFound, DurableStays, ReadsSeen, ResizeShortens, SameTwice};
+ghost use Rattle.blob_journal.specs.Blobs.{CurrentStays, DurableIsFound, DurableIsOpen, DurableStays, OpenIsFound, OpenIsSeen, ReadsSeen, ResizeShortens, SameTwice};
+ghost use Rattle.blob_journal.specs.Fixed.{FixedIsFound};
 ghost use Rattle.blob_journal.specs.Settling.{KeptTwice, SettledAfter, SettledBefore};
 ghost use Rattle.blob_journal.specs.Told.{GrowsOn, GrowsSame, SettledIsKept, SettledStays};
 
@@ -19,7 +20,8 @@ pub fn settling<R>()
     ensures before { SettledBefore R }
 {}
 
-/// The durable bytes of an open file are those of its number, and reads return them. They stay while its blob is the same.
+/// The durable bytes of an open file are those of its number, and reads return them. They stay while its blob is the same. A file of
+/// which calls see the durable bytes is open, and calls see the bytes of an open file. The number of an open file has its durable bytes.
 pub fn blobs<R>()
     ensures found { DurableIsFound R }
     ensures reads { ReadsSeen }
@@ -27,4 +29,12 @@ pub fn blobs<R>()
     ensures stays { DurableStays R }
     ensures twice { SameTwice R }
     ensures shortened { ResizeShortens }
+    ensures is_open { DurableIsOpen R }
+    ensures sees { OpenIsSeen R }
+    ensures durable { OpenIsFound R }
+{}
+
+/// A byte of an open file that no crash changes is among the durable bytes of the file's number.
+pub fn fixed<R>()
+    ensures { FixedIsFound R }
 {}

@@ -20,6 +20,7 @@ use std::collections::BTreeMap;
 impl<R: Rng + Drop> Journaled<R> {
     ghost use Rattle.blob_journal.specs.Blobs.{SameFiles};
     ghost use Rattle.blob_journal.specs.Currents.{KeepsFiles, Represents};
+    ghost use Rattle.blob_journal.specs.Fixed.{KeepsOpen};
     ghost use Rattle.blob_journal.specs.Journals.{FindsNames, GivesNames, store_of};
     ghost use Rattle.blob_journal.specs.Keeping.{FindsTold, GivesTold, KeepsTable, KeepsTold, names_in, table_in};
 
@@ -40,6 +41,7 @@ impl<R: Rng + Drop> Journaled<R> {
         ensures links { IfOk result (λ r. HasLinks r.0) }
         ensures named { IfOk result (λ r. HasNamedLinks r.0) }
         ensures same { OnOk result (SameFiles self.old self.new) }
+        ensures still { KeepsOpen self.old self.new }
     {
         self.store.set_config(Config::default());
         let generation = self.journal.generation;
@@ -73,6 +75,7 @@ impl<R: Rng + Drop> Journaled<R> {
         ensures refused { OnErr result (KeepsTable self.old self.new) }
         ensures untold { OnErr result (KeepsTold self.old self.new) }
         ensures same { OnOk result (SameFiles self.old self.new) }
+        ensures still { KeepsOpen self.old self.new }
     {
         leaves::same_bytes::<blob_memory::Storage, R>();
         let old = self.journal.generation;

@@ -4,7 +4,7 @@ ghost use Rattle.blob_model.specs.Directory.{current, is_current};
 ghost use Rattle.blob_model.specs.Places.{Place};
 ghost use Rattle.blob_memory.specs.Store.{directory, durable, live, place};
 ghost use Rattle.blob_faulty.specs.Wrapper.{inner_of, inside, size_of};
-ghost use Rattle.blob_journal.specs.Incarnations.{IsIncarnation, KeepsOtherBlobs};
+ghost use Rattle.blob_journal.specs.Incarnations.{IsIncarnation, KeepsIncarnations, KeepsOtherBlobs};
 ghost use Rattle.blob_journal.specs.Currents.{FindsNoMore, FindsNoMoreBeside, IsGiven, KeepsBytes, KeepsCurrent, KeepsFiles, KeepsNext, KeepsOthers, KeepsPending, SamePending};
 
 use blob_base::laws::opens::{accepted_opens, numbers_are_given};
@@ -48,6 +48,7 @@ pub(crate) fn open<R: Rng>(
     ensures others { KeepsOtherBlobs partition.now name.now store.old store.new }
     ensures incarnation { IfOk result (λ r. IsIncarnation store.new partition.now name.now (place (inside r.0))) }
     ensures tracked { IfOk result (λ r. size_of r.0 ≡ length (live (inside r.0))) }
+    ensures incarnations { KeepsIncarnations store.old store.new }
 {
     accepted_opens();
     numbers_are_given::<blob_memory::Storage>();
@@ -69,6 +70,10 @@ pub(crate) fn reopen<R: Rng>(
     ensures given { IfOk result (λ blob. IsGiven store.new (place (inside blob))) }
     ensures left { FindsNoMore store.old store.new }
     ensures next { KeepsNext store.old store.new }
+    ensures incarnation { IfOk result (λ blob. IsIncarnation store.new partition.now name.now (place (inside blob))) }
+    ensures durable { IfOk result (λ blob. durable (inner_of store.new) (place (inside blob)) ≡ Some (live (inside blob))) }
+    ensures tracked { IfOk result (λ blob. size_of blob ≡ length (live (inside blob))) }
+    ensures incarnations { KeepsIncarnations store.old store.new }
 {
     leaves::same_bytes::<blob_memory::Storage, R>();
     let (blob, _) = open(store, partition, name)?;

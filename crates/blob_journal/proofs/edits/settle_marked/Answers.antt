@@ -16,6 +16,8 @@ use Rattle.blob_journal.specs.declared.journal.Journal.{Journal}
 use Rattle.blob_journal.specs.Settling.{Changes, all_settled}
 use Rattle.blob_journal.proofs.Settling.{marked_more, unmarked_more}
 use Rattle.blob_journal.proofs.edits.settle_marked.Goals.{then-edit+in_ok-settle, else-edit}
+use Rattle.blob_journal.specs.Currents.{FindsNoMoreBut}
+use Rattle.blob_journal.proofs.Fixed.{beside_more}
 use Rattle.blob_journal.proofs.edits.settle_marked.Goals as goal
 
 pub loop-edit-preserved : goal.loop-edit-preserved
@@ -38,6 +40,8 @@ loop-edit-preserved g c =
             place = ap (λ (j : Journal). place (inside j.blob)) w.journal-is ∙ s.place ∙ i.place;
             kept = λ h. same_kept _ w.settle.new.store _ w.settle.new.self edits w.store-is w.journal-is
                 (settled_kept c.loop-edit.store w.settle.new.store c.loop-edit.journal w.settle.new.self edits k item c.loop-edit-test.true c.edit-item.is s.sectors s.bytes (λ low. s.left low) (i.kept h));
+            beside = subst (λ (x : OverMemory g.row.R.Denot). FindsNoMoreBut at before x) (sym w.store-is)
+                (beside_more before c.loop-edit.store w.settle.new.store at (place (inside c.loop-edit.journal.blob)) i.place i.directory i.beside s.beside);
             told = λ h. ap told_by w.journal-is ∙ told_more c.loop-edit.store c.loop-edit.journal w.settle.new.self edits k item c.loop-edit-test.true c.edit-item.is w.if-edit.true s.sectors s.bytes (i.kept h) (told_by c.args.journal.now) (i.told h);
           }
       | else-edit w ↦
@@ -49,6 +53,7 @@ loop-edit-preserved g c =
             directory = ap (λ (x : OverMemory g.row.R.Denot). directory (inner_of x)) w.store-is ∙ i.directory;
             place = ap (λ (j : Journal). place (inside j.blob)) w.journal-is ∙ i.place;
             kept = λ h. same_kept _ c.loop-edit.store _ c.loop-edit.journal edits w.store-is w.journal-is (i.kept h);
+            beside = subst (λ (x : OverMemory g.row.R.Denot). FindsNoMoreBut at before x) (sym w.store-is) i.beside;
             told = λ h. ap told_by w.journal-is ∙ i.told h ∙ told_same edits k item c.loop-edit-test.true c.edit-item.is w.if-edit.false (told_by c.args.journal.now);
           }
     ]
@@ -67,6 +72,7 @@ loop-edit-init g c = record {
   directory = refl;
   place = refl;
   kept = λ h. h;
+  beside = λ given o test other k. k;
   told = λ h. sym (settled_none (λ _. false) 0 (told_by c.args.journal.now) (λ _. refl));
 }
 
@@ -79,3 +85,11 @@ returns-in_err-settle-clause-grows g c = λ h.
 
 pub returns-clause-grows : goal.returns-clause-grows
 returns-clause-grows g c = λ h. subst (λ (l : List Found). Grows (told_by c.args.journal.now) l) (sym (c.loop-edit.invariant.told h)) (grows_settled _ 0 (told_by c.args.journal.now))
+
+pub returns-in_err-settle-clause-beside : goal.returns-in_err-settle-clause-beside
+returns-in_err-settle-clause-beside g c =
+    let i = c.loop-edit.invariant in
+    beside_more c.args.store.now c.loop-edit.store c.settle.new.store (place (inside c.args.journal.now.blob)) (place (inside c.loop-edit.journal.blob)) i.place i.directory i.beside c.in_err-settle.ensures.beside
+
+pub returns-clause-beside : goal.returns-clause-beside
+returns-clause-beside g c = c.loop-edit.invariant.beside

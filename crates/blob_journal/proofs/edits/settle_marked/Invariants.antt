@@ -1,6 +1,7 @@
 use Rattle.std.proofs.Common.{◌≡◌, take}
 use Rattle.blob_memory.specs.Store.{directory, place}
 use Rattle.blob_faulty.specs.Wrapper.{inner_of, inside}
+use Rattle.blob_journal.specs.Currents.{FindsNoMoreBut}
 use Rattle.blob_journal.specs.Found.{IsKept}
 use Rattle.blob_journal.specs.Keeping.{told_by}
 use Rattle.blob_journal.specs.Settling.{Changes, all_settled}
@@ -9,6 +10,7 @@ use Rattle.blob_journal.proofs.edits.settle_marked.Given as goal
 
 abbrev pub invariant-loop-edit : goal.invariant-loop-edit
 invariant-loop-edit g l = record {
+  beside : FindsNoMoreBut (place (inside l.fn.journal.blob)) l.fn.store l.store;
   settled : Changes l.fn.store l.store (place (inside l.fn.journal.blob)) (all_settled (take l.edit-index l.edits));
   generation : l.journal.generation ≡ l.fn.journal.generation;
   sectors : l.journal.sectors ≡ l.fn.journal.sectors;

@@ -7,6 +7,7 @@ use Rattle.blob_model.specs.Files.{after_open}
 use Rattle.blob_journal.proofs.Currents.{named_current, opened_keeps}
 use Rattle.blob_journal.proofs.Standing.{unrecorded}
 use Rattle.blob_journal.proofs.Blobs.{blob_same, opened_incarnation, opened_others}
+use Rattle.blob_journal.proofs.Fixed.{incarnations_same, opened_incarnations}
 use Rattle.blob_journal.proofs.store.open.Goals as goal
 
 pub returns-in_err-blob-clause-kept : goal.returns-in_err-blob-clause-kept
@@ -69,3 +70,9 @@ returns-clause-others g c = opened_others c.args.store.now c.open.new.self c.arg
 
 pub returns-clause-incarnation : goal.returns-clause-incarnation
 returns-clause-incarnation g c = opened_incarnation c.args.store.now c.open.new.self c.args.partition.now c.args.name.now (place (inside c.in_ok-blob.blob)) (live (inside c.in_ok-blob.blob)) c.in_ok-blob.ensures.opened
+
+pub returns-in_err-blob-clause-incarnations : goal.returns-in_err-blob-clause-incarnations
+returns-in_err-blob-clause-incarnations g c = incarnations_same c.args.store.now c.open.new.self c.in_err-blob.ensures.err.0
+
+pub returns-clause-incarnations : goal.returns-clause-incarnations
+returns-clause-incarnations g c = opened_incarnations c.args.store.now c.open.new.self c.args.partition.now c.args.name.now (place (inside c.in_ok-blob.blob)) (live (inside c.in_ok-blob.blob)) 0 c.in_ok-blob.ensures.opened

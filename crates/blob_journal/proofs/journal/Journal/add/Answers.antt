@@ -21,6 +21,8 @@ use Rattle.blob_journal.proofs.Found.{no_more_set, nothing_added, on_err, sector
 use Rattle.blob_journal.proofs.Growing.{told_added}
 use Rattle.blob_journal.proofs.Listed.{unset}
 use Rattle.blob_journal.proofs.Sectors.{long_added}
+use Rattle.std.proofs.Common.{◌<◌}
+use Rattle.blob_memory.specs.declared.storage.Storage as memory
 use Rattle.blob_journal.proofs.journal.Journal.add.Goals as goal
 
 pub returns-in_err-write_from-clause-refused : goal.returns-in_err-write_from-clause-refused
@@ -101,3 +103,27 @@ returns-clause-told g c = λ h.
     let next : c.in-Some-checked_add.next ≡ n + 1 = (c.in-Some-checked_add.ensures).1 in
     let long : length new ≡ (n + 1) * 1024 = ap (λ (l : List ℕ). length l) now ∙ long_added n old bytes h.whole size in
     ap (λ (m : ℕ). found_in_all m new) next ∙ told_added n old new bytes h.whole long size now ∙ ap (λ (l : List ℕ). found_in_all n old ++ found_in l ∷ []) same
+
+pub returns-in_err-write_from-clause-beside : goal.returns-in_err-write_from-clause-beside
+returns-in_err-write_from-clause-beside g c = λ given o test other k.
+    let w = c.in_err-write_from.ensures in
+    let store = c.args.store.now in
+    let mid = c.set_config.new.self in
+    let set = c.set_config.ensures.set in
+    let at : Place = place (inside c.args.self.now.blob) in
+    let es = recorded_write (config_of mid) (next_write_of mid) (g.R.Rng.stream (rng_of mid)) (is_sync c.default.result) c.in-Some.offset c.deref.result.now (Some (refusal_of c.in_err-write_from.field-0.0)) in
+    let inner : inner_of mid ≡ inner_of store = ap (λ (s : OverMemory g.row.R.Denot). inner_of s) set in
+    c.other_blobs.ensures.recorded mid c.write_from.new.store at o test es (subst (λ (s : memory.Storage). at.number < (directory s).next) (sym inner) given) other w.directory (w.leaves.recorded refl)
+    (no_more_set store mid c.faults_of.result set o test k)
+
+pub returns-clause-beside : goal.returns-clause-beside
+returns-clause-beside g c = λ given o test other k.
+    let w = c.in_ok-write_from.ensures in
+    let store = c.args.store.now in
+    let mid = c.set_config.new.self in
+    let set = c.set_config.ensures.set in
+    let at : Place = place (inside c.args.self.now.blob) in
+    let es = recorded_write (config_of mid) (next_write_of mid) (g.R.Rng.stream (rng_of mid)) (is_sync c.default.result) c.in-Some.offset c.deref.result.now None in
+    let inner : inner_of mid ≡ inner_of store = ap (λ (s : OverMemory g.row.R.Denot). inner_of s) set in
+    c.other_blobs.ensures.recorded mid c.write_from.new.store at o test es (subst (λ (s : memory.Storage). at.number < (directory s).next) (sym inner) given) other w.directory (w.leaves.recorded refl)
+    (no_more_set store mid c.faults_of.result set o test k)

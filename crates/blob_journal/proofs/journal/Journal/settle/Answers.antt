@@ -11,7 +11,7 @@ use Rattle.blob_memory.specs.Store.{live}
 use Rattle.blob_model.specs.Live.{live_written}
 use Rattle.blob_model.specs.Bytes.{write_live}
 use Rattle.blob_header.specs.Refusals.{refusal_of}
-use Rattle.std.proofs.Common.{◌∷◌, [], Some, length, rules, subst, sym}
+use Rattle.std.proofs.Common.{◌∷◌, ◌<◌, [], Some, length, rules, subst, sym}
 use Rattle.std.proofs.Common.{◌≡◌, ◌*◌, ℕ, List, None, true, option_map, ap, ap₂, refl, ◌∙◌}
 use Rattle.std.proofs.lemmas.Bool.{cond-true}
 use Rattle.blob_model.specs.Bytes.{overlay}
@@ -154,3 +154,27 @@ returns-clause-bytes g c =
     live_again : (old new : List ℕ) (offset : ℕ) (bytes : List ℕ) → (bytes ≡ [] → ⊥) → new ≡ live_written true old offset bytes → new ≡ write_live old offset bytes
     live_again old new offset [] some is = absurd (some refl)
     live_again old new offset (b ∷ bytes) some is = is
+
+pub returns-in_err-write_from-clause-beside : goal.returns-in_err-write_from-clause-beside
+returns-in_err-write_from-clause-beside g c = λ given o test other k.
+    let w = c.in_err-write_from.ensures in
+    let store = c.args.store.now in
+    let mid = c.set_config.new.self in
+    let set = c.set_config.ensures.set in
+    let at : Place = place (inside c.args.self.now.blob) in
+    let es = recorded_write (config_of mid) (next_write_of mid) (g.R.Rng.stream (rng_of mid)) true c.in-Some.offset c.deref.result.now (Some (refusal_of c.in_err-write_from.field-0.0)) in
+    let inner : inner_of mid ≡ inner_of store = ap (λ (s : OverMemory g.row.R.Denot). inner_of s) set in
+    c.other_blobs.ensures.recorded mid c.write_from.new.store at o test es (subst (λ (s : memory.Storage). at.number < (directory s).next) (sym inner) given) other w.directory (w.leaves.recorded refl)
+    (no_more_set store mid c.default.result set o test k)
+
+pub returns-clause-beside : goal.returns-clause-beside
+returns-clause-beside g c = λ given o test other k.
+    let w = c.in_ok-write_from.ensures in
+    let store = c.args.store.now in
+    let mid = c.set_config.new.self in
+    let set = c.set_config.ensures.set in
+    let at : Place = place (inside c.args.self.now.blob) in
+    let es = recorded_write (config_of mid) (next_write_of mid) (g.R.Rng.stream (rng_of mid)) true c.in-Some.offset c.deref.result.now None in
+    let inner : inner_of mid ≡ inner_of store = ap (λ (s : OverMemory g.row.R.Denot). inner_of s) set in
+    c.other_blobs.ensures.recorded mid c.write_from.new.store at o test es (subst (λ (s : memory.Storage). at.number < (directory s).next) (sym inner) given) other w.directory (w.leaves.recorded refl)
+    (no_more_set store mid c.default.result set o test k)

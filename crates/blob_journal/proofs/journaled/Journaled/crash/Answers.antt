@@ -24,7 +24,12 @@ use Rattle.blob_memory.specs.Store.{durable}
 use Rattle.blob_faulty.specs.Wrapper.{pending_of}
 use Rattle.blob_journal.specs.Blobs.{file_name}
 use Rattle.blob_journal.proofs.Blobs.{each_current}
+use Rattle.blob_journal.proofs.Fixed.{incarnations_same, keeps_open}
 use Rattle.blob_journal.proofs.journaled.Journaled.crash.Goals as goal
+
+by_result : {A B : Selections → Type 0} {S Q : Type 0} (r : Result Selections Error) → IfOk r A → IfOk r B → OnErr r S → ((rows : Selections) → A rows → B rows → Q) → (S → Q) → Q
+by_result (Ok rows) a b s ok err = ok rows a b
+by_result (Err e) a b s ok err = err s
 
 pub invariant_of-self : goal.invariant_of-self
 invariant_of-self g c =
@@ -41,10 +46,6 @@ invariant_of-self g c =
           (λ rows drawn left. c.crashed.ensures self.store new at test rows same drawn left k)
           (λ steps. c.same_bytes.ensures.same self.store new at test same steps k)) self.kept;
     }
-  where
-    by_result : {A B : Selections → Type 0} {S Q : Type 0} (r : Result Selections Error) → IfOk r A → IfOk r B → OnErr r S → ((rows : Selections) → A rows → B rows → Q) → (S → Q) → Q
-    by_result (Ok rows) a b s ok err = ok rows a b
-    by_result (Err e) a b s ok err = err s
 
 pub returns-clause-files : goal.returns-clause-files
 returns-clause-files g c = nothing_pending c.crash.new.self (λ o. ap (λ (f : Place → List Pending). f o) (c.in_ok-rows.ensures.emptied))
@@ -71,3 +72,17 @@ returns-clause-bytes g c = λ inode.
     let left : Place → Option (List ℕ) = λ o. replayed_at (chosen_by (table_of c.in_ok-rows.rows)) (pending_of (λ (a : Place). a) old o) (durable (inner_of old) o) in
     ap (λ (d : Directory). option_and_then (durable (inner_of new)) (current d (codes "f") (file_name inode))) c.crash.ensures.directory
     ∙ each_current (durable (inner_of new)) left (current (directory (inner_of old)) (codes "f") (file_name inode)) c.in_ok-rows.ensures.durable
+
+pub returns-in_err-rows-clause-still : goal.returns-in_err-rows-clause-still
+returns-in_err-rows-clause-still g c =
+    let old = c.args.self.now.store in
+    let new = c.crash.new.self in
+    let same = c.crash.ensures.directory in
+    keeps_open _ _ (incarnations_same old new same (codes "f")) (λ o test f k. c.same_bytes.ensures.same old new o test same c.in_err-rows.ensures.same_files k)
+
+pub returns-clause-still : goal.returns-clause-still
+returns-clause-still g c =
+    let old = c.args.self.now.store in
+    let new = c.crash.new.self in
+    let same = c.crash.ensures.directory in
+    keeps_open _ _ (incarnations_same old new same (codes "f")) (λ o test f k. c.crashed.ensures old new o test c.in_ok-rows.rows same c.in_ok-rows.ensures.rows c.in_ok-rows.ensures.stands k)

@@ -26,6 +26,7 @@ use Rattle.blob_journal.specs.Keeping.{names_in}
 use Rattle.blob_journal.proofs.Currents.{current_of_name}
 use Rattle.blob_journal.specs.Blobs.{file_name}
 use Rattle.blob_journal.proofs.Blobs.{blob_same, blob_twice}
+use Rattle.blob_journal.proofs.Fixed.{incarnations_same, incarnations_twice, keeps_open}
 use Rattle.blob_journal.proofs.journaled.Journaled.find_names.Goals as goal
 
 some_same : {T : Type 0} {a b : T} → Some a ≡ Some b → a ≡ b
@@ -123,3 +124,48 @@ returns-clause-same g c = λ inode.
     blob_twice (codes "f") (file_name inode) self.store mid c.open.new.store
     (blob_same (codes "f") (file_name inode) self.store mid (ap (λ (s : memory.Storage). directory s) inner) (ap (λ (s : memory.Storage). durable s) inner))
     (c.in_ok-bytes.ensures.blobs (file_name inode))
+
+pub returns-in_err-bytes-clause-still : goal.returns-in_err-bytes-clause-still
+returns-in_err-bytes-clause-still g c =
+    let self = c.args.self.now in
+    let mid = c.set_config.new.self in
+    let new = c.open.new.store in
+    let inner : inner_of mid ≡ inner_of self.store = ap (λ (s : OverMemory g.row.R.Denot). inner_of s) c.set_config.ensures.set in
+    let names = incarnations_twice self.store mid new (incarnations_same self.store mid (ap (λ (s : memory.Storage). directory s) inner)) c.open.ensures.incarnations in
+    keeps_open _ _ (names (codes "f")) (λ o test f k. c.open.ensures.left o test (no_more_set self.store mid c.default.result c.set_config.ensures.set o test k))
+
+pub returns-in_err-names-clause-still : goal.returns-in_err-names-clause-still
+returns-in_err-names-clause-still g c =
+    let self = c.args.self.now in
+    let mid = c.set_config.new.self in
+    let new = c.open.new.store in
+    let inner : inner_of mid ≡ inner_of self.store = ap (λ (s : OverMemory g.row.R.Denot). inner_of s) c.set_config.ensures.set in
+    let names = incarnations_twice self.store mid new (incarnations_same self.store mid (ap (λ (s : memory.Storage). directory s) inner)) c.open.ensures.incarnations in
+    keeps_open _ _ (names (codes "f")) (λ o test f k. c.open.ensures.left o test (no_more_set self.store mid c.default.result c.set_config.ensures.set o test k))
+
+pub returns-in_err-edits-clause-still : goal.returns-in_err-edits-clause-still
+returns-in_err-edits-clause-still g c =
+    let self = c.args.self.now in
+    let mid = c.set_config.new.self in
+    let new = c.open.new.store in
+    let inner : inner_of mid ≡ inner_of self.store = ap (λ (s : OverMemory g.row.R.Denot). inner_of s) c.set_config.ensures.set in
+    let names = incarnations_twice self.store mid new (incarnations_same self.store mid (ap (λ (s : memory.Storage). directory s) inner)) c.open.ensures.incarnations in
+    keeps_open _ _ (names (codes "f")) (λ o test f k. c.open.ensures.left o test (no_more_set self.store mid c.default.result c.set_config.ensures.set o test k))
+
+pub returns-in_err-tree-clause-still : goal.returns-in_err-tree-clause-still
+returns-in_err-tree-clause-still g c =
+    let self = c.args.self.now in
+    let mid = c.set_config.new.self in
+    let new = c.open.new.store in
+    let inner : inner_of mid ≡ inner_of self.store = ap (λ (s : OverMemory g.row.R.Denot). inner_of s) c.set_config.ensures.set in
+    let names = incarnations_twice self.store mid new (incarnations_same self.store mid (ap (λ (s : memory.Storage). directory s) inner)) c.open.ensures.incarnations in
+    keeps_open _ _ (names (codes "f")) (λ o test f k. c.open.ensures.left o test (no_more_set self.store mid c.default.result c.set_config.ensures.set o test k))
+
+pub returns-clause-still : goal.returns-clause-still
+returns-clause-still g c =
+    let self = c.args.self.now in
+    let mid = c.set_config.new.self in
+    let new = c.open.new.store in
+    let inner : inner_of mid ≡ inner_of self.store = ap (λ (s : OverMemory g.row.R.Denot). inner_of s) c.set_config.ensures.set in
+    let names = incarnations_twice self.store mid new (incarnations_same self.store mid (ap (λ (s : memory.Storage). directory s) inner)) c.open.ensures.incarnations in
+    keeps_open _ _ (names (codes "f")) (λ o test f k. c.open.ensures.left o test (no_more_set self.store mid c.default.result c.set_config.ensures.set o test k))

@@ -11,6 +11,11 @@ use Rattle.std.proofs.Common.{ap, ap₂, sym, ◌∙◌, ℕ}
 use Rattle.std.specs.Int.{w64, to_be_bytes}
 use Rattle.blob_model.specs.Directory.{Directory, is_current}
 use Rattle.blob_model.specs.Places.{Place}
+use Rattle.std.specs.Prelude.{codes}
+use Rattle.blob_memory.specs.Store.{place}
+use Rattle.blob_faulty.specs.Wrapper.{inside}
+use Rattle.blob_journal.proofs.Blobs.{journal_apart}
+use Rattle.blob_journal.proofs.Fixed.{current_given, incarnations_same, keeps_open}
 use Rattle.blob_journal.proofs.journaled.Journaled.make.Goals as goal
 
 pub invariant_of-self-in-Break-branch-3 : goal.invariant_of-self-in-Break-branch-3
@@ -39,3 +44,17 @@ returns-in_err-sector-clause-untold g c = on_err _ _ (ap₂ (λ (n : ℕ) (l : L
 
 pub returns-clause-told : goal.returns-clause-told
 returns-clause-told g c = ∥∥₁_elim c.args.self.now.kept (told_prop _ _) (λ k. c.in_ok-sector.ensures.told k.sectors)
+
+pub returns-in_err-sector-clause-still : goal.returns-in_err-sector-clause-still
+returns-in_err-sector-clause-still g c =
+    let self = c.args.self.now in
+    let at : Place = place (inside self.journal.blob) in
+    keeps_open _ _ (incarnations_same self.store c.add.new.store c.add.ensures.directory (codes "f"))
+    (λ o test f k. c.add.ensures.beside (current_given self.store at self.current) o test (journal_apart at o self.partition f) k)
+
+pub returns-clause-still : goal.returns-clause-still
+returns-clause-still g c =
+    let self = c.args.self.now in
+    let at : Place = place (inside self.journal.blob) in
+    keeps_open _ _ (incarnations_same self.store c.add.new.store c.add.ensures.directory (codes "f"))
+    (λ o test f k. c.add.ensures.beside (current_given self.store at self.current) o test (journal_apart at o self.partition f) k)

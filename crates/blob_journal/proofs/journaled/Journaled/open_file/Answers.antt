@@ -11,6 +11,9 @@ use Rattle.blob_faulty.specs.Wrapper.{inner_of}
 use Rattle.blob_journal.specs.Blobs.{file_name}
 use Rattle.blob_journal.specs.Incarnations.{IsIncarnation, KeepsOtherBlobs, SameBlob}
 use Rattle.blob_journal.proofs.Blobs.{current_is, file_beside}
+use Rattle.blob_journal.specs.Currents.{FindsNoMore}
+use Rattle.blob_journal.specs.Incarnations.{KeepsIncarnations}
+use Rattle.blob_journal.proofs.Fixed.{keeps_open, reopens}
 use Rattle.blob_journal.proofs.journaled.Journaled.open_file.Goals as goal
 
 pub invariant_of-self : goal.invariant_of-self
@@ -54,3 +57,29 @@ returns-clause-others g c = λ other below apart.
 
 pub returns-clause-files : goal.returns-clause-files
 returns-clause-files g c = λ r. subst (λ (s : OverMemory g.row.R.Denot). Represents s) (sym c.note.ensures.noted.0) (c.open.ensures.files r)
+
+pub returns-in_err-blob-clause-still : goal.returns-in_err-blob-clause-still
+returns-in_err-blob-clause-still g c = keeps_open _ _ (c.open.ensures.incarnations (codes "f")) (λ o test f k. c.open.ensures.left o test k)
+
+pub returns-clause-still : goal.returns-clause-still
+returns-clause-still g c =
+    let before = c.args.self.now.store in
+    let same = sym c.note.ensures.noted.0 in
+    let names : KeepsIncarnations before c.note.new.self.store = subst (λ (s : OverMemory g.row.R.Denot). KeepsIncarnations before s) same c.open.ensures.incarnations in
+    let finds : FindsNoMore before c.note.new.self.store = subst (λ (s : OverMemory g.row.R.Denot). FindsNoMore before s) same c.open.ensures.left in
+    keeps_open _ _ (names (codes "f")) (λ o test f k. finds o test k)
+
+pub returns-clause-reopened : goal.returns-clause-reopened
+returns-clause-reopened g c =
+    let before = c.args.self.now.store in
+    let o = c.in_ok-blob.ensures in
+    let at = place (inside c.in_ok-blob.blob) in
+    let bytes : List ℕ = live (inside c.in_ok-blob.blob) in
+    let same = sym c.note.ensures.noted.0 in
+    let there : IsIncarnation c.open.new.store (codes "f") (file_name c.args.inode) at = subst (λ (n : List ℕ). IsIncarnation c.open.new.store (codes "f") n at) c.to_be_bytes.ensures o.incarnation in
+    reopens _ c.args.inode _ _
+    (subst (λ (s : OverMemory g.row.R.Denot). KeepsIncarnations before s) same c.open.ensures.incarnations)
+    (subst (λ (s : OverMemory g.row.R.Denot). FindsNoMore before s) same c.open.ensures.left)
+    (subst (λ (s : OverMemory g.row.R.Denot). IsIncarnation s (codes "f") (file_name c.args.inode) at) same there)
+    (subst (λ (s : OverMemory g.row.R.Denot). durable (inner_of s) at ≡ Some bytes) same o.durable)
+    o.tracked

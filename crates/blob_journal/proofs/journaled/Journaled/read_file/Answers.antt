@@ -4,6 +4,8 @@ use Rattle.blob_memory.specs.Store.{directory, durable, place}
 use Rattle.blob_memory.specs.declared.storage.Storage as memory
 use Rattle.blob_faulty.specs.Wrapper.{inner_of, inside}
 use Rattle.blob_journal.proofs.Found.{same_next, still_given, still_kept}
+use Rattle.std.specs.Prelude.{codes}
+use Rattle.blob_journal.proofs.Fixed.{incarnations_same, keeps_open}
 use Rattle.blob_journal.proofs.journaled.Journaled.read_file.Goals as goal
 
 pub invariant_of-self : goal.invariant_of-self
@@ -21,3 +23,12 @@ invariant_of-self g c =
       kept = still_kept self.store new self.journal self.unsettled.items
           (λ test k. c.same_bytes.ensures.unrecorded self.store new (place (inside self.journal.blob)) test same bytes r.leaves.unrecorded k) self.kept;
     }
+
+pub returns-clause-still : goal.returns-clause-still
+returns-clause-still g c =
+    let before = c.args.self.now.store in
+    let after = c.read_into.new.store in
+    let r = c.read_into.ensures in
+    let same : directory (inner_of after) ≡ directory (inner_of before) = ap (λ (s : memory.Storage). directory s) r.inner in
+    let bytes : durable (inner_of after) ≡ durable (inner_of before) = ap (λ (s : memory.Storage). durable s) r.inner in
+    keeps_open _ _ (incarnations_same before after same (codes "f")) (λ o test f k. c.same_bytes.ensures.unrecorded before after o test same bytes r.leaves.unrecorded k)

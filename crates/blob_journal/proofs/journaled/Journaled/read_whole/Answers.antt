@@ -8,6 +8,7 @@ use Rattle.std.specs.Prelude.{codes}
 use Rattle.blob_memory.specs.Store.{durable}
 use Rattle.blob_journal.specs.Blobs.{file_name}
 use Rattle.blob_journal.proofs.Blobs.{blob_same, on_ok}
+use Rattle.blob_journal.proofs.Fixed.{incarnations_same, keeps_open}
 use Rattle.blob_journal.proofs.journaled.Journaled.read_whole.Goals as goal
 
 pub invariant_of-self : goal.invariant_of-self
@@ -26,3 +27,9 @@ pub returns-clause-same : goal.returns-clause-same
 returns-clause-same g c = on_ok c.read_all.result _ (λ inode.
     let inner = c.read_all.ensures.inner in
     blob_same (codes "f") (file_name inode) c.args.self.now.store c.read_all.new.store (ap (λ (s : memory.Storage). directory s) inner) (ap (λ (s : memory.Storage). durable s) inner))
+
+pub returns-clause-still : goal.returns-clause-still
+returns-clause-still g c =
+    let before = c.args.self.now.store in
+    let after = c.read_all.new.store in
+    keeps_open _ _ (incarnations_same before after (ap (λ (s : memory.Storage). directory s) c.read_all.ensures.inner) (codes "f")) (λ o test f k. c.read_all.ensures.left o test k)

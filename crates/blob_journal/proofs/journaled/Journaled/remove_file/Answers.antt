@@ -13,6 +13,8 @@ use Rattle.std.proofs.Common.{arith, subst}
 use Rattle.blob_journal.specs.Blobs.{file_name}
 use Rattle.blob_journal.specs.Incarnations.{KeepsOtherBlobs}
 use Rattle.blob_journal.proofs.Blobs.{file_beside}
+use Rattle.blob_journal.specs.Currents.{FindsNoMoreBeside}
+use Rattle.blob_journal.proofs.Fixed.{keeps_beside}
 use Rattle.blob_journal.proofs.journaled.Journaled.remove_file.Goals as goal
 
 pub returns-clause-gives : goal.returns-clause-gives
@@ -72,3 +74,11 @@ returns-clause-others g c = λ other below apart.
     let after = c.remove.new.store in
     let keeps : KeepsOtherBlobs (codes "f") (file_name c.args.inode) before after = subst (λ (n : List ℕ). KeepsOtherBlobs (codes "f") n before after) c.to_be_bytes.ensures c.remove.ensures.others in
     file_beside before after c.args.inode other (omega arith) below apart keeps
+
+pub returns-clause-still : goal.returns-clause-still
+returns-clause-still g c =
+    let before = c.args.self.now.store in
+    let after = c.remove.new.store in
+    let keeps : KeepsOtherBlobs (codes "f") (file_name c.args.inode) before after = subst (λ (n : List ℕ). KeepsOtherBlobs (codes "f") n before after) c.to_be_bytes.ensures c.remove.ensures.others in
+    let finds : FindsNoMoreBeside (codes "f") (file_name c.args.inode) before after = subst (λ (n : List ℕ). FindsNoMoreBeside (codes "f") n before after) c.to_be_bytes.ensures c.remove.ensures.left in
+    keeps_beside _ _ c.args.inode (omega arith) keeps finds

@@ -30,6 +30,7 @@ use Rattle.blob_journal.proofs.Currents.{current_of_name, next_apart}
 use Rattle.blob_journal.proofs.Standing.{fixed_same, retired_at}
 use Rattle.blob_journal.specs.Blobs.{file_name}
 use Rattle.blob_journal.proofs.Blobs.{blob_beside, blob_same, blob_twice, journal_apart, partition_beside}
+use Rattle.blob_journal.proofs.Fixed.{incarnation_stays, incarnations_same, incarnations_twice, keeps_open}
 use Rattle.blob_journal.proofs.journaled.Journaled.renew.Goals as goal
 
 pub invariant_of-self : goal.invariant_of-self
@@ -228,3 +229,39 @@ returns-clause-same g c = λ inode.
     let same = blob_same p n opened admitted (ap (λ (s : memory.Storage). directory s) inner) (ap (λ (s : memory.Storage). durable s) inner) in
     let removes = partition_beside begun new c.to_be_bytes-old_name.result c.remove.ensures.others n in
     blob_twice p n store opened new (c.in_ok-journal.ensures.blobs n) (blob_twice p n opened admitted new same (blob_twice p n admitted begun new begins removes))
+
+pub returns-in_err-journal-clause-still : goal.returns-in_err-journal-clause-still
+returns-in_err-journal-clause-still g c = keeps_open _ _ (c.open.ensures.incarnations (codes "f")) (λ o test f k. c.open.ensures.left o test k)
+
+pub returns-then-not-is_empty-clause-still : goal.returns-then-not-is_empty-clause-still
+returns-then-not-is_empty-clause-still g c = keeps_open _ _ (c.open.ensures.incarnations (codes "f")) (λ o test f k. c.open.ensures.left o test k)
+
+pub returns-in_err-begin-clause-still : goal.returns-in_err-begin-clause-still
+returns-in_err-begin-clause-still g c =
+    let self = c.args.self.now in
+    let opened = c.open.new.store in
+    let admitted = c.admit.new.self in
+    let new = c.begin.new.store in
+    let made : Place = place (inside c.in_ok-journal.journal.blob) in
+    let inner : inner_of admitted ≡ inner_of opened = c.admit.ensures.inner in
+    let given : made.number < (directory (inner_of admitted)).next = subst (λ (s : memory.Storage). made.number < (directory s).next) (sym inner) c.in_ok-journal.ensures.given in
+    let names = incarnations_twice self.store opened new c.open.ensures.incarnations (incarnations_same opened new (c.begin.ensures.directory ∙ ap (λ (s : memory.Storage). directory s) inner)) in
+    keeps_open _ _ (names (codes "f")) (λ o test f k. c.begin.ensures.left given o test (journal_apart made o c.in_ok-journal.ensures.partition f)
+    (c.same_bytes.ensures.admitted opened admitted (codes "j") c.to_be_bytes-name.result o test (ap (λ (s : memory.Storage). directory s) inner) c.admit.ensures.stands (c.open.ensures.left o test k)))
+
+pub returns-clause-still : goal.returns-clause-still
+returns-clause-still g c =
+    let self = c.args.self.now in
+    let opened = c.open.new.store in
+    let admitted = c.admit.new.self in
+    let begun = c.begin.new.store in
+    let new = c.remove.new.store in
+    let made : Place = place (inside c.in_ok-journal.journal.blob) in
+    let inner : inner_of admitted ≡ inner_of opened = c.admit.ensures.inner in
+    let given : made.number < (directory (inner_of admitted)).next = subst (λ (s : memory.Storage). made.number < (directory s).next) (sym inner) c.in_ok-journal.ensures.given in
+    let names = incarnations_twice self.store opened begun c.open.ensures.incarnations (incarnations_same opened begun (c.begin.ensures.directory ∙ ap (λ (s : memory.Storage). directory s) inner)) in
+    keeps_open _ _ (λ n o is. incarnation_stays (codes "f") n begun new o (partition_beside begun new c.to_be_bytes-old_name.result c.remove.ensures.others n) (names (codes "f") n o is))
+    (λ o test f k.
+    let other : (bytes_eq (codes "j") o.partition && bytes_eq c.to_be_bytes-old_name.result o.name) ≡ false = ap (λ (q : List ℕ). bytes_eq (codes "j") q && bytes_eq c.to_be_bytes-old_name.result o.name) f in
+    c.remove.ensures.left o test other (c.begin.ensures.left given o test (journal_apart made o c.in_ok-journal.ensures.partition f)
+    (c.same_bytes.ensures.admitted opened admitted (codes "j") c.to_be_bytes-name.result o test (ap (λ (s : memory.Storage). directory s) inner) c.admit.ensures.stands (c.open.ensures.left o test k))))

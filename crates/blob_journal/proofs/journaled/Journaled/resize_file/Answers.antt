@@ -1,12 +1,11 @@
 use Rattle.std.proofs.Common.{◌≡◌, false, ap, refl, ◌∙◌}
-use Rattle.blob_base.specs.Options.{is_sync}
 use Rattle.blob_header.specs.Refusals.{error_of}
 use Rattle.blob_model.specs.Directory.{Directory, is_current}
 use Rattle.blob_model.specs.Places.{Place, same_place}
 use Rattle.blob_memory.specs.Store.{directory, place}
 use Rattle.blob_draws.specs.Faults.{resize_fate}
-use Rattle.blob_draws.specs.Recorded.{recorded_resize, recorded_write}
-use Rattle.blob_faulty.specs.Wrapper.{config_of, inner_of, inside, next_write_of, rng_of, size_of}
+use Rattle.blob_draws.specs.Recorded.{recorded_resize}
+use Rattle.blob_faulty.specs.Wrapper.{config_of, inner_of, inside, rng_of, size_of}
 use Rattle.blob_journal.proofs.Found.{other_blob, same_next, still_given, still_kept}
 use Rattle.std.proofs.Common.{List, ℕ, sym}
 use Rattle.std.specs.Prelude.{codes}
@@ -14,8 +13,15 @@ use Rattle.blob_model.specs.Bytes.{resize}
 use Rattle.blob_model.specs.Durable.{Durable}
 use Rattle.blob_model.proofs.Bytes.{length-resized}
 use Rattle.blob_memory.specs.Store.{durable}
-use Rattle.blob_journal.specs.Blobs.{ResizesFile, file_name}
+use Rattle.blob_journal.specs.Blobs.{file_name}
 use Rattle.blob_journal.proofs.Blobs.{blob_same, by_ok, on_ok}
+use Rattle.std.proofs.Common.{◌<◌, ap₂, arith, length, min, nat_le, take}
+use Rattle.std.proofs.lemmas.Bool.{lt-leb}
+use Rattle.blob_memory.specs.Store.{live}
+use Rattle.blob_draws.specs.Recorded.{live_of_resize, size_of_resize}
+use Rattle.blob_draws.proofs.Unreached.{reached_above, resize_counts, resize_has}
+use Rattle.blob_journal.specs.Fixed.{has_byte}
+use Rattle.blob_journal.proofs.Fixed.{changes_open, reached_past, resized_has, same_change, same_handles, seen_from, seen_parts}
 use Rattle.blob_journal.proofs.journaled.Journaled.resize_file.Goals as goal
 
 pub invariant_of-self : goal.invariant_of-self
@@ -59,3 +65,47 @@ returns-clause-resized g c =
 
 pub returns-clause-same : goal.returns-clause-same
 returns-clause-same g c = on_ok c.resize.result _ (λ inode. blob_same (codes "f") (file_name inode) c.args.self.now.store c.resize.new.store c.resize.ensures.directory c.resize.ensures.durable)
+
+pub returns-in_err-check-clause-still : goal.returns-in_err-check-clause-still
+returns-in_err-check-clause-still g c = same_change _ _ _
+
+pub returns-clause-still : goal.returns-clause-still
+returns-clause-still g c =
+    let old = c.args.self.now.store in
+    let new = c.resize.new.store in
+    let w = c.resize.ensures in
+    let file = c.args.file.now in
+    let at_file : Place = place (inside file.blob) in
+    let rate = (config_of old).resize_rate in
+    let stream = g.R.Rng.stream (rng_of old) in
+    let len : ℕ = c.args.length in
+    let answer = error_of c.resize.result in
+    let x : List ℕ = live (inside file.blob) in
+    let n : ℕ = size_of file.blob in
+    let fate = resize_fate rate n len stream in
+    let es = recorded_resize fate.0 len answer in
+    let above = reached_above rate n len stream in
+    let alive : live (inside c.resize.new.self) ≡ live_of_resize fate.0 x len answer = w.leaves.live_after refl in
+    let sized : size_of c.resize.new.self ≡ size_of_resize fate.0 n len answer = w.leaves.size_after refl in
+    changes_open (λ at. at < len) _ file _ _ w.directory w.place
+    (λ now tracked. sized ∙ c.sizes.ensures.resizes fate.0 n x len answer tracked ∙ ap (λ (l : List ℕ). length l) (sym alive))
+    (λ at byte low h.
+    let parts = seen_parts at byte n x h in
+    let out : nat_le len at ≡ false = lt-leb len at low in
+    let below : at < min n len = omega (arith, parts.0, low) in
+    ap₂ (λ (k : ℕ) (l : List ℕ). has_byte at byte (take k l)) sized alive
+    ∙ seen_from at byte _ _ (resize_counts at len (min n len) out below fate.0 n answer above parts.0) (resize_has at len (min n len) out below fate.0 byte x answer above parts.1))
+    (λ at byte low h k.
+    let parts = seen_parts at byte n x h in
+    c.resized.ensures old new at_file (has_byte at byte) (has_byte at byte) rate n len stream answer w.directory (w.leaves.recorded_after refl)
+    (λ y passes. passes)
+    (λ y m passes reach.
+    let counts : at < n = parts.0 in
+    resized_has at byte m y (reached_past at m n len counts low reach) passes) k)
+    (λ o test other k. c.other_blobs.ensures.recorded old new at_file o test es c.in_ok-check.ensures other w.directory (w.leaves.recorded_after refl) k)
+
+pub returns-in_err-check-clause-handles : goal.returns-in_err-check-clause-handles
+returns-in_err-check-clause-handles g c = same_handles c.args.self.now c.args.self.now refl
+
+pub returns-clause-handles : goal.returns-clause-handles
+returns-clause-handles g c = same_handles c.args.self.now _ c.resize.ensures.directory

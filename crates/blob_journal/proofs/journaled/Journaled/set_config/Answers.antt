@@ -14,6 +14,7 @@ use Rattle.blob_model.specs.Draws.{chosen_by}
 use Rattle.blob_draws.specs.Rows.{table_of}
 use Rattle.blob_journal.specs.Blobs.{file_name}
 use Rattle.blob_journal.proofs.Writes.{crashed_in}
+use Rattle.blob_journal.proofs.Fixed.{incarnations_same, keeps_open}
 use Rattle.blob_journal.proofs.journaled.Journaled.set_config.Goals as goal
 
 pub returns-clause-journal : goal.returns-clause-journal
@@ -59,3 +60,10 @@ returns-clause-crashes g c =
       };
       left = λ inode kept. ap (λ (s : OverMemory g.row.R.Denot). crashed_in s (chosen_by (table_of kept)) inode) set;
     }
+
+pub returns-clause-still : goal.returns-clause-still
+returns-clause-still g c =
+    let before = c.args.self.now.store in
+    let after = c.set_config.new.self in
+    let set = c.set_config.ensures.set in
+    keeps_open _ _ (incarnations_same before after (ap (λ (s : OverMemory g.row.R.Denot). directory (inner_of s)) set) (codes "f")) (λ o test f k. no_more_set before after c.args.config set o test k)

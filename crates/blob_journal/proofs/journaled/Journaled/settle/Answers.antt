@@ -19,6 +19,9 @@ use Rattle.blob_directory.specs.Syncs.{Wants, marked}
 use Rattle.blob_memory.specs.Store.{place}
 use Rattle.blob_faulty.specs.Wrapper.{inside}
 use Rattle.blob_journal.specs.Settling.{Changes, all_settled}
+use Rattle.std.specs.Prelude.{codes}
+use Rattle.blob_journal.proofs.Blobs.{journal_apart}
+use Rattle.blob_journal.proofs.Fixed.{current_given, incarnations_same, keeps_open}
 use Rattle.blob_journal.proofs.journaled.Journaled.settle.Goals as goal
 
 -- a slice of the whole list, written back
@@ -138,3 +141,19 @@ returns-clause-some g c =
       grows = ∥∥₁_elim self.kept (grows_prop _ _) (λ k. c.settle_marked.ensures.grows (marked_kept self.store self.journal edits c.deref.result.now m.wants same k));
       length = same_length self.journal c.settle_marked.new.journal c.settle_marked.ensures.sectors;
     }
+
+pub returns-in_err-settle_marked-clause-still : goal.returns-in_err-settle_marked-clause-still
+returns-in_err-settle_marked-clause-still g c =
+    let self = c.args.self.now in
+    let at : Place = place (inside self.journal.blob) in
+    let s = c.settle_marked.ensures in
+    keeps_open _ _ (incarnations_same self.store c.settle_marked.new.store s.directory (codes "f"))
+    (λ o test f k. s.beside (current_given self.store at self.current) o test (journal_apart at o self.partition f) k)
+
+pub returns-clause-still : goal.returns-clause-still
+returns-clause-still g c =
+    let self = c.args.self.now in
+    let at : Place = place (inside self.journal.blob) in
+    let s = c.settle_marked.ensures in
+    keeps_open _ _ (incarnations_same self.store c.settle_marked.new.store s.directory (codes "f"))
+    (λ o test f k. s.beside (current_given self.store at self.current) o test (journal_apart at o self.partition f) k)

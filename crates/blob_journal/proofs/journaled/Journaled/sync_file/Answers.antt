@@ -5,9 +5,8 @@ use Rattle.blob_memory.specs.Store.{directory}
 use Rattle.blob_journal.proofs.Found.{other_blob, same_next, still_given, still_kept}
 use Rattle.std.proofs.Common.{ap, ◌∙◌}
 use Rattle.blob_model.specs.Directory.{Directory, is_current}
-use Rattle.std.proofs.Common.{◌≡◌, ◌&&◌, ◌==◌, List, ℕ, ap₂, false, refl, subst, sym}
+use Rattle.std.proofs.Common.{◌≡◌, List, ℕ, ap₂, false, refl, subst, sym}
 use Rattle.std.specs.Prelude.{codes}
-use Rattle.std.specs.Str.{bytes_eq}
 use Rattle.std.proofs.lemmas.Bool.{cond-false}
 use Rattle.blob_model.specs.Durable.{Durable}
 use Rattle.blob_model.specs.Files.{publish}
@@ -18,11 +17,16 @@ use Rattle.blob_faulty.specs.Wrapper.{inner_of, inside, next_marker_of, next_wri
 use Rattle.std.specs.Prelude.{option_map}
 use Rattle.std.proofs.lemmas.Bool.{cond-true}
 use Rattle.blob_model.specs.SamePlace.{same_self}
-use Rattle.blob_journal.specs.Blobs.{file_name}
+use Rattle.blob_journal.specs.Blobs.{bytes_of, file_name}
 use Rattle.std.proofs.Common.{[]}
 use Rattle.blob_model.specs.Draws.{chosen_by}
 use Rattle.blob_draws.specs.Rows.{table_of}
 use Rattle.blob_journal.proofs.Blobs.{blob_beside, crashed_is, file_names_apart, named_apart}
+use Rattle.std.proofs.Common.{length, take, true}
+use Rattle.std.proofs.Math.Logic.{∥∥₁_map}
+use Rattle.blob_faulty.specs.Wrapper.{size_of}
+use Rattle.blob_journal.specs.Fixed.{has_byte}
+use Rattle.blob_journal.proofs.Fixed.{changes_open, fixes_open, has_from, open_is_seen, same_change, same_handles, seen_parts}
 use Rattle.blob_journal.proofs.journaled.Journaled.sync_file.Goals as goal
 
 pub invariant_of-self : goal.invariant_of-self
@@ -92,7 +96,9 @@ returns-clause-journal g c =
     }
 
 pub returns-clause-synced : goal.returns-clause-synced
-returns-clause-synced g c = λ inode bytes seen is s.
+returns-clause-synced g c = λ inode opened.
+    let is = opened.is in
+    let s = open_is_seen g.row.R.Denot c.args.self.now inode c.args.file.now opened in
     let w = c.sync.ensures in
     let old = c.args.self.now.store in
     let new = c.sync.new.store in
@@ -125,7 +131,10 @@ returns-clause-others g c = λ inode bytes below is other there apart.
     (λ o beside. ap (λ (d : Durable). d o) c.in_ok-sync.ensures.synced ∙ cond-false (same_place at o) _ _ beside)
 
 pub returns-clause-fixed : goal.returns-clause-fixed
-returns-clause-fixed g c = λ inode bytes seen is s kept.
+returns-clause-fixed g c = λ inode opened kept.
+    let is = opened.is in
+    let s = open_is_seen g.row.R.Denot c.args.self.now inode c.args.file.now opened in
+    let seen : List ℕ = bytes_of c.args.file.now in
     let w = c.sync.ensures in
     let old = c.args.self.now.store in
     let new = c.sync.new.store in
@@ -144,3 +153,50 @@ returns-clause-fixed g c = λ inode bytes seen is s kept.
     named
     (ap (λ (o : Place). durable (inner_of new) o) (sym there) ∙ now)
     (ap (λ (o : Place). pending_of (λ (a : Place). a) new o) (sym there) ∙ none)
+
+pub returns-in_err-check-clause-still : goal.returns-in_err-check-clause-still
+returns-in_err-check-clause-still g c = same_change _ _ _
+
+pub returns-in_err-sync-clause-still : goal.returns-in_err-sync-clause-still
+returns-in_err-sync-clause-still g c =
+    let old = c.args.self.now.store in
+    let new = c.sync.new.store in
+    let w = c.in_err-sync.ensures in
+    let file = c.args.file.now in
+    changes_open (λ at. Unit) _ file _ _ w.directory w.place
+    (λ now tracked. w.leaves.size ∙ tracked ∙ ap (λ (l : List ℕ). length l) (sym w.live))
+    (λ at byte spared h. ap₂ (λ (k : ℕ) (l : List ℕ). has_byte at byte (take k l)) w.leaves.size w.live ∙ h)
+    (λ at byte spared h k. c.same_bytes.ensures.same old new (place (inside file.blob)) (has_byte at byte) w.directory (w.leaves.same_files refl) k)
+    (λ o test other k. c.same_bytes.ensures.same old new o test w.directory (w.leaves.same_files refl) k)
+
+pub returns-clause-still : goal.returns-clause-still
+returns-clause-still g c =
+    let old = c.args.self.now.store in
+    let new = c.sync.new.store in
+    let w = c.in_ok-sync.ensures in
+    let file = c.args.file.now in
+    let x : List ℕ = live (inside file.blob) in
+    changes_open (λ at. Unit) _ file _ _ w.directory w.place
+    (λ now tracked. w.leaves.size ∙ tracked ∙ ap (λ (l : List ℕ). length l) (sym w.live))
+    (λ at byte spared h. ap₂ (λ (k : ℕ) (l : List ℕ). has_byte at byte (take k l)) w.leaves.size w.live ∙ h)
+    (λ at byte spared h k. c.synced.ensures old new (place (inside file.blob)) (has_byte at byte) (has_byte at byte) x w.directory (inl (w.leaves.published refl))
+    (has_from at byte x (seen_parts at byte (size_of file.blob) x h).1) k)
+    (λ o test other k. c.other_blobs.ensures.synced old new (place (inside file.blob)) o test x c.in_ok-check.ensures other w.directory (inl (w.leaves.published refl)) k)
+
+pub returns-clause-fixes : goal.returns-clause-fixes
+returns-clause-fixes g c =
+    let old = c.args.self.now.store in
+    let new = c.sync.new.store in
+    let w = c.in_ok-sync.ensures in
+    let file = c.args.file.now in
+    fixes_open _ file _ _ (∥∥₁_map c.args.self.now.kept (λ k. (k.sectors.found.files, k.sectors.found.stands))) w.place w.live w.leaves.size
+    (λ next passes k. c.synced.ensures old new (place (inside file.blob)) (λ _. true) next (live (inside file.blob)) w.directory (inl (w.leaves.published refl)) passes k)
+
+pub returns-in_err-check-clause-handles : goal.returns-in_err-check-clause-handles
+returns-in_err-check-clause-handles g c = same_handles c.args.self.now c.args.self.now refl
+
+pub returns-in_err-sync-clause-handles : goal.returns-in_err-sync-clause-handles
+returns-in_err-sync-clause-handles g c = same_handles c.args.self.now _ c.sync.ensures.directory
+
+pub returns-clause-handles : goal.returns-clause-handles
+returns-clause-handles g c = same_handles c.args.self.now _ c.sync.ensures.directory

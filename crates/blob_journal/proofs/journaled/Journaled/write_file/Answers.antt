@@ -15,8 +15,18 @@ use Rattle.blob_draws.specs.Rows.{table_of}
 use Rattle.blob_journal.specs.Blobs.{file_name}
 use Rattle.blob_journal.specs.Writes.{IsWrite}
 use Rattle.blob_journal.proofs.Blobs.{by_ok}
-use Rattle.blob_journal.proofs.Writes.{crashed_by, here, is_here, is_write}
+use Rattle.blob_journal.proofs.Writes.{crashed_by, crashed_in, is_write}
 use Rattle.blob_journal.proofs.Found.{other_blob, same_next, still_given, still_kept}
+use Rattle.std.proofs.Common.{◌<◌, List, ℕ, ap₂, arith, length, take}
+use Rattle.blob_memory.specs.Store.{live}
+use Rattle.blob_draws.specs.Recorded.{live_of_write, size_of_write}
+use Rattle.blob_draws.proofs.Unreached.{write_grows, write_has}
+use Rattle.blob_faulty.specs.Wrapper.{size_of}
+use Rattle.blob_journal.specs.Fixed.{IsBeside, has_byte}
+use Rattle.std.proofs.Math.Logic.{∥∥₁_elim}
+use Rattle.std.specs.Coded.{Coded-set, coded_list, coded_option, coded_ℕ}
+use Rattle.std.specs.Prelude.{option_map}
+use Rattle.blob_journal.proofs.Fixed.{beside_lies, changes_open, current_of, incarnation_here, overlaid_has, same_change, same_handles, seen_from, seen_parts}
 use Rattle.blob_journal.proofs.journaled.Journaled.write_file.Goals as goal
 
 pub invariant_of-self : goal.invariant_of-self
@@ -60,7 +70,47 @@ returns-clause-recorded g c =
         };
         durable = ap (λ (o : Place). durable (inner_of new) o) w.place ∙ ap (λ (d : Durable). d at) (durable_same plain) ∙ is.durable;
       };
-      left = λ inode bytes kept r is.
-          crashed_by old new (chosen_by (table_of kept)) inode at (λ x. replay_log x es (chosen_by (table_of kept))) (here c.args.self.now inode c.args.file.now bytes is) w.directory
-          (c.recorded.ensures.left old new at es r.0 (chosen_by (table_of kept)) (is_here c.args.self.now inode c.args.file.now bytes is) w.directory r.1 adds);
+      left = λ inode kept is.
+          let t = chosen_by (table_of kept) in
+          ∥∥₁_elim c.args.self.now.kept (Coded-set (coded_option (coded_list coded_ℕ)) (crashed_in new t inode) (option_map (λ x. replay_log x es t) (crashed_in old t inode)))
+          (λ k. crashed_by old new t inode at (λ x. replay_log x es t) (current_of old (codes "f") (file_name inode) at is) w.directory
+          (c.recorded.ensures.left old new at es k.sectors.found.files t (incarnation_here old (codes "f") (file_name inode) at is) w.directory k.sectors.found.stands adds));
     })
+
+pub returns-in_err-check-clause-still : goal.returns-in_err-check-clause-still
+returns-in_err-check-clause-still g c = same_change _ _ _
+
+pub returns-clause-still : goal.returns-clause-still
+returns-clause-still g c =
+    let old = c.args.self.now.store in
+    let new = c.write_from.new.store in
+    let w = c.write_from.ensures in
+    let file = c.args.file.now in
+    let at_file : Place = place (inside file.blob) in
+    let config = config_of old in
+    let stream = g.R.Rng.stream (rng_of old) in
+    let sync = is_sync c.default-options.result in
+    let offset = c.args.offset in
+    let bytes = c.args.bytes.now in
+    let answer = error_of c.write_from.result in
+    let x : List ℕ = live (inside file.blob) in
+    let n : ℕ = size_of file.blob in
+    let es = recorded_write config (next_write_of old) stream sync offset bytes answer in
+    let alive : live (inside c.write_from.new.self) ≡ live_of_write config stream sync x offset bytes answer = w.leaves.live_after refl in
+    let sized : size_of c.write_from.new.self ≡ size_of_write config stream sync n offset bytes answer = w.leaves.size refl in
+    changes_open (IsBeside offset (length bytes)) _ file _ _ w.directory w.place
+    (λ now tracked. sized ∙ c.sizes.ensures.writes config stream sync n x offset bytes answer (c.found.ensures file.blob old offset bytes sync answer now w.allowed) tracked ∙ ap (λ (l : List ℕ). length l) (sym alive))
+    (λ at byte beside h.
+    let parts = seen_parts at byte n x h in
+    let low : at < size_of_write config stream sync n offset bytes answer = omega (arith, parts.0, write_grows config stream sync n offset bytes answer) in
+    ap₂ (λ (k : ℕ) (l : List ℕ). has_byte at byte (take k l)) sized alive
+    ∙ seen_from at byte _ _ low (write_has at byte offset bytes (beside_lies at offset (length bytes) beside) x parts.1 config stream sync answer))
+    (λ at byte beside h k. c.written.ensures old new at_file (has_byte at byte) (has_byte at byte) offset bytes sync answer w.directory (w.leaves.recorded refl)
+    (λ y z passes lays. ap (has_byte at byte) lays.2 ∙ overlaid_has at byte offset bytes y lays.0 beside passes) k)
+    (λ o test other k. c.other_blobs.ensures.recorded old new at_file o test es c.in_ok-check.ensures other w.directory (w.leaves.recorded refl) k)
+
+pub returns-in_err-check-clause-handles : goal.returns-in_err-check-clause-handles
+returns-in_err-check-clause-handles g c = same_handles c.args.self.now c.args.self.now refl
+
+pub returns-clause-handles : goal.returns-clause-handles
+returns-clause-handles g c = same_handles c.args.self.now _ c.write_from.ensures.directory
