@@ -14,6 +14,7 @@ use Rattle.blob_fs.specs.declared.run.Call.TheVariants.{Create, MakeDirectory, L
 use Rattle.blob_fs.specs.declared.switches.Syncs.TheVariants.{Honest}
 use Rattle.blob_fs.specs.Files.{AddsTold, GrowsTold, KeepsNames, KeepsTold, MakesEdit, SameNames, SettlesSome, fresh_inode, syncs_of, told_of}
 use Rattle.blob_fs.specs.Calls.{ByResult, Does, DoesAll, Leaves, Makes, MakesIf, Renames, Unchanged, Moved, Exchanged, SyncsIf}
+use Rattle.blob_fs.specs.Fixed.{KeepsUnreached}
 use Rattle.blob_fs.proofs.Growing.{grows_kept}
 
 -- by what a call returned
@@ -106,8 +107,9 @@ grows_does Settle ok fs fs' m = m.0.1.grows
 
 -- one more call
 pub does_more : {R : Type 0} (calls : List Call) (oks : List Bool) (call : Call) (ok : Bool) (a b c : FileSystem R)
-    → DoesAll calls oks a b → Does call ok b c → DoesAll (calls ++ call ∷ []) (oks ++ ok ∷ []) a c
-does_more {R} [] [] call ok a b c before done = (c, subst (λ (fs : FileSystem R). Does call ok fs c) before done, refl)
-does_more [] (o ∷ oks) call ok a b c before done = absurd before
-does_more (first ∷ calls) [] call ok a b c before done = absurd before
-does_more (first ∷ calls) (o ∷ oks) call ok a b c before done = (before.0, before.1, does_more calls oks call ok before.0 b c before.2 done)
+    → DoesAll calls oks a b → Does call ok b c → KeepsUnreached call b c → DoesAll (calls ++ call ∷ []) (oks ++ ok ∷ []) a c
+does_more {R} [] [] call ok a b c before done keeps =
+    (c, subst (λ (fs : FileSystem R). Does call ok fs c) before done, subst (λ (fs : FileSystem R). KeepsUnreached call fs c) before keeps, refl)
+does_more [] (o ∷ oks) call ok a b c before done keeps = absurd before
+does_more (first ∷ calls) [] call ok a b c before done keeps = absurd before
+does_more (first ∷ calls) (o ∷ oks) call ok a b c before done keeps = (before.0, before.1, before.2, does_more calls oks call ok before.0 b c before.3 done keeps)

@@ -3,6 +3,8 @@ use Rattle.std.proofs.Common.{◌≡◌, ◌+◌, ◌<◌, ◌≤◌, ◌==◌, 
 use Rattle.std.specs.Prelude.{OnOk}
 use Rattle.std.proofs.lemmas.Bool.{cond-false, cond-true, eq-eqb}
 use Rattle.std.proofs.lemmas.List.{take_all}
+use Rattle.blob_journal.specs.Fixed.{has_byte}
+use Rattle.blob_journal.proofs.Fixed.{has_parts, seen_from}
 use Rattle.blob_fs.specs.Bytes.{common_length, cut_bytes, kept_length}
 
 -- one more byte is the same
@@ -48,6 +50,11 @@ common_past_seen (x ∷ found) (y ∷ seen) (suc at) past = common_past_seen fou
 -- nothing is cut of what was found up to the synced size
 pub uncut : (synced : ℕ) (seen found : List ℕ) → length found ≤ kept_length synced seen found → cut_bytes true synced seen found ≡ found
 uncut synced seen found long = take_all (kept_length synced seen found) found long
+
+-- a cut leaves each byte below the synced size
+pub cut_has : (cuts : Bool) (synced at byte : ℕ) (seen found : List ℕ) → at < synced → has_byte at byte found ≡ true → has_byte at byte (cut_bytes cuts synced seen found) ≡ true
+cut_has false synced at byte seen found low h = h
+cut_has true synced at byte seen found low h = seen_from at byte (kept_length synced seen found) found (omega (arith, low)) (has_parts at byte found h)
 
 -- the length that the code finds
 pub kept_is : (synced : ℕ) (f l found seen : List ℕ) (n : ℕ) → n ≡ kept_length (min synced (length f)) l f → f ≡ found → l ≡ seen → synced ≤ length found → n ≡ kept_length synced seen found

@@ -1,5 +1,5 @@
 -- The files that a recovery opens again, one after another.
-use Rattle.std.proofs.Common.{◌≡◌, ◌≢◌, ◌<◌, ◌⊎◌, ◌^◌, ℕ, Bool, true, false, List, [], ◌∷◌, cond, inl, inr, ⊎_elim, Option, None, Some, Vec, if◌then◌else◌, refl, sym, ap, ap₂, subst, ◌∙◌}
+use Rattle.std.proofs.Common.{◌≡◌, ◌≢◌, ◌<◌, ◌⊎◌, ◌^◌, ℕ, Bool, true, false, List, [], ◌∷◌, cond, inl, inr, ⊎_elim, Option, None, Some, Vec, if◌then◌else◌, length, refl, sym, ap, ap₂, subst, ◌∙◌}
 use Rattle.std.specs.Global.{Global}
 use Rattle.std.specs.Prelude.{is_some, option_and_then, option_map, unwrap_or}
 use Rattle.std.specs.BTreeMap.{BTreeMap, Updates, get, is_at}
@@ -16,15 +16,18 @@ use Rattle.blob_directory.specs.Names.{file}
 use Rattle.blob_directory.specs.Tables.{bound}
 use Rattle.blob_directory.specs.Trees.{HasNamedLinks, has_link}
 use Rattle.blob_journal.specs.declared.journaled.Journaled.{Journaled}
-use Rattle.blob_journal.specs.Blobs.{CurrentStays, DurableIsFound, DurableStays, ReadsSeen, SameFile, SameFilesBut, SameTwice, bytes_of, current_file}
+use Rattle.blob_journal.specs.declared.store.FileBlob.{FileBlob}
+use Rattle.blob_journal.specs.Blobs.{CurrentStays, DurableIsFound, DurableStays, HasDurable, ReadsSeen, SameFile, SameFilesBut, SameTwice, bytes_of}
+use Rattle.blob_journal.specs.Fixed.{IsOpen}
 use Rattle.blob_fs.specs.declared.file_system.File.{File}
 use Rattle.blob_fs.specs.declared.file_system.FileSystem.{FileSystem}
 use Rattle.blob_fs.specs.Files.{file_of, journaled_of, names_of, shown}
-use Rattle.blob_fs.specs.Bytes.{HasBytes, HasNoOrphan, HasOnlyLinked, IsLeft, LeftIn, Reopens, ReopensAll, bytes_read, cut_bytes}
+use Rattle.blob_fs.specs.Bytes.{HasBytes, HasNoOrphan, HasOnlyLinked, IsLeft, KeepsBlobsOf, Reopens, ReopensAll, ReopensIn, bytes_read, left_of}
+use Rattle.blob_fs.specs.Open.{AllOpen}
 
 -- Keys of a map.
 
-key_is : (i k : ℕ) → is_eq (nat_cmp i k) ≡ true → i ≡ k
+pub key_is : (i k : ℕ) → is_eq (nat_cmp i k) ≡ true → i ≡ k
 key_is i k y = exact_unsigned i k ((Equal-is (nat_cmp i k)).0 y)
 
 pub key_self : (k : ℕ) → is_eq (nat_cmp k k) ≡ true
@@ -39,98 +42,106 @@ key_apart i k n = ⊎_elim
 apart_keys : (i k : ℕ) → is_eq (nat_cmp i k) ≡ false → i ≢ k
 apart_keys i k n e = false≢true (sym n ∙ ap (λ a. is_eq (nat_cmp a k)) e ∙ key_self k)
 
-none_after : (k : ℕ) (rest : List (ℕ × File)) → AllByRecursion (λ y. nat_cmp k y ≡ Less) (keys_of rest) → lookup (is_at (nat_cmp k)) rest ≡ None
+none_after : (k : ℕ) (rest : List (ℕ × ℕ)) → AllByRecursion (λ y. nat_cmp k y ≡ Less) (keys_of rest) → lookup (is_at (nat_cmp k)) rest ≡ None
 none_after k [] a = refl
 none_after k (e ∷ rest) a = cond-false (is_eq (nat_cmp k e.0)) (Some e.1) (lookup (is_at (nat_cmp k)) rest) (ap is_eq a.0) ∙ none_after k rest a.1
 
+-- whether a number is among those that are left
+abbrev pub is_left : List (ℕ × ℕ) → ℕ → Bool
+is_left rest i = is_some (lookup (is_at (nat_cmp i)) rest)
+
+-- the first one, and another
+left_first : (i k links : ℕ) (rest : List (ℕ × ℕ)) → is_eq (nat_cmp i k) ≡ true → is_left ((k, links) ∷ rest) i ≡ true
+left_first i k links rest y = ap is_some (cond-true (is_eq (nat_cmp i k)) (Some links) (lookup (is_at (nat_cmp i)) rest) y)
+
+left_later : (i k links : ℕ) (rest : List (ℕ × ℕ)) → is_eq (nat_cmp i k) ≡ false → is_left ((k, links) ∷ rest) i ≡ is_left rest i
+left_later i k links rest n = ap is_some (cond-false (is_eq (nat_cmp i k)) (Some links) (lookup (is_at (nat_cmp i)) rest) n)
+
 -- the keys that are left ascend
-abbrev pub Ascend : List (ℕ × File) → Type 0
+abbrev pub Ascend : List (ℕ × ℕ) → Type 0
 Ascend rest = IsStrictlySortedBy nat_cmp (keys_of rest)
 
-pub ascend_parts : (e : ℕ × File) (rest : List (ℕ × File)) → Ascend (e ∷ rest) → AllByRecursion (λ y. nat_cmp e.0 y ≡ Less) (keys_of rest) × Ascend rest
+pub ascend_parts : (e : ℕ × ℕ) (rest : List (ℕ × ℕ)) → Ascend (e ∷ rest) → AllByRecursion (λ y. nat_cmp e.0 y ≡ Less) (keys_of rest) × Ascend rest
 unfolding IsStrictlySortedBy
 ascend_parts e rest h = h
 
-pub ascend_rest : (rest rest' : List (ℕ × File)) (e : ℕ × File) → rest ≡ e ∷ rest' → Ascend rest → Ascend rest'
+pub ascend_rest : (rest rest' : List (ℕ × ℕ)) (e : ℕ × ℕ) → rest ≡ e ∷ rest' → Ascend rest → Ascend rest'
 ascend_rest rest rest' e is h = (ascend_parts e rest' (subst Ascend is h)).1
 
-some_same : {A : Type 0} {x y : A} → Some x ≡ Some y → x ≡ y
-some_same e = cc
+-- the tree counts those that are left
+abbrev pub AreLinked : Tree → List (ℕ × ℕ) → Type 0
+AreLinked tree rest = (i : ℕ) → is_left rest i ≡ true → has_link tree i ≡ true
 
-none_some : {A : Type 0} {x : A} → ◌≡◌ {A = Option A} (Some x) None → ⊥
-none_some e = cc
+pub linked_first : (tree : Tree) (k links : ℕ) (rest : List (ℕ × ℕ)) → AreLinked tree ((k, links) ∷ rest) → has_link tree k ≡ true
+linked_first tree k links rest h = h k (left_first k k links rest (key_self k))
+
+pub linked_rest : (tree : Tree) (k links : ℕ) (rest : List (ℕ × ℕ)) → AreLinked tree ((k, links) ∷ rest) → AreLinked tree rest
+linked_rest tree k links rest h i there = h i (⊎_elim
+    (λ y. left_first i k links rest y)
+    (λ n. left_later i k links rest n ∙ there)
+    (cases_Bool (is_eq (nat_cmp i k))))
 
 -- The turns of the loop.
 
 module _ {R : Type 0} (j : Journaled R) (old : BTreeMap ℕ File) (tree : Tree) (cuts : Bool) where
-  -- a file that was opened again
-  abbrev pub IsDone : Journaled R → BTreeMap ℕ File → ℕ → File → Type 0
-  IsDone j' files i f = has_link tree i ≡ true → (found : List ℕ) → current_file j i ≡ Some found → LeftIn j' files i found (cut_bytes cuts f.synced (bytes_of f.blob) found)
+  -- each file that the tree counts is among those that are left, with the same blob, or was opened again
+  abbrev pub Stands : List (ℕ × ℕ) → Journaled R → BTreeMap ℕ File → Type 0
+  Stands rest j' files = (i : ℕ) → i < 2 ^ 64 → has_link tree i ≡ true
+      → ((is_left rest i ≡ true) × SameFile i j j') ⊎ ((is_left rest i ≡ false) × ReopensIn j i (get nat_cmp old i) cuts j' files)
 
-  -- each file is among those that are left, with the same blob, or done
-  abbrev pub Stands : List (ℕ × File) → Journaled R → BTreeMap ℕ File → Type 0
-  Stands rest j' files = (i : ℕ) (f : File) → i < 2 ^ 64 → get nat_cmp old i ≡ Some f
-      → ((lookup (is_at (nat_cmp i)) rest ≡ Some f) × SameFile i j j') ⊎ ((lookup (is_at (nat_cmp i)) rest ≡ None) × IsDone j' files i f)
-
-  pub begins : (files : BTreeMap ℕ File) → Stands old.entries j files
-  begins files i f below at = inl (at, record { file = refl; durable = λ o x y. refl })
+  pub begins : (files : BTreeMap ℕ File) → Stands tree.links.entries j files
+  begins files i below linked = inl (linked, record { file = refl; durable = λ o x y. refl })
 
   pub ends : (j' : Journaled R) (files : BTreeMap ℕ File) → Stands [] j' files → ReopensAll j old tree cuts j' files
-  ends j' files stands i f found below at linked is = ⊎_elim (λ w. absurd (none_some (sym w.0))) (λ d. d.1 linked found is) (stands i f below at)
+  ends j' files stands i below linked = ⊎_elim (λ w. absurd (false≢true w.0)) (λ d. d.1) (stands i below linked)
 
-  -- a file that the tree doesn't count
-  pub passes : (k : ℕ) (v : File) (rest : List (ℕ × File)) (j' : Journaled R) (files : BTreeMap ℕ File) → Ascend ((k, v) ∷ rest) → has_link tree k ≡ false
-      → Stands ((k, v) ∷ rest) j' files → Stands rest j' files
-  passes k v rest j' files sorted unlinked stands i f below at = ⊎_elim
-      (λ y. let e : i ≡ k = key_is i k y in
-      inr (
-        ap (λ a. lookup (is_at (nat_cmp a)) rest) e ∙ none_after k rest (ascend_parts (k, v) rest sorted).0,
-        λ linked found is. absurd (false≢true (sym unlinked ∙ ap (has_link tree) (sym e) ∙ linked)),
-      ))
-      (λ n. let ahead : lookup (is_at (nat_cmp i)) ((k, v) ∷ rest) ≡ lookup (is_at (nat_cmp i)) rest = cond-false (is_eq (nat_cmp i k)) (Some v) (lookup (is_at (nat_cmp i)) rest) n in
-      ⊎_elim (λ w. inl (sym ahead ∙ w.0, w.1)) (λ d. inr (sym ahead ∙ d.0, d.1)) (stands i f below at))
-      (cases_Bool (is_eq (nat_cmp i k)))
-
-  -- a file that it counts
-  module _ (current : CurrentStays R) (stays : DurableStays R) (twice : SameTwice R) (k : ℕ) (v : File) (rest : List (ℕ × File)) (a b : Journaled R) (before after : BTreeMap ℕ File) (file : File) (sorted : Ascend ((k, v) ∷ rest))
-      (added : (q : ℕ) → get nat_cmp after q ≡ cond (is_eq (nat_cmp k q)) (Some file) (get nat_cmp before q)) (others : SameFilesBut k a b) (left : Reopens a k v cuts b file) where
+  module _ (current : CurrentStays R) (stays : DurableStays R) (twice : SameTwice R) (k links : ℕ) (rest : List (ℕ × ℕ)) (a b : Journaled R) (before after : BTreeMap ℕ File) (file : File) (sorted : Ascend ((k, links) ∷ rest))
+      (added : (q : ℕ) → get nat_cmp after q ≡ cond (is_eq (nat_cmp k q)) (Some file) (get nat_cmp before q)) (others : SameFilesBut k a b) (left : Reopens a k (get nat_cmp old k) cuts b file) where
     here : get nat_cmp after k ≡ Some file
     here = added k ∙ cond-true (is_eq (nat_cmp k k)) (Some file) (get nat_cmp before k) (key_self k)
 
-    done_here : (f : File) → v ≡ f → SameFile k j a → IsDone b after k f
-    done_here f e same linked found is =
-        let l : IsLeft b k file found (cut_bytes cuts v.synced (bytes_of v.blob) found) = left found (current j a k same ∙ is) in
-        subst (λ (x : File). LeftIn b after k found (cut_bytes cuts x.synced (bytes_of x.blob) found)) e (record { file = file; at = here; left = l })
-
-    still : (i : ℕ) (found bytes : List ℕ) → i < 2 ^ 64 → is_eq (nat_cmp i k) ≡ false → LeftIn a before i found bytes → LeftIn b after i found bytes
-    still i found bytes below n l = record {
-      file = l.file;
-      at = added i ∙ cond-false (is_eq (nat_cmp k i)) (Some file) (get nat_cmp before i) (key_apart i k n) ∙ l.at;
-      left = record {
-        has = stays a b i l.file.blob bytes (others i below (apart_keys i k n)) l.left.has;
-        synced = l.left.synced;
-        size = l.left.size;
-        there = l.left.there;
-        shown = l.left.shown;
-      };
+    -- the file that is opened now
+    now : SameFile k j a → ReopensIn j k (get nat_cmp old k) cuts b after
+    now same = record {
+      found = left.found;
+      is = λ bytes is. left.is bytes (current j a k same ∙ is);
+      left = record { file = file; at = here; left = left.left };
     }
 
-    pub takes : Stands ((k, v) ∷ rest) a before → Stands rest b after
-    takes stands i f below at = ⊎_elim
+    -- one that was opened before
+    still : (i : ℕ) → i < 2 ^ 64 → is_eq (nat_cmp i k) ≡ false → ReopensIn j i (get nat_cmp old i) cuts a before → ReopensIn j i (get nat_cmp old i) cuts b after
+    still i below n d =
+        let l = d.left in
+        record {
+          found = d.found;
+          is = d.is;
+          left = record {
+            file = l.file;
+            at = added i ∙ cond-false (is_eq (nat_cmp k i)) (Some file) (get nat_cmp before i) (key_apart i k n) ∙ l.at;
+            left = record {
+              has = stays a b i l.file.blob (left_of cuts (get nat_cmp old i) d.found) (others i below (apart_keys i k n)) l.left.has;
+              synced = l.left.synced;
+              size = l.left.size;
+              there = l.left.there;
+              shown = l.left.shown;
+            };
+          };
+        }
+
+    pub takes : Stands ((k, links) ∷ rest) a before → Stands rest b after
+    takes stands i below linked = ⊎_elim
         (λ y. let e : i ≡ k = key_is i k y in
-        let ahead : lookup (is_at (nat_cmp i)) ((k, v) ∷ rest) ≡ Some v = cond-true (is_eq (nat_cmp i k)) (Some v) (lookup (is_at (nat_cmp i)) rest) y in
         inr (
-          ap (λ x. lookup (is_at (nat_cmp x)) rest) e ∙ none_after k rest (ascend_parts (k, v) rest sorted).0,
+          ap (λ x. is_left rest x) e ∙ ap is_some (none_after k rest (ascend_parts (k, links) rest sorted).0),
           ⊎_elim
-              (λ w. subst (λ x. IsDone b after x f) (sym e) (done_here f (some_same (sym ahead ∙ w.0)) (subst (λ x. SameFile x j a) e w.1)))
-              (λ d. absurd (none_some (sym ahead ∙ d.0)))
-              (stands i f below at),
+              (λ w. subst (λ x. ReopensIn j x (get nat_cmp old x) cuts b after) (sym e) (now (subst (λ x. SameFile x j a) e w.1)))
+              (λ d. absurd (false≢true (sym d.0 ∙ left_first i k links rest y)))
+              (stands i below linked),
         ))
-        (λ n. let ahead : lookup (is_at (nat_cmp i)) ((k, v) ∷ rest) ≡ lookup (is_at (nat_cmp i)) rest = cond-false (is_eq (nat_cmp i k)) (Some v) (lookup (is_at (nat_cmp i)) rest) n in
-        ⊎_elim
-        (λ w. inl (sym ahead ∙ w.0, twice j a b i w.1 (others i below (apart_keys i k n))))
-        (λ d. inr (sym ahead ∙ d.0, λ linked found is. still i found (cut_bytes cuts f.synced (bytes_of f.blob) found) below n (d.1 linked found is)))
-        (stands i f below at))
+        (λ n. ⊎_elim
+        (λ w. inl (sym (left_later i k links rest n) ∙ w.0, twice j a b i w.1 (others i below (apart_keys i k n))))
+        (λ d. inr (sym (left_later i k links rest n) ∙ d.0, still i below n d.1))
+        (stands i below linked))
         (cases_Bool (is_eq (nat_cmp i k)))
 
 -- one more file of a map, which the tree counts
@@ -179,3 +190,24 @@ left_stays stays a b inode file found bytes same left = record {
   there = left.there;
   shown = left.shown;
 }
+
+-- a file of which calls see the durable bytes is open
+durable_open : {R : Type 0} (j : Journaled R) (inode : ℕ) (blob : FileBlob) (bytes : List ℕ) → HasDurable j inode blob bytes → IsOpen j inode blob
+durable_open j inode blob bytes has = record { durable = bytes; is = has.is; tracked = has.seen.size ∙ ap (λ (l : List ℕ). length l) (sym has.seen.live) }
+
+some_same : {A : Type 0} {x y : A} → Some x ≡ Some y → x ≡ y
+some_same e = cc
+
+-- so is each one of a map that was opened again, while its blob is the same
+pub all_open : {R : Type 0} → DurableStays R → (j a b : Journaled R) (old : BTreeMap ℕ File) (tree : Tree) (cuts : Bool) (files : BTreeMap ℕ File)
+    → ReopensAll j old tree cuts a files → HasOnlyLinked tree files → KeepsBlobsOf files a b → AllOpen b files
+all_open stays j a b old tree cuts files all only same inode file below at =
+    let d = all inode below (only inode (ap is_some at)) in
+    let l = d.left in
+    let has : HasDurable b inode l.file.blob (left_of cuts (get nat_cmp old inode) d.found) =
+    stays a b inode l.file.blob (left_of cuts (get nat_cmp old inode) d.found) (same inode file below at) l.left.has in
+    subst (λ (f : File). IsOpen b inode f.blob) (some_same (sym l.at ∙ at)) (durable_open b inode l.file.blob (left_of cuts (get nat_cmp old inode) d.found) has)
+
+-- a blob is the same after no call
+pub same_now : {R : Type 0} (j : Journaled R) (files : BTreeMap ℕ File) → KeepsBlobsOf files j j
+same_now j files inode file below at = record { file = refl; durable = λ o x y. refl }

@@ -1,8 +1,9 @@
 -- Files that are synced aren't cut.
-use Rattle.std.proofs.Common.{◌≡◌, ◌≤◌, ◌==◌, ℕ, suc, Bool, true, false, List, [], ◌∷◌, drop, length, refl, ap, subst, ◌∙◌, arith}
+use Rattle.std.proofs.Common.{◌≡◌, ◌≤◌, ◌==◌, ℕ, suc, Bool, true, false, List, [], ◌∷◌, drop, length, Option, refl, sym, ap, subst, ◌∙◌, arith}
 use Rattle.std.proofs.lemmas.Bool.{cond-true, eq-eqb}
 use Rattle.std.proofs.lemmas.List.{length-drop}
-use Rattle.blob_fs.specs.Bytes.{HasBytes, bytes_left, common_length, cut_bytes, kept_length}
+use Rattle.blob_fs.specs.declared.file_system.File.{File}
+use Rattle.blob_fs.specs.Bytes.{HasBytes, bytes_left, common_length, cut_bytes, kept_length, left_of}
 use Rattle.blob_fs.specs.Synced.{SyncedIsFound}
 use Rattle.blob_fs.proofs.Cutting.{uncut}
 
@@ -23,6 +24,11 @@ uncut_same false synced bytes = refl
 
 pub synced_is_found : (R : Type 0) → SyncedIsFound R
 synced_is_found R fs fs' kept name inode bytes below finds synced named =
-    let cut : bytes_left fs synced.was bytes ≡ bytes =
-    ap (λ (seen : List ℕ). cut_bytes fs.options.profile.cuts synced.was.synced seen bytes) synced.seen ∙ uncut_same fs.options.profile.cuts synced.was.synced bytes in
-    subst (λ (l : List ℕ). HasBytes fs' inode bytes l) cut (finds name inode synced.was bytes below named synced.at (synced.left kept))
+    let cuts = fs.options.profile.cuts in
+    let f = finds name inode below named in
+    let same : f.found ≡ bytes = sym (f.is bytes (synced.left kept)) in
+    let cut : bytes_left fs inode bytes ≡ bytes =
+    ap (λ (old : Option File). left_of cuts old bytes) synced.at
+    ∙ ap (λ (seen : List ℕ). cut_bytes cuts synced.was.synced seen bytes) synced.seen
+    ∙ uncut_same cuts synced.was.synced bytes in
+    subst (λ (l : List ℕ). HasBytes fs' inode bytes l) cut (subst (λ (l : List ℕ). HasBytes fs' inode l (bytes_left fs inode l)) same f.has)

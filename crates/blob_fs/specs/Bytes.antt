@@ -39,9 +39,14 @@ file_in fs inode = get nat_cmp fs.files inode
 abbrev pub crashed_file : {R : Type 0} → FileSystem R → Selections → ℕ → Option (List ℕ)
 crashed_file fs kept inode = crashed_in (journaled_of fs) kept inode
 
--- of what was found of a file, what the profile leaves, by the synced size and the blob's bytes before the crash
-abbrev pub bytes_left : {R : Type 0} → FileSystem R → File → List ℕ → List ℕ
-bytes_left fs file found = cut_bytes fs.options.profile.cuts file.synced (bytes_of file.blob) found
+-- of what was found of a file, what the profile leaves, by the file of before: its synced size and its blob's bytes
+abbrev pub left_of : Bool → Option File → List ℕ → List ℕ
+left_of cuts None found = found
+left_of cuts (Some old) found = cut_bytes cuts old.synced (bytes_of old.blob) found
+
+-- the same by its number; nothing is cut if the file system had no file of this number
+abbrev pub bytes_left : {R : Type 0} → FileSystem R → ℕ → List ℕ → List ℕ
+bytes_left fs inode found = left_of fs.options.profile.cuts (file_in fs inode) found
 
 -- what calls see of a file: its blob's bytes, or those that a failed sync shows in their place
 abbrev pub bytes_read : File → List ℕ
@@ -54,11 +59,21 @@ pub record HasBytes {R : Type 0} (fs : FileSystem R) (inode : ℕ) (found bytes 
   pub synced : synced_size fs inode ≡ length bytes
   pub size : found_size fs inode ≡ length found
 
+-- if something was left of a file, that is found of it
+abbrev pub IsFound : Option (List ℕ) → List ℕ → Type 0
+IsFound left found = (bytes : List ℕ) → left ≡ Some bytes → bytes ≡ found
+
+-- the file has what was left of its blob, if it had one, cut as the profile says; a file that was there had one
+pub record FindsFile {R : Type 0} (fs : FileSystem R) (left : Option (List ℕ)) (inode : ℕ) (fs' : FileSystem R) : Type 0 where
+  pub found : List ℕ
+  pub is : IsFound left found
+  pub was : is_some (file_in fs inode) ≡ true → left ≡ Some found
+  pub has : HasBytes fs' inode found (bytes_left fs inode found)
+
 -- each file that a name reaches has exactly the bytes that the store's crash leaves of it, cut as the profile says
 abbrev pub FindsBytes : {R : Type 0} → FileSystem R → Selections → FileSystem R → Type 0
-FindsBytes fs kept fs' = (name : List ℕ) (inode : ℕ) (old : File) (found : List ℕ) → inode < 2 ^ 64
-    → names_of fs' name ≡ Some (file inode) → file_in fs inode ≡ Some old → crashed_file fs kept inode ≡ Some found
-    → HasBytes fs' inode found (bytes_left fs old found)
+FindsBytes fs kept fs' = (name : List ℕ) (inode : ℕ) → inode < 2 ^ 64 → names_of fs' name ≡ Some (file inode)
+    → FindsFile fs (crashed_file fs kept inode) inode fs'
 
 -- there is no file that no name reaches
 abbrev pub HasNoOrphan : {R : Type 0} → FileSystem R → Type 0
@@ -68,9 +83,8 @@ HasNoOrphan fs = (inode : ℕ) → ((name : List ℕ) → names_of fs name ≢ S
 
 -- each file that a name reaches has the durable bytes of before, cut as the profile says
 abbrev pub RecoversBytes : {R : Type 0} → FileSystem R → FileSystem R → Type 0
-RecoversBytes fs fs' = (name : List ℕ) (inode : ℕ) (old : File) (found : List ℕ) → inode < 2 ^ 64
-    → names_of fs' name ≡ Some (file inode) → file_in fs inode ≡ Some old → current_file (journaled_of fs) inode ≡ Some found
-    → HasBytes fs' inode found (bytes_left fs old found)
+RecoversBytes fs fs' = (name : List ℕ) (inode : ℕ) → inode < 2 ^ 64 → names_of fs' name ≡ Some (file inode)
+    → FindsFile fs (current_file (journaled_of fs) inode) inode fs'
 
 -- a file that is open again has these bytes; before the cut these were found of it
 pub record IsLeft {R : Type 0} (j : Journaled R) (inode : ℕ) (file : File) (found bytes : List ℕ) : Type 0 where
@@ -98,23 +112,29 @@ CutsFile {R} old j blob j' blob' = (inode : ℕ) (found : List ℕ) → HasDurab
 abbrev pub ChangesOnly : {R : Type 0} → Journaled R → FileBlob → Journaled R → Type 0
 ChangesOnly {R} j blob j' = (inode : ℕ) (bytes : List ℕ) → inode < 2 ^ 64 → HasDurable j inode blob bytes → SameFilesBut inode j j'
 
--- the blob of a file is open again, and cut if the profile does
-pub record OpensLeft {R : Type 0} (j : Journaled R) (inode : ℕ) (old : File) (cuts : Bool) (j' : Journaled R) (blob : FileBlob) (n : ℕ) : Type 0 where
+-- the blob of a file is open again, and cut if the profile does and the file was there
+pub record OpensLeft {R : Type 0} (j : Journaled R) (inode : ℕ) (old : Option File) (cuts : Bool) (j' : Journaled R) (blob : FileBlob) (n : ℕ) : Type 0 where
   pub found : List ℕ
-  pub is : (before : List ℕ) → current_file j inode ≡ Some before → before ≡ found
-  pub has : HasDurable j' inode blob (cut_bytes cuts old.synced (bytes_of old.blob) found)
+  pub is : IsFound (current_file j inode) found
+  pub has : HasDurable j' inode blob (left_of cuts old found)
   pub size : n ≡ length found
 
 -- a file is
-abbrev pub Reopens : {R : Type 0} → Journaled R → ℕ → File → Bool → Journaled R → File → Type 0
-Reopens {R} j inode old cuts j' new = (found : List ℕ) → current_file j inode ≡ Some found
-    → IsLeft j' inode new found (cut_bytes cuts old.synced (bytes_of old.blob) found)
+pub record Reopens {R : Type 0} (j : Journaled R) (inode : ℕ) (old : Option File) (cuts : Bool) (j' : Journaled R) (file : File) : Type 0 where
+  pub found : List ℕ
+  pub is : IsFound (current_file j inode) found
+  pub left : IsLeft j' inode file found (left_of cuts old found)
+
+-- so is one of a map
+pub record ReopensIn {R : Type 0} (j : Journaled R) (inode : ℕ) (old : Option File) (cuts : Bool) (j' : Journaled R) (files : BTreeMap ℕ File) : Type 0 where
+  pub found : List ℕ
+  pub is : IsFound (current_file j inode) found
+  pub left : LeftIn j' files inode found (left_of cuts old found)
 
 -- each file that the tree counts is
 abbrev pub ReopensAll : {R : Type 0} → Journaled R → BTreeMap ℕ File → Tree → Bool → Journaled R → BTreeMap ℕ File → Type 0
-ReopensAll {R} j old tree cuts j' files = (inode : ℕ) (file : File) (found : List ℕ) → inode < 2 ^ 64
-    → get nat_cmp old inode ≡ Some file → has_link tree inode ≡ true → current_file j inode ≡ Some found
-    → LeftIn j' files inode found (cut_bytes cuts file.synced (bytes_of file.blob) found)
+ReopensAll {R} j old tree cuts j' files = (inode : ℕ) → inode < 2 ^ 64 → has_link tree inode ≡ true
+    → ReopensIn j inode (get nat_cmp old inode) cuts j' files
 
 -- it counts each file of a map
 abbrev pub HasOnlyLinked : Tree → BTreeMap ℕ File → Type 0

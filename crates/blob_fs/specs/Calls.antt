@@ -13,6 +13,7 @@ use Rattle.blob_fs.specs.declared.switches.Syncs.TheVariants.{Honest}
 use Rattle.blob_fs.specs.declared.switches.FailedWrite.TheVariants.{ByMode}
 use Rattle.blob_fs.specs.declared.file_system.Descriptor.{Descriptor}
 use Rattle.blob_fs.specs.Bytes.{FindsBytes}
+use Rattle.blob_fs.specs.Fixed.{FindsFixed, KeepsUnreached}
 use Rattle.blob_fs.specs.Writes.{RecordsWrite, failed_write_of}
 use Rattle.blob_fs.specs.Files.{AddsTold, FindsKept, FindsTold, GrowsTold, KeepsNames, KeepsTold, MakesEdit, SameNames, SettlesSome, SyncsAll, SyncsDirectory, SyncsFile, fresh_inode, names_of, syncs_of}
 
@@ -97,7 +98,8 @@ abbrev pub DoesAll : {R : Type 0} → List Call → List Bool → FileSystem R �
 DoesAll [] [] fs fs' = fs' ≡ fs
 DoesAll [] (ok ∷ oks) fs fs' = ⊥
 DoesAll (call ∷ calls) [] fs fs' = ⊥
-DoesAll {R} (call ∷ calls) (ok ∷ oks) fs fs' = (between : FileSystem R) × Does call ok fs between × DoesAll calls oks between fs'
+DoesAll {R} (call ∷ calls) (ok ∷ oks) fs fs' =
+    (between : FileSystem R) × Does call ok fs between × KeepsUnreached call fs between × DoesAll calls oks between fs'
 
 -- After these calls a crash that kept these rows found the names by the edits that were recorded until then.
 pub record RunsAndCrashes {R : Type 0} (fs : FileSystem R) (calls : List Call) (oks : List Bool) (rows : Selections) (fs' : FileSystem R) : Type 0 where
@@ -107,3 +109,4 @@ pub record RunsAndCrashes {R : Type 0} (fs : FileSystem R) (calls : List Call) (
   pub kept : FindsKept between rows fs'
   pub finds : FindsTold between fs'
   pub bytes : FindsBytes between rows fs'
+  pub fixed : FindsFixed between fs'

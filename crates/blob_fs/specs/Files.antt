@@ -18,6 +18,7 @@ use Rattle.blob_directory.specs.Names.{Edit, Names, Same, edited}
 use Rattle.blob_directory.specs.Sectors.{Found}
 use Rattle.blob_directory.specs.Tables.{bound}
 use Rattle.blob_directory.specs.Trees.{Finds}
+use Rattle.blob_fs.specs.Open.{with_open}
 use Rattle.blob_journal.specs.declared.journaled.Journaled.{Journaled}
 use Rattle.blob_journal.specs.Currents.{Represents}
 use Rattle.blob_journal.specs.Journals.{FindsKept as finds_kept, durable_file, FindsNames as finds_names, GivesNames as gives_names, store_of}
@@ -49,7 +50,7 @@ generator_of fs = generator_in fs.store
 
 -- with another generator; all else stays
 abbrev pub with_generator : {R : Type 0} → FileSystem R → R → FileSystem R
-with_generator fs rng = record fs { store = with_generator_in fs.store rng }
+with_generator fs rng = record fs { store = with_generator_in fs.store rng; opened = with_open fs.store rng fs.files fs.opened }
 
 -- nothing has happened to the names
 abbrev pub KeepsNames : {R : Type 0} → FileSystem R → FileSystem R → Type 0
@@ -116,6 +117,10 @@ pub record SameFiles {R : Type 0} (fs fs' : FileSystem R) : Type 0 where
   pub files : fs'.files ≡ fs.files
   pub opens : fs'.opens ≡ fs.opens
   pub options : fs'.options ≡ fs.options
+
+-- the same descriptors are open
+abbrev pub SameOpens : {R : Type 0} → FileSystem R → FileSystem R → Type 0
+SameOpens fs fs' = fs'.opens ≡ fs.opens
 
 -- a sync of this file; when it last grew, and whether it has changed, isn't said
 pub record IsSyncOf (inode : ℕ) (kind : Synced) : Type 0 where

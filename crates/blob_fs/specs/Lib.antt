@@ -1,6 +1,9 @@
 pub mod Files
 pub mod Bytes
+pub mod Open
 pub mod Synced
+pub mod Fixed
+pub mod Unreached
 pub use Rattle.blob_directory.specs.Names
 pub use Rattle.blob_directory.specs.Profiles
 pub use Rattle.blob_directory.specs.Sectors

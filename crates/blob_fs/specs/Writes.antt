@@ -4,14 +4,13 @@ use Rattle.blob_model.specs.Draws.{chosen_by}
 use Rattle.blob_model.specs.Log.{Entry, replay_log}
 use Rattle.blob_draws.specs.Rows.{table_of}
 use Rattle.blob_draws.specs.declared.selections.Selections.{Selections}
-use Rattle.blob_journal.specs.Blobs.{IsFileOf}
 use Rattle.blob_journal.specs.Writes.{IsWrite}
 use Rattle.blob_fs.specs.declared.file_system.Descriptor.{Descriptor}
 use Rattle.blob_fs.specs.declared.file_system.File.{File}
 use Rattle.blob_fs.specs.declared.file_system.FileSystem.{FileSystem}
 use Rattle.blob_fs.specs.declared.switches.FailedWrite.{FailedWrite}
 use Rattle.blob_fs.specs.Bytes.{crashed_file, file_in}
-use Rattle.blob_fs.specs.Files.{RepresentsFiles, inode_opened, journaled_of}
+use Rattle.blob_fs.specs.Files.{inode_opened}
 
 abbrev pub failed_write_of : {R : Type 0} → FileSystem R → FailedWrite
 failed_write_of fs = fs.options.failed_write
@@ -24,5 +23,4 @@ pub record RecordsWrite {R : Type 0} (file : Descriptor) (offset : ℕ) (bytes :
   pub there : file_in fs inode ≡ Some old
   pub entries : List Entry
   pub is : IsWrite offset bytes entries
-  pub left : (durable : List ℕ) (kept : Selections) → RepresentsFiles fs → IsFileOf (journaled_of fs) inode old.blob durable
-      → crashed_file fs' kept inode ≡ option_map (λ x. replay_log x entries (chosen_by (table_of kept))) (crashed_file fs kept inode)
+  pub left : (kept : Selections) → crashed_file fs' kept inode ≡ option_map (λ x. replay_log x entries (chosen_by (table_of kept))) (crashed_file fs kept inode)

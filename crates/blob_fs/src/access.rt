@@ -1,5 +1,6 @@
 //! What a client in another language needs: descriptors by their numbers, and the generator.
 ghost use Rattle.std.specs.Prelude.{◌≡◌};
+ghost use Rattle.blob_fs.specs.Fixed.{KeepsFixed};
 ghost use Rattle.blob_fs.specs.Files.{KeepsNames, KeepsTold, descriptor_number, generator_of, with_generator};
 
 use crate::file_system::{Descriptor, FileSystem};
@@ -35,6 +36,7 @@ impl<R: Rng + Drop> FileSystem<R> {
         ensures set { self.new ≡ with_generator self.old rng }
         ensures names { KeepsNames self.old self.new }
         ensures told { KeepsTold self.old self.new }
+        ensures fixed { KeepsFixed self.old self.new }
     {
         self.store.replace_rng(rng)
     }

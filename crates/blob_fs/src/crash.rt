@@ -1,6 +1,7 @@
 //! The crash, and the recovery after it.
 ghost use Rattle.std.specs.Prelude.{IfOk, OnErr, OnOk};
 ghost use Rattle.blob_fs.specs.Bytes.{FindsBytes, HasNoOrphan};
+ghost use Rattle.blob_fs.specs.Fixed.{FindsFixed};
 ghost use Rattle.blob_fs.specs.Files.{FindsKept, FindsTold, GivesNames, GivesTold, IsRecovered, KeepsNames, KeepsTold, SameNames};
 
 use crate::error::FsError;
@@ -8,6 +9,7 @@ use crate::file_system::FileSystem;
 use crate::places::find_places;
 use blob_directory::laws::found;
 use blob_faulty::Selections;
+use blob_journal::laws::{blobs, fixed};
 use rand_core::Rng;
 
 /// Where a pending write was.
@@ -33,7 +35,8 @@ pub struct Crash {
 impl<R: Rng + Drop> FileSystem<R> {
     /// Crashes and recovers. The draws decide which unsynced bytes and which unsettled edits are kept. Then all is durable, and
     /// every descriptor is stale. A file that a name reaches has the bytes that the layer's crash leaves of it, cut as the profile
-    /// says. A file that no name reaches is deleted. Another crash straight after it finds the same names.
+    /// says: each byte that a sync fixed, and that no later call reached, is still there. A file that no name reaches is deleted.
+    /// Another crash straight after it finds the same names.
     ///
     /// # Errors
     ///
@@ -50,8 +53,11 @@ impl<R: Rng + Drop> FileSystem<R> {
         ensures untold { OnErr result (KeepsTold self.old self.new) }
         ensures bytes { IfOk result (λ crash. FindsBytes self.old crash.rows self.new) }
         ensures orphans { OnOk result (HasNoOrphan self.new) }
+        ensures fixed { OnOk result (FindsFixed self.old self.new) }
     {
         found();
+        blobs::<R>();
+        fixed::<R>();
         let pending = self.pending_places()?;
         let mut places = Vec::with_capacity(self.alloc, pending.len())?;
         let rows = self.store.crash()?;

@@ -1,6 +1,9 @@
 //! A sync that fails and drops what was unsynced: what reads return after it.
 ghost use Rattle.std.specs.Prelude.{◌≡◌};
-ghost use Rattle.blob_fs.specs.Files.{KeepsNames, KeepsTold, journaled_of};
+ghost use Rattle.blob_fs.specs.Files.{KeepsNames, KeepsTold, SameOpens, journaled_of};
+ghost use Rattle.blob_fs.specs.Fixed.{KeepsFixed, KeepsSeen};
+ghost use Rattle.blob_fs.specs.Open.{SameContent};
+ghost use Rattle.blob_journal.specs.Fixed.{KeepsOpen};
 ghost use Rattle.blob_journal.specs.Keeping.{KeepsTable, KeepsTold as keeps_told};
 
 use crate::error::FsError;
@@ -20,6 +23,7 @@ impl File {
     ) -> Result<Vec<u8>, Error>
         ensures names { KeepsTable store.old store.new }
         ensures told { keeps_told store.old store.new }
+        ensures still { KeepsOpen store.old store.new }
     {
         let mut bytes = Vec::new(alloc);
         bytes.resize(self.size() as usize, 0)?;
@@ -37,6 +41,7 @@ impl File {
     ) -> Result<(), Error>
         ensures names { KeepsTable store.old store.new }
         ensures told { keeps_told store.old store.new }
+        ensures still { KeepsOpen store.old store.new }
     {
         let Some(shown) = &self.shown else {
             return store.read_file(&self.blob, offset, buf);
@@ -51,7 +56,7 @@ impl File {
 
     /// Reserves capacity for what a call shows up to a position.
     pub(crate) fn reserve_shown(&mut self, end: u64) -> Result<(), AllocError>
-        ensures { self.new.blob ≡ self.old.blob }
+        ensures { SameContent self.old self.new }
     {
         if let Some(shown) = &mut self.shown {
             let more = end.saturating_sub(shown.len() as u64);
@@ -61,7 +66,9 @@ impl File {
     }
 
     /// Shows a write that returned Ok. There is capacity for it.
-    pub(crate) fn show_write(&mut self, offset: u64, bytes: &[u8]) {
+    pub(crate) fn show_write(&mut self, offset: u64, bytes: &[u8])
+        ensures { SameContent self.old self.new }
+    {
         let Some(shown) = &mut self.shown else {
             return;
         };
@@ -79,7 +86,9 @@ impl File {
     }
 
     /// Shows a truncation that returned Ok. There is capacity for it.
-    pub(crate) fn show_size(&mut self, length: u64) {
+    pub(crate) fn show_size(&mut self, length: u64)
+        ensures { SameContent self.old self.new }
+    {
         if let Some(shown) = &mut self.shown {
             let _ = shown.resize(length as usize, 0);
         }
@@ -96,6 +105,7 @@ impl<R: Rng + Drop> FileSystem<R> {
     pub(crate) fn drop_unsynced(&mut self, inode: u64) -> Result<(), FsError>
         ensures names { KeepsNames self.old self.new }
         ensures told { KeepsTold self.old self.new }
+        ensures fixed { KeepsFixed self.old self.new }
     {
         self.store.set_config(Config::default());
         let Some(file) = self.files.get_mut(&inode) else {
@@ -109,9 +119,12 @@ impl<R: Rng + Drop> FileSystem<R> {
 
     /// Lets reads return the blob's bytes again.
     pub(crate) fn show_blob(&mut self, inode: u64)
+        ensures opens { SameOpens self.old self.new }
         ensures store { journaled_of self.new ≡ journaled_of self.old }
         ensures names { KeepsNames self.old self.new }
         ensures told { KeepsTold self.old self.new }
+        ensures fixed { KeepsFixed self.old self.new }
+        ensures seen { KeepsSeen self.old self.new }
     {
         let Some(file) = self.files.get_mut(&inode) else {
             return;

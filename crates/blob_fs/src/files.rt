@@ -1,8 +1,11 @@
 //! Open files: their bytes and sizes.
-ghost use Rattle.std.specs.Prelude.{◌≡◌, false, IfOk, None, Some, OnOk};
+ghost use Rattle.std.specs.Prelude.{◌≡◌, ◌<◌, false, length, IfOk, None, Some, OnOk};
 ghost use Rattle.blob_fs.specs.declared.switches.FailedWrite.TheVariants.{ByMode};
 ghost use Rattle.blob_fs.specs.Writes.{RecordsWrite, failed_write_of};
-ghost use Rattle.blob_fs.specs.Files.{KeepsNames, KeepsTold, inode_opened, journaled_of};
+ghost use Rattle.blob_fs.specs.Fixed.{KeepsFixed, KeepsFixedBut, KeepsSpared};
+ghost use Rattle.blob_fs.specs.Open.{SameContent};
+ghost use Rattle.blob_journal.specs.Fixed.{IsBeside};
+ghost use Rattle.blob_fs.specs.Files.{KeepsNames, KeepsTold, SameFiles, SameOpens, fresh_inode, inode_opened, journaled_of};
 
 use crate::error::FsError;
 use crate::file_system::{Descriptor, File, FileSystem};
@@ -35,7 +38,9 @@ impl File {
     }
 
     /// Shows a write if it returned Ok. If the size has grown, it did so before this edit. Returns the size. There is capacity for it.
-    fn end_write(&mut self, is_ok: bool, offset: u64, bytes: &[u8], before: u64, edit: u64) -> u64 {
+    fn end_write(&mut self, is_ok: bool, offset: u64, bytes: &[u8], before: u64, edit: u64) -> u64
+        ensures { SameContent self.old self.new }
+    {
         if is_ok {
             self.show_write(offset, bytes);
         }
@@ -44,6 +49,16 @@ impl File {
             self.grown = edit;
         }
         now
+    }
+
+    /// Shows a truncation if it returned Ok. Returns the size. There is capacity for it.
+    fn end_truncate(&mut self, is_ok: bool, length: u64) -> u64
+        ensures { SameContent self.old self.new }
+    {
+        if is_ok {
+            self.show_size(length);
+        }
+        self.size()
     }
 
     /// Returns the size that calls see.
@@ -62,8 +77,10 @@ impl<R: Rng + Drop> FileSystem<R> {
     ///
     /// `IsDirectory`, `NotFound`, `NoSpace` if no number of a descriptor is left, `Memory`.
     pub fn open_inode(&mut self, inode: u64) -> Result<Descriptor, FsError>
+        ensures opened { IfOk result (λ file. inode_opened self.new file ≡ Some inode) }
         ensures names { KeepsNames self.old self.new }
         ensures told { KeepsTold self.old self.new }
+        ensures fixed { KeepsFixed self.old self.new }
     {
         if self.directories.contains_key(&inode) {
             return Err(FsError::IsDirectory);
@@ -76,12 +93,33 @@ impl<R: Rng + Drop> FileSystem<R> {
             return Err(FsError::NoSpace);
         };
         self.opens.insert(number, inode)?;
+        self.next_open = next;
+        self.add_open(inode);
+        self.show_blob(inode);
+        Ok(Descriptor { number })
+    }
+
+    /// Counts one more descriptor of a file.
+    fn add_open(&mut self, inode: u64)
+        ensures opens { SameOpens self.old self.new }
+        ensures names { KeepsNames self.old self.new }
+        ensures told { KeepsTold self.old self.new }
+        ensures fixed { KeepsFixed self.old self.new }
+    {
         if let Some(file) = self.files.get_mut(&inode) {
             file.opens = file.opens.saturating_add(1);
         }
-        self.next_open = next;
-        self.show_blob(inode);
-        Ok(Descriptor { number })
+    }
+
+    /// Counts one descriptor of a file less.
+    fn drop_open(&mut self, inode: u64)
+        ensures names { KeepsNames self.old self.new }
+        ensures told { KeepsTold self.old self.new }
+        ensures fixed { KeepsFixed self.old self.new }
+    {
+        if let Some(file) = self.files.get_mut(&inode) {
+            file.opens = file.opens.saturating_sub(1);
+        }
     }
 
     /// Opens a file by its number and makes it empty. If that fails, the file isn't open, and its bytes are as the layer's
@@ -89,6 +127,7 @@ impl<R: Rng + Drop> FileSystem<R> {
     pub fn open_inode_truncated(&mut self, inode: u64) -> Result<Descriptor, FsError>
         ensures names { KeepsNames self.old self.new }
         ensures told { KeepsTold self.old self.new }
+        ensures fixed { KeepsFixedBut inode self.old self.new }
     {
         self.begin_call()?;
         let file = self.open_inode(inode)?;
@@ -123,17 +162,14 @@ impl<R: Rng + Drop> FileSystem<R> {
     pub fn close(&mut self, file: Descriptor) -> Result<(), FsError>
         ensures names { KeepsNames self.old self.new }
         ensures told { KeepsTold self.old self.new }
+        ensures fixed { KeepsFixed self.old self.new }
     {
         self.begin_call()?;
         let inode = self.inode_of(file)?;
         self.gone.reserve(1)?;
-        if self.options.profile.flushes && self.is_truncated(inode) {
-            self.flush(inode)?;
-        }
+        self.flush_truncated(inode)?;
         self.opens.remove(&file.number);
-        if let Some(found) = self.files.get_mut(&inode) {
-            found.opens = found.opens.saturating_sub(1);
-        }
+        self.drop_open(inode);
         self.let_go(inode);
         self.remove_gone();
         Ok(())
@@ -146,10 +182,35 @@ impl<R: Rng + Drop> FileSystem<R> {
         }
     }
 
-    /// Makes a file's bytes durable, and draws nothing.
-    pub(crate) fn flush(&mut self, inode: u64) -> Result<(), FsError>
+    /// Makes the bytes of a file that an open truncated durable, if the profile flushes. Draws nothing.
+    fn flush_truncated(&mut self, inode: u64) -> Result<(), FsError>
         ensures names { KeepsNames self.old self.new }
         ensures told { KeepsTold self.old self.new }
+        ensures fixed { KeepsFixed self.old self.new }
+    {
+        if self.is_truncated(inode) {
+            return self.flush_by_profile(inode);
+        }
+        Ok(())
+    }
+
+    /// Makes a file's bytes durable, if the profile flushes. Draws nothing.
+    pub(crate) fn flush_by_profile(&mut self, inode: u64) -> Result<(), FsError>
+        ensures names { KeepsNames self.old self.new }
+        ensures told { KeepsTold self.old self.new }
+        ensures fixed { KeepsFixed self.old self.new }
+    {
+        if self.options.profile.flushes {
+            return self.flush(inode);
+        }
+        Ok(())
+    }
+
+    /// Makes a file's bytes durable, and draws nothing.
+    fn flush(&mut self, inode: u64) -> Result<(), FsError>
+        ensures names { KeepsNames self.old self.new }
+        ensures told { KeepsTold self.old self.new }
+        ensures fixed { KeepsFixed self.old self.new }
     {
         if self.options.syncs == Syncs::Lie {
             return Ok(());
@@ -193,6 +254,7 @@ impl<R: Rng + Drop> FileSystem<R> {
     pub fn read(&mut self, file: Descriptor, offset: u64, buf: &mut [u8]) -> Result<usize, FsError>
         ensures names { KeepsNames self.old self.new }
         ensures told { KeepsTold self.old self.new }
+        ensures fixed { KeepsFixed self.old self.new }
     {
         self.begin_call()?;
         let inode = self.inode_of(file)?;
@@ -221,8 +283,11 @@ impl<R: Rng + Drop> FileSystem<R> {
     /// Counts a file that had one size and has another.
     pub(crate) fn count(&mut self, size: u64, now: u64)
         ensures store { journaled_of self.new ≡ journaled_of self.old }
+        ensures files { SameFiles self.old self.new }
+        ensures number { fresh_inode self.new ≡ fresh_inode self.old }
         ensures names { KeepsNames self.old self.new }
         ensures told { KeepsTold self.old self.new }
+        ensures fixed { KeepsFixed self.old self.new }
     {
         self.used = self.used.saturating_sub(size).saturating_add(now);
     }
@@ -236,6 +301,7 @@ impl<R: Rng + Drop> FileSystem<R> {
         ensures names { KeepsNames self.old self.new }
         ensures told { KeepsTold self.old self.new }
         ensures recorded { OnOk result (failed_write_of self.old ≡ ByMode → RecordsWrite file offset bytes.now self.old self.new) }
+        ensures fixed { KeepsSpared file (IsBeside offset (length bytes.now)) self.old self.new }
     {
         self.begin_call()?;
         let inode = self.inode_of(file)?;
@@ -273,6 +339,7 @@ impl<R: Rng + Drop> FileSystem<R> {
     pub fn truncate(&mut self, file: Descriptor, length: u64) -> Result<(), FsError>
         ensures names { KeepsNames self.old self.new }
         ensures told { KeepsTold self.old self.new }
+        ensures fixed { KeepsSpared file (λ at. at < length) self.old self.new }
     {
         self.begin_call()?;
         let inode = self.inode_of(file)?;
@@ -286,24 +353,31 @@ impl<R: Rng + Drop> FileSystem<R> {
         found.is_changed = true;
         found.grown = grown;
         let resized = self.store.resize_file(&mut found.blob, length);
-        if resized.is_ok() {
-            found.show_size(length);
-        }
-        let now = found.size();
+        let now = found.end_truncate(resized.is_ok(), length);
         self.count(size, now);
         Ok(resized?)
+    }
+
+    /// Notes that an open truncated a file.
+    fn set_truncated(&mut self, inode: u64)
+        ensures names { KeepsNames self.old self.new }
+        ensures told { KeepsTold self.old self.new }
+        ensures fixed { KeepsFixed self.old self.new }
+    {
+        if let Some(found) = self.files.get_mut(&inode) {
+            found.is_truncated = true;
+        }
     }
 
     /// Truncates a file that an open made empty.
     pub(crate) fn clear(&mut self, file: Descriptor) -> Result<(), FsError>
         ensures names { KeepsNames self.old self.new }
         ensures told { KeepsTold self.old self.new }
+        ensures fixed { KeepsSpared file (λ at. at < 0) self.old self.new }
     {
         self.truncate(file, 0)?;
         let inode = self.inode_of(file)?;
-        if let Some(found) = self.files.get_mut(&inode) {
-            found.is_truncated = true;
-        }
+        self.set_truncated(inode);
         Ok(())
     }
 

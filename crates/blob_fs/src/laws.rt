@@ -1,7 +1,13 @@
 //! Laws about the bytes of files.
 ghost use Rattle.blob_fs.specs.Synced.{SyncedIsFound};
+ghost use Rattle.blob_fs.specs.Unreached.{UnreachedStaysFixed};
 
 /// A crash leaves a file that is synced, if a name reaches it, with exactly its bytes: no profile cuts any.
 pub fn synced_files<R>()
     ensures found { SyncedIsFound R }
+{}
+
+/// A byte that is fixed stays so through a list of calls none of which reaches it. A crash after them leaves it (`FindsFixed`).
+pub fn fixed_bytes<R>()
+    ensures { UnreachedStaysFixed R }
 {}

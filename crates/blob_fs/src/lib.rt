@@ -2,6 +2,7 @@
 #![tactic(auto)]
 
 pub mod access;
+mod base;
 pub mod crash;
 mod drops;
 pub mod error;

@@ -1,6 +1,8 @@
 //! Names by directory: files are created, linked and unlinked, directories are made, removed and listed.
 ghost use Rattle.std.specs.Prelude.{◌≡◌, ◌∷◌, [], None, Some, OnOk, OnErr, IfOk};
-ghost use Rattle.blob_fs.specs.Files.{AddsTold, KeepsNames, KeepsTold, MakesEdit, SameNames, fresh_inode, names_of};
+ghost use Rattle.blob_fs.specs.Files.{AddsTold, KeepsNames, KeepsTold, MakesEdit, SameNames, fresh_inode, journaled_of, names_of};
+ghost use Rattle.blob_fs.specs.Fixed.{KeepsFixed, KeepsFixedBut};
+ghost use Rattle.blob_journal.specs.Fixed.{IsOpen};
 ghost use Rattle.blob_directory.specs.Names.{binds, directory_at, entry, file, frees};
 ghost use Rattle.blob_directory.specs.Tables.{HasAll, HasOnly};
 
@@ -58,6 +60,7 @@ impl<R: Rng + Drop> FileSystem<R> {
         ensures refused { OnErr result (SameNames self.old self.new) }
         ensures told { OnOk result (AddsTold (binds directory name.now (file (fresh_inode self.old))) self.old self.new) }
         ensures untold { OnErr result (KeepsTold self.old self.new) }
+        ensures fixed { KeepsFixed self.old self.new }
     {
         let inode = self.next_inode;
         self.begin_call()?;
@@ -73,16 +76,29 @@ impl<R: Rng + Drop> FileSystem<R> {
             self.remove_file(inode);
             return Err(error);
         }
-        self.next_inode = next;
+        self.next_inode = self.next_inode.max(next);
         Ok(descriptor)
+    }
+
+    /// Adds a new file. The only error is out of memory.
+    fn add_file(&mut self, inode: u64, blob: FileBlob) -> Result<(), FsError>
+        requires opened { IsOpen (journaled_of self.old) inode blob }
+        ensures names { KeepsNames self.old self.new }
+        ensures told { KeepsTold self.old self.new }
+        ensures fixed { KeepsFixedBut inode self.old self.new }
+    {
+        self.files.insert(inode, File::new(blob))?;
+        Ok(())
     }
 
     /// Adds a new file and opens it.
     fn open_new(&mut self, inode: u64, blob: FileBlob) -> Result<Descriptor, FsError>
+        requires opened { IsOpen (journaled_of self.old) inode blob }
         ensures names { KeepsNames self.old self.new }
         ensures told { KeepsTold self.old self.new }
+        ensures fixed { KeepsFixedBut inode self.old self.new }
     {
-        self.files.insert(inode, File::new(blob))?;
+        self.add_file(inode, blob)?;
         match self.open_inode(inode) {
             Ok(descriptor) => Ok(descriptor),
             Err(error) => {
@@ -104,6 +120,7 @@ impl<R: Rng + Drop> FileSystem<R> {
         ensures refused { OnErr result (SameNames self.old self.new) }
         ensures told { IfOk result (λ d. AddsTold (binds directory name.now (directory_at d)) self.old self.new) }
         ensures untold { OnErr result (KeepsTold self.old self.new) }
+        ensures fixed { KeepsFixed self.old self.new }
     {
         let inode = self.next_inode;
         self.begin_call()?;
@@ -117,7 +134,7 @@ impl<R: Rng + Drop> FileSystem<R> {
             self.directories.remove(&inode);
             return Err(error);
         }
-        self.next_inode = next;
+        self.next_inode = self.next_inode.max(next);
         Ok(inode)
     }
 
@@ -133,6 +150,7 @@ impl<R: Rng + Drop> FileSystem<R> {
         ensures refused { OnErr result (SameNames self.old self.new) }
         ensures told { OnOk result (AddsTold (binds directory name.now (file inode)) self.old self.new) }
         ensures untold { OnErr result (KeepsTold self.old self.new) }
+        ensures fixed { KeepsFixed self.old self.new }
     {
         self.begin_call()?;
         if self.directories.contains_key(&inode) {
@@ -157,20 +175,32 @@ impl<R: Rng + Drop> FileSystem<R> {
     pub(crate) fn set_links(&mut self, inode: u64, links: u32)
         ensures names { KeepsNames self.old self.new }
         ensures told { KeepsTold self.old self.new }
+        ensures fixed { KeepsFixed self.old self.new }
     {
         if let Some(file) = self.files.get_mut(&inode) {
             file.links = links;
         }
     }
 
-    /// Takes one name off a file's count. An edit was made just before, so `gone` has capacity.
-    pub(crate) fn drop_link(&mut self, inode: u64)
+    /// Takes one name off a file's count.
+    fn drop_name(&mut self, inode: u64)
         ensures names { KeepsNames self.old self.new }
         ensures told { KeepsTold self.old self.new }
+        ensures fixed { KeepsFixed self.old self.new }
     {
         if let Some(file) = self.files.get_mut(&inode) {
             file.links = file.links.saturating_sub(1);
         }
+    }
+
+    /// Takes one name off a file's count, and lets it go if that was the last one. An edit was made just before, so `gone` has
+    /// capacity.
+    pub(crate) fn drop_link(&mut self, inode: u64)
+        ensures names { KeepsNames self.old self.new }
+        ensures told { KeepsTold self.old self.new }
+        ensures fixed { KeepsFixed self.old self.new }
+    {
+        self.drop_name(inode);
         self.let_go(inode);
     }
 
@@ -184,6 +214,7 @@ impl<R: Rng + Drop> FileSystem<R> {
         ensures refused { OnErr result (SameNames self.old self.new) }
         ensures told { OnOk result (AddsTold (frees directory name.now) self.old self.new) }
         ensures untold { OnErr result (KeepsTold self.old self.new) }
+        ensures fixed { KeepsFixed self.old self.new }
     {
         self.begin_call()?;
         let entry = self.entry_in(directory, name)?;
@@ -207,6 +238,7 @@ impl<R: Rng + Drop> FileSystem<R> {
         ensures refused { OnErr result (SameNames self.old self.new) }
         ensures told { OnOk result (AddsTold (frees directory name.now) self.old self.new) }
         ensures untold { OnErr result (KeepsTold self.old self.new) }
+        ensures fixed { KeepsFixed self.old self.new }
     {
         self.begin_call()?;
         let entry = self.entry_in(directory, name)?;

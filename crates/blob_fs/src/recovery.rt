@@ -1,11 +1,13 @@
 //! The recovery: the names from the journal, and the files from their blobs.
 ghost use Rattle.std.specs.Prelude.{◌≡◌, Some, IfOk, OnOk, OnErr, length, min};
-ghost use Rattle.std.specs.BTreeMap.{Updates};
+ghost use Rattle.std.specs.BTreeMap.{Updates, get};
 ghost use Rattle.std.specs.Ordering.{nat_cmp};
 ghost use Rattle.blob_fs.specs.Bytes.{ChangesOnly, CutsFile, CutsTo, HasNoOrphan, HasOnlyLinked, KeepsBlobsOf, OpensLeft, RecoversBytes, Reopens, ReopensAll, kept_length as length_kept};
+ghost use Rattle.blob_fs.specs.Open.{AllOpen};
 ghost use Rattle.blob_fs.specs.Files.{FindsAgain, FindsNames, FindsTold, GivesNames, GivesTold, KeepsNames, KeepsTold, RepresentsFiles, journaled_of};
 ghost use Rattle.blob_journal.specs.Blobs.{ChangesFile, SameFilesBut};
 ghost use Rattle.blob_journal.specs.Currents.{KeepsFiles};
+ghost use Rattle.blob_journal.specs.Fixed.{KeepsHandles, KeepsOpenBut};
 ghost use Rattle.blob_journal.specs.Journals.{GivesNames as gives_names, KeepsFilesOf, store_of};
 ghost use Rattle.blob_journal.specs.Keeping.{KeepsTable, KeepsTold as keeps_told};
 
@@ -50,6 +52,7 @@ fn cut_to<R: Rng + Drop>(
     ensures files { KeepsFilesOf blob.old store.old store.new }
     ensures cut { OnOk result (CutsTo length store.old blob.old store.new blob.new) }
     ensures others { OnOk result (ChangesFile store.old blob.old store.new) }
+    ensures handles { KeepsHandles store.old store.new }
 {
     blobs::<R>();
     store.resize_file(blob, length)?;
@@ -68,6 +71,7 @@ fn cut<R: Rng + Drop>(
     ensures files { KeepsFilesOf blob.old store.old store.new }
     ensures cut { OnOk result (CutsFile old.now store.old blob.old store.new blob.new) }
     ensures others { OnOk result (ChangesOnly store.old blob.old store.new) }
+    ensures handles { KeepsHandles store.old store.new }
 {
     blobs::<R>();
     let size = blob.size();
@@ -83,18 +87,20 @@ fn cut<R: Rng + Drop>(
     cut_to(store, blob, length)
 }
 
-/// Opens the blob of a file after a crash, and truncates it if the profile does. Returns it with the size that was found.
+/// Opens the blob of a file after a crash, and truncates it if the profile does and the file was there. Returns it with the size
+/// that was found.
 fn open_left<R: Rng + Drop>(
     store: &mut Journaled<R>,
     inode: u64,
-    old: &File,
+    old: &BTreeMap<u64, File>,
     cuts: bool,
 ) -> Result<(FileBlob, u64), Error>
     ensures names { KeepsTable store.old store.new }
     ensures told { keeps_told store.old store.new }
     ensures files { KeepsFiles (store_of store.old) (store_of store.new) }
-    ensures left { IfOk result (λ r. OpensLeft store.old inode old.now cuts store.new r.0 r.1) }
+    ensures left { IfOk result (λ r. OpensLeft store.old inode (get nat_cmp old.now inode) cuts store.new r.0 r.1) }
     ensures others { OnOk result (SameFilesBut inode store.old store.new) }
+    ensures handles { KeepsHandles store.old store.new }
 {
     blobs::<R>();
     let mut blob = store.open_file(inode)?;
@@ -102,7 +108,10 @@ fn open_left<R: Rng + Drop>(
     if !cuts {
         return Ok((blob, found));
     }
-    cut(store, &mut blob, old)?;
+    let Some(was) = old.get(&inode) else {
+        return Ok((blob, found));
+    };
+    cut(store, &mut blob, was)?;
     Ok((blob, found))
 }
 
@@ -110,15 +119,16 @@ fn open_left<R: Rng + Drop>(
 fn reopen<R: Rng + Drop>(
     store: &mut Journaled<R>,
     inode: u64,
-    old: &File,
+    old: &BTreeMap<u64, File>,
     links: u32,
     cuts: bool,
 ) -> Result<File, Error>
     ensures names { KeepsTable store.old store.new }
     ensures told { keeps_told store.old store.new }
     ensures files { KeepsFiles (store_of store.old) (store_of store.new) }
-    ensures left { IfOk result (λ file. Reopens store.old inode old.now cuts store.new file) }
+    ensures left { IfOk result (λ file. Reopens store.old inode (get nat_cmp old.now inode) cuts store.new file) }
     ensures others { OnOk result (SameFilesBut inode store.old store.new) }
+    ensures handles { KeepsHandles store.old store.new }
 {
     let (blob, found) = open_left(store, inode, old, cuts)?;
     let synced = blob.size();
@@ -137,7 +147,7 @@ fn put(files: &mut BTreeMap<u64, File>, inode: u64, file: File) -> Result<(), Fs
     Ok(())
 }
 
-/// Opens the files that have a name.
+/// Opens each file that has a name.
 fn reopen_all<R: Rng + Drop>(
     alloc: Global,
     store: &mut Journaled<R>,
@@ -150,14 +160,14 @@ fn reopen_all<R: Rng + Drop>(
     ensures files { KeepsFiles (store_of store.old) (store_of store.new) }
     ensures left { IfOk result (λ files. ReopensAll store.old old.now tree.now cuts store.new files) }
     ensures linked { IfOk result (HasOnlyLinked tree.now) }
+    ensures opened { IfOk result (AllOpen store.new) }
+    ensures handles { KeepsHandles store.old store.new }
 {
     blobs::<R>();
     let mut files = BTreeMap::new(alloc);
-    for (inode, before) in old.iter() {
-        if let Some(links) = tree.links.get(inode) {
-            let file = reopen(store, *inode, before, *links, cuts)?;
-            put(&mut files, *inode, file)?;
-        }
+    for (inode, links) in tree.links.iter() {
+        let file = reopen(store, *inode, old, *links, cuts)?;
+        put(&mut files, *inode, file)?;
     }
     Ok(files)
 }
@@ -168,6 +178,7 @@ fn remove_blob<R: Rng + Drop>(store: &mut Journaled<R>, inode: u64)
     ensures told { keeps_told store.old store.new }
     ensures gives { gives_names store.old → gives_names store.new }
     ensures others { SameFilesBut inode store.old store.new }
+    ensures still { KeepsOpenBut inode store.old store.new }
 {
     let _ = store.remove_file(inode);
 }
@@ -182,6 +193,7 @@ fn remove_unnamed<R: Rng + Drop>(
     ensures told { keeps_told store.old store.new }
     ensures gives { gives_names store.old → gives_names store.new }
     ensures kept { KeepsBlobsOf files.now store.old store.new }
+    ensures opened { AllOpen store.old files.now → AllOpen store.new files.now }
 {
     blobs::<R>();
     for (inode, _) in old {
@@ -203,6 +215,7 @@ impl<R: Rng + Drop> FileSystem<R> {
         ensures untold { OnErr result (KeepsTold self.old self.new) }
         ensures bytes { OnOk result (RecoversBytes self.old self.new) }
         ensures orphans { OnOk result (HasNoOrphan self.new) }
+        ensures opened { OnOk result (AllOpen (journaled_of self.new) self.new.files) }
     {
         blobs::<R>();
         let (tree, edits) = self.store.find_names(self.options.profile.keeps)?;
@@ -213,8 +226,9 @@ impl<R: Rng + Drop> FileSystem<R> {
         Ok(edits)
     }
 
-    /// Takes the new directories and files. Removes the blobs of files that no name reaches.
+    /// Takes the new directories and files, whose blobs are open. Removes the blobs of files that no name reaches.
     fn begin_life(&mut self, directories: BTreeMap<u64, u64>, files: BTreeMap<u64, File>)
+        requires opened { AllOpen (journaled_of self.old) files }
         ensures names { KeepsNames self.old self.new }
         ensures told { KeepsTold self.old self.new }
         ensures gives { GivesNames self.old → GivesNames self.new }

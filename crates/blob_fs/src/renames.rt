@@ -2,6 +2,7 @@
 ghost use Rattle.std.specs.Prelude.{◌≡◌, ◌≢◌, MatchBool, None, OnOk, OnErr, Some};
 ghost use Rattle.blob_fs.specs.Calls.{Leaves, Renames, RenamesAt};
 ghost use Rattle.blob_fs.specs.Files.{AddsTold, GrowsTold, KeepsNames, KeepsTold, MakesEdit, SameNames, names_of};
+ghost use Rattle.blob_fs.specs.Fixed.{KeepsFixed};
 ghost use Rattle.blob_directory.specs.Names.{exchanges, moves};
 
 use crate::error::FsError;
@@ -83,6 +84,7 @@ impl<R: Rng + Drop> FileSystem<R> {
         ensures refused { OnErr result (SameNames self.old self.new) }
         ensures grows { GrowsTold self.old self.new }
         ensures untold { OnErr result (KeepsTold self.old self.new) }
+        ensures fixed { KeepsFixed self.old self.new }
     {
         self.begin_call()?;
         let old = self.entry_in(from.0, from.1)?;
@@ -110,6 +112,7 @@ impl<R: Rng + Drop> FileSystem<R> {
         requires free { names_of self.old to.0.items ≡ None }
         ensures renamed { OnOk result (Renames how from.0.items to.0.items self.old self.new) }
         ensures refused { OnErr result (Leaves self.old self.new) }
+        ensures fixed { KeepsFixed self.old self.new }
     {
         match how {
             Rename::Exchange => Err(FsError::NotFound),
@@ -130,6 +133,7 @@ impl<R: Rng + Drop> FileSystem<R> {
         requires taken { names_of self.old to.0.items ≡ Some bound.1 }
         ensures renamed { OnOk result (Renames how from.0.items to.0.items self.old self.new) }
         ensures refused { OnErr result (Leaves self.old self.new) }
+        ensures fixed { KeepsFixed self.old self.new }
     {
         let (moved, was) = bound;
         match how {
@@ -153,6 +157,7 @@ impl<R: Rng + Drop> FileSystem<R> {
     fn place(&mut self, binding: Binding, directory: u64)
         ensures names { KeepsNames self.old self.new }
         ensures told { KeepsTold self.old self.new }
+        ensures fixed { KeepsFixed self.old self.new }
     {
         if let Some(above) = self.directories.get_mut(&binding.inode) {
             *above = directory;
@@ -169,6 +174,7 @@ impl<R: Rng + Drop> FileSystem<R> {
         ensures refused { OnErr result (SameNames self.old self.new) }
         ensures told { OnOk result (AddsTold (moves from.0.items to.0.items moved) self.old self.new) }
         ensures untold { OnErr result (KeepsTold self.old self.new) }
+        ensures fixed { KeepsFixed self.old self.new }
     {
         let about = About {
             inode: moved.inode,
@@ -192,11 +198,10 @@ impl<R: Rng + Drop> FileSystem<R> {
         ensures refused { OnErr result (SameNames self.old self.new) }
         ensures told { OnOk result (AddsTold (moves from.0.items to.0.items moved) self.old self.new) }
         ensures untold { OnErr result (KeepsTold self.old self.new) }
+        ensures fixed { KeepsFixed self.old self.new }
     {
         self.check_replaces(was, moved)?;
-        if self.options.profile.flushes {
-            self.flush(moved.inode)?;
-        }
+        self.flush_by_profile(moved.inode)?;
         self.move_name(from, to, moved)?;
         self.drop_link(was.inode);
         self.directories.remove(&was.inode);
@@ -214,6 +219,7 @@ impl<R: Rng + Drop> FileSystem<R> {
         ensures refused { OnErr result (SameNames self.old self.new) }
         ensures told { OnOk result (AddsTold (exchanges from.0.items to.0.items moved was) self.old self.new) }
         ensures untold { OnErr result (KeepsTold self.old self.new) }
+        ensures fixed { KeepsFixed self.old self.new }
     {
         if was.kind == Kind::Directory {
             self.check_not_below(was.inode, from.1)?;

@@ -1,6 +1,7 @@
 //! A list of calls, and a crash after it.
 ghost use Rattle.std.specs.Prelude.{IfOk, OnErr, OnOk};
 ghost use Rattle.blob_fs.specs.Calls.{Does, DoesAll, Leaves, RunsAndCrashes};
+ghost use Rattle.blob_fs.specs.Fixed.{KeepsFixed, KeepsUnreached};
 ghost use Rattle.blob_fs.specs.Files.{GivesTold, GrowsTold, KeepsNames, KeepsTold};
 
 use crate::crash::Crash;
@@ -70,6 +71,7 @@ impl<R: Rng + Drop> FileSystem<R> {
     fn read_some(&mut self, file: Descriptor, offset: u64, len: usize) -> bool
         ensures names { KeepsNames self.old self.new }
         ensures told { KeepsTold self.old self.new }
+        ensures fixed { KeepsFixed self.old self.new }
     {
         let mut bytes = Vec::new(self.alloc);
         if bytes.resize(len, 0).is_err() {
@@ -80,7 +82,8 @@ impl<R: Rng + Drop> FileSystem<R> {
 
     /// Makes a call. Returns whether it returned Ok.
     pub fn call(&mut self, call: &Call) -> bool
-        ensures { Does call.now result self.old self.new }
+        ensures does { Does call.now result self.old self.new }
+        ensures fixed { KeepsUnreached call.now self.old self.new }
     {
         match call {
             Call::Create { directory, name } => self.create_at(*directory, name).is_ok(),
@@ -149,7 +152,7 @@ impl<R: Rng + Drop> FileSystem<R> {
     ///
     /// The names that are found are those of all edits that were settled, before or by the calls, and of some of the others, as
     /// the profile keeps them, in the order of issue, each whole. Each file that they reach has the bytes that the layer's crash
-    /// leaves of it, cut as the profile says.
+    /// leaves of it, cut as the profile says. Each byte that was fixed before the crash is among them.
     ///
     /// # Errors
     ///

@@ -1,7 +1,8 @@
 //! Syncs of files and of directories.
-ghost use Rattle.std.specs.Prelude.{◌≡◌, IfOk, OnOk};
+ghost use Rattle.std.specs.Prelude.{◌≡◌, ◌<◌, IfOk, OnOk};
 ghost use Rattle.blob_fs.specs.declared.switches.Syncs.TheVariants.{Honest};
-ghost use Rattle.blob_fs.specs.Files.{IsSyncOf, KeepsJournal, KeepsNames, KeepsTold, SettlesEdits, SettlesSome, SyncsAll, SyncsDirectory, SyncsFile, journaled_of, syncs_of};
+ghost use Rattle.blob_fs.specs.Fixed.{FixesAll, FixesFile, FixesInode, KeepsFixed, KeepsSeen, ListsFiles};
+ghost use Rattle.blob_fs.specs.Files.{IsSyncOf, KeepsJournal, KeepsNames, KeepsTold, SettlesEdits, SettlesSome, SyncsAll, SyncsDirectory, SyncsFile, fresh_inode, journaled_of, syncs_of};
 
 use crate::error::FsError;
 use crate::file_system::{Descriptor, FileSystem};
@@ -18,6 +19,7 @@ impl<R: Rng + Drop> FileSystem<R> {
         ensures names { KeepsNames self.old self.new }
         ensures some { SettlesSome self.old self.new }
         ensures settled { OnOk result (SettlesEdits settles synced self.old self.new) }
+        ensures fixed { KeepsFixed self.old self.new }
     {
         settling::<R>();
         self.store.settle(settles, synced)?;
@@ -27,8 +29,12 @@ impl<R: Rng + Drop> FileSystem<R> {
 
     /// Returns what a sync of a file is, by what the file is before it.
     fn sync_of(&self, inode: u64) -> Result<Synced, FsError>
-        ensures { IfOk result (λ kind. IsSyncOf inode kind) }
+        ensures kind { IfOk result (λ kind. IsSyncOf inode kind) }
+        ensures numbered { OnOk result (inode < fresh_inode self.now) }
     {
+        if inode >= self.next_inode {
+            return Err(FsError::Stale);
+        }
         let Some(file) = self.files.get(&inode) else {
             return Err(FsError::Stale);
         };
@@ -61,6 +67,9 @@ impl<R: Rng + Drop> FileSystem<R> {
         ensures told { KeepsTold self.old self.new }
         ensures journal { OnOk result (KeepsJournal self.old self.new) }
         ensures file { IfOk result (λ kind. IsSyncOf inode kind) }
+        ensures fixed { KeepsFixed self.old self.new }
+        ensures fixes { OnOk result (FixesInode inode self.old self.new) }
+        ensures seen { OnOk result (KeepsSeen self.old self.new) }
     {
         let synced = self.sync_of(inode)?;
         let Some(file) = self.files.get_mut(&inode) else {
@@ -79,6 +88,7 @@ impl<R: Rng + Drop> FileSystem<R> {
     fn fail_sync(&mut self, inode: u64, error: Error) -> FsError
         ensures names { KeepsNames self.old self.new }
         ensures told { KeepsTold self.old self.new }
+        ensures fixed { KeepsFixed self.old self.new }
     {
         if self.options.failed_sync == FailedSync::Drops && matches!(error, Error::Injected) {
             if let Err(error) = self.drop_unsynced(inode) {
@@ -93,6 +103,7 @@ impl<R: Rng + Drop> FileSystem<R> {
         ensures store { journaled_of self.new ≡ journaled_of self.old }
         ensures names { KeepsNames self.old self.new }
         ensures told { KeepsTold self.old self.new }
+        ensures fixed { KeepsFixed self.old self.new }
     {
         if let Some(file) = self.files.get_mut(&inode) {
             file.is_changed = is_changed;
@@ -110,6 +121,8 @@ impl<R: Rng + Drop> FileSystem<R> {
         ensures names { KeepsNames self.old self.new }
         ensures some { SettlesSome self.old self.new }
         ensures settled { OnOk result (syncs_of self.old ≡ Honest → SyncsFile self.old file self.new) }
+        ensures fixed { KeepsFixed self.old self.new }
+        ensures fixes { OnOk result (syncs_of self.old ≡ Honest → FixesFile self.old file self.new) }
     {
         settling::<R>();
         self.begin_call()?;
@@ -139,6 +152,8 @@ impl<R: Rng + Drop> FileSystem<R> {
         ensures names { KeepsNames self.old self.new }
         ensures some { SettlesSome self.old self.new }
         ensures settled { OnOk result (syncs_of self.old ≡ Honest → SyncsFile self.old file self.new) }
+        ensures fixed { KeepsFixed self.old self.new }
+        ensures fixes { OnOk result (syncs_of self.old ≡ Honest → FixesFile self.old file self.new) }
     {
         settling::<R>();
         self.begin_call()?;
@@ -171,6 +186,7 @@ impl<R: Rng + Drop> FileSystem<R> {
         ensures names { KeepsNames self.old self.new }
         ensures some { SettlesSome self.old self.new }
         ensures settled { OnOk result (syncs_of self.old ≡ Honest → SyncsDirectory self.old directory self.new) }
+        ensures fixed { KeepsFixed self.old self.new }
     {
         settling::<R>();
         self.begin_call()?;
@@ -192,6 +208,7 @@ impl<R: Rng + Drop> FileSystem<R> {
         ensures names { KeepsNames self.old self.new }
         ensures some { SettlesSome self.old self.new }
         ensures settled { OnOk result (SyncsAll self.old self.new) }
+        ensures fixed { KeepsFixed self.old self.new }
     {
         self.settle_by(Settles::All, Synced::Directory(0))
     }
@@ -206,6 +223,8 @@ impl<R: Rng + Drop> FileSystem<R> {
         ensures names { KeepsNames self.old self.new }
         ensures some { SettlesSome self.old self.new }
         ensures settled { OnOk result (syncs_of self.old ≡ Honest → SyncsAll self.old self.new) }
+        ensures fixed { KeepsFixed self.old self.new }
+        ensures fixes { OnOk result (syncs_of self.old ≡ Honest → FixesAll self.old self.new) }
     {
         settling::<R>();
         self.begin_call()?;
@@ -220,7 +239,10 @@ impl<R: Rng + Drop> FileSystem<R> {
         Ok(())
     }
 
-    fn inodes(&self) -> Result<Vec<u64>, FsError> {
+    /// Returns the number of each file that isn't gone.
+    fn inodes(&self) -> Result<Vec<u64>, FsError>
+        ensures { IfOk result (λ inodes. ListsFiles self.now inodes.items) }
+    {
         let mut inodes = Vec::new(self.alloc);
         for (inode, file) in &self.files {
             if !file.is_gone {
@@ -241,6 +263,8 @@ impl<R: Rng + Drop> FileSystem<R> {
         ensures names { KeepsNames self.old self.new }
         ensures some { SettlesSome self.old self.new }
         ensures settled { OnOk result (SyncsAll self.old self.new) }
+        ensures fixed { KeepsFixed self.old self.new }
+        ensures fixes { OnOk result (FixesAll self.old self.new) }
     {
         settling::<R>();
         self.begin_call()?;

@@ -1,4 +1,5 @@
 //! Files that no name and no descriptor refers to.
+ghost use Rattle.blob_fs.specs.Fixed.{KeepsFixed};
 ghost use Rattle.blob_fs.specs.Files.{KeepsJournal, KeepsNames, KeepsTold};
 
 use crate::file_system::FileSystem;
@@ -19,6 +20,7 @@ impl<R: Rng + Drop> FileSystem<R> {
     pub(crate) fn let_go(&mut self, inode: u64)
         ensures names { KeepsNames self.old self.new }
         ensures told { KeepsTold self.old self.new }
+        ensures fixed { KeepsFixed self.old self.new }
     {
         let edit = self.store.next_edit();
         let Some(file) = self.files.get_mut(&inode) else {
@@ -38,6 +40,7 @@ impl<R: Rng + Drop> FileSystem<R> {
         ensures names { KeepsNames self.old self.new }
         ensures told { KeepsTold self.old self.new }
         ensures journal { KeepsJournal self.old self.new }
+        ensures fixed { KeepsFixed self.old self.new }
     {
         settling::<R>();
         let settled = self.store.oldest_unsettled().unwrap_or(u64::MAX);
@@ -58,6 +61,7 @@ impl<R: Rng + Drop> FileSystem<R> {
         ensures names { KeepsNames self.old self.new }
         ensures told { KeepsTold self.old self.new }
         ensures journal { KeepsJournal self.old self.new }
+        ensures fixed { KeepsFixed self.old self.new }
     {
         settling::<R>();
         self.store.set_config(Config::default());

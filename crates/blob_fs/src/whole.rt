@@ -1,10 +1,10 @@
 //! All files and directories at once, for a reader that looks at the outcome of a test.
+ghost use Rattle.blob_fs.specs.Fixed.{KeepsFixed};
 ghost use Rattle.blob_fs.specs.Files.{KeepsNames, KeepsTold};
 
 use crate::error::FsError;
 use crate::file_system::{FileSystem, ROOT};
 use blob_directory::edit::{Binding, Kind};
-use blob_faulty::Config;
 use rand_core::Rng;
 use std::alloc::{AllocError, Global};
 
@@ -51,9 +51,10 @@ impl<R: Rng + Drop> FileSystem<R> {
     pub fn bytes_of(&mut self, inode: u64) -> Result<Vec<u8>, FsError>
         ensures names { KeepsNames self.old self.new }
         ensures told { KeepsTold self.old self.new }
+        ensures fixed { KeepsFixed self.old self.new }
     {
         self.begin_call()?;
-        self.store.set_config(Config::default());
+        self.draw_nothing();
         let Some(file) = self.files.get(&inode) else {
             return Err(FsError::NotFound);
         };
@@ -62,9 +63,10 @@ impl<R: Rng + Drop> FileSystem<R> {
             return Err(AllocError.into());
         };
         bytes.resize(len, 0)?;
-        if len > 0 {
-            file.read_into(&mut self.store, 0, &mut bytes)?;
+        if len == 0 {
+            return Ok(bytes);
         }
+        file.read_into(&mut self.store, 0, &mut bytes)?;
         Ok(bytes)
     }
 

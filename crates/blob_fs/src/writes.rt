@@ -1,10 +1,11 @@
 //! Writes of a blob, by which bytes of a failed one are written.
-ghost use Rattle.std.specs.Prelude.{◌≡◌, OnOk};
+ghost use Rattle.std.specs.Prelude.{◌≡◌, OnOk, length};
 ghost use Rattle.blob_fs.specs.declared.switches.FailedWrite.TheVariants.{ByMode};
+ghost use Rattle.blob_journal.specs.Fixed.{ChangesOpen, IsBeside};
 ghost use Rattle.blob_journal.specs.Keeping.{KeepsTable, KeepsTold};
 ghost use Rattle.blob_journal.specs.Writes.{RecordsWrite};
 
-use crate::file_system::copy_of;
+use crate::base::copy_of;
 use crate::switches::FailedWrite;
 use blob_base::{Error, Probability};
 use blob_faulty::{Config, PartialWriteMode, WriteConfig};
@@ -31,6 +32,7 @@ pub(crate) fn write_blob<R: Rng + Drop>(
     ensures names { KeepsTable store.old store.new }
     ensures told { KeepsTold store.old store.new }
     ensures recorded { OnOk result (how ≡ ByMode → RecordsWrite offset bytes.now store.old blob.old store.new blob.new) }
+    ensures still { ChangesOpen (IsBeside offset (length bytes.now)) store.old blob.old store.new blob.new }
 {
     match how {
         FailedWrite::ByMode => store.write_file(blob, offset, bytes),
@@ -49,6 +51,7 @@ fn write_by_prefix<R: Rng + Drop>(
 ) -> Result<(), Error>
     ensures names { KeepsTable store.old store.new }
     ensures told { KeepsTold store.old store.new }
+    ensures still { ChangesOpen (IsBeside offset (length bytes.now)) store.old blob.old store.new blob.new }
 {
     let Some(writes) = faults.write_rate else {
         return store.write_file(blob, offset, bytes);
@@ -59,14 +62,15 @@ fn write_by_prefix<R: Rng + Drop>(
     };
     store.set_config(with_writes(faults, writes.failure_rate, draws));
     let drawn = store.write_file(blob, 0, &[]);
-    if drawn.is_ok() {
-        store.set_config(with_writes(faults, Probability::ZERO, writes));
+    let config = if drawn.is_ok() {
+        with_writes(faults, Probability::ZERO, writes)
     } else {
         let prefix = WriteConfig {
             mode: PartialWriteMode::Prefix,
             ..writes
         };
-        store.set_config(with_writes(faults, Probability::ONE, prefix));
-    }
+        with_writes(faults, Probability::ONE, prefix)
+    };
+    store.set_config(config);
     store.write_file(blob, offset, bytes)
 }

@@ -44,3 +44,18 @@ returns-clause-others g c = on_map c.cut_to.result c.cut_to.ensures.others (λ o
     c.blobs.ensures.twice c.args.store.now c.read_whole-2.new.self c.cut_to.new.store other
     (c.blobs.ensures.twice c.args.store.now c.read_whole.new.self c.read_whole-2.new.self other (c.in_ok-found.ensures.same other) (c.in_ok-live.ensures.same other))
     (others inode bytes below two.is other there apart))
+
+pub returns-then-size-old-clause-handles : goal.returns-then-size-old-clause-handles
+returns-then-size-old-clause-handles g c = λ inode file h. h
+
+pub returns-in_err-found-clause-handles : goal.returns-in_err-found-clause-handles
+returns-in_err-found-clause-handles g c = c.read_whole.ensures.still.still
+
+pub returns-in_err-live-clause-handles : goal.returns-in_err-live-clause-handles
+returns-in_err-live-clause-handles g c = λ inode file h. c.read_whole-2.ensures.still.still inode file (c.read_whole.ensures.still.still inode file h)
+
+pub returns-then-length-size-clause-handles : goal.returns-then-length-size-clause-handles
+returns-then-length-size-clause-handles g c = λ inode file h. c.read_whole-2.ensures.still.still inode file (c.read_whole.ensures.still.still inode file h)
+
+pub returns-clause-handles : goal.returns-clause-handles
+returns-clause-handles g c = λ inode file h. c.cut_to.ensures.handles inode file (c.read_whole-2.ensures.still.still inode file (c.read_whole.ensures.still.still inode file h))

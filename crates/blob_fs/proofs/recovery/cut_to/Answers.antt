@@ -1,5 +1,5 @@
-use Rattle.std.proofs.Common.{List, ℕ, subst}
-use Rattle.blob_journal.specs.Blobs.{HasDurable}
+use Rattle.std.proofs.Common.{◌≡◌, List, ℕ, ap, length, subst, sym, take, ◌∙◌}
+use Rattle.blob_journal.specs.Blobs.{HasDurable, IsOpen, bytes_of}
 use Rattle.blob_fs.proofs.recovery.cut_to.Goals as goal
 
 pub returns-in_err-resize_file-clause-files : goal.returns-in_err-resize_file-clause-files
@@ -14,11 +14,23 @@ returns-clause-files g c = λ h r. c.sync_file.ensures.files (c.resize_file.ensu
 pub returns-clause-cut : goal.returns-clause-cut
 returns-clause-cut g c = λ inode bytes low h.
     let r = c.in_ok-resize_file.ensures.resized inode bytes h.is in
-    let s = c.in_ok-sync_file.ensures.synced inode bytes _ r.0 (r.1 bytes h.seen) in
-    subst (λ (l : List ℕ). HasDurable c.sync_file.new.self inode c.sync_file.new.file l) (c.blobs.ensures.shortened bytes c.args.length low) s
+    let s = r.1 bytes h.seen in
+    let file = c.resize_file.new.file in
+    let still : IsOpen c.resize_file.new.self inode file = record { durable = bytes; is = r.0; tracked = s.size ∙ ap (λ (l : List ℕ). length l) (sym s.live) } in
+    let cut : bytes_of file ≡ take c.args.length bytes = c.blobs.ensures.reads file _ s ∙ c.blobs.ensures.shortened bytes c.args.length low in
+    subst (λ (l : List ℕ). HasDurable c.sync_file.new.self inode c.sync_file.new.file l) cut (c.in_ok-sync_file.ensures.synced inode still)
 
 pub returns-clause-others : goal.returns-clause-others
 returns-clause-others g c = λ inode bytes below is other there apart.
     let r = c.in_ok-resize_file.ensures.resized inode bytes is in
     c.blobs.ensures.twice c.args.store.now c.resize_file.new.self c.sync_file.new.self other (c.in_ok-resize_file.ensures.same other)
     (c.in_ok-sync_file.ensures.others inode bytes below r.0 other there apart)
+
+pub returns-in_err-resize_file-clause-handles : goal.returns-in_err-resize_file-clause-handles
+returns-in_err-resize_file-clause-handles g c = c.resize_file.ensures.handles
+
+pub returns-in_err-sync_file-clause-handles : goal.returns-in_err-sync_file-clause-handles
+returns-in_err-sync_file-clause-handles g c = λ inode file h. c.sync_file.ensures.handles inode file (c.resize_file.ensures.handles inode file h)
+
+pub returns-clause-handles : goal.returns-clause-handles
+returns-clause-handles g c = λ inode file h. c.sync_file.ensures.handles inode file (c.resize_file.ensures.handles inode file h)

@@ -13,5 +13,8 @@ loop-inode-preserved-then-not-contains_key g c =
       kept = λ i f below at. c.blobs.ensures.twice c.args.store.now c.loop-inode.store c.remove_blob.new.store i (c.loop-inode.invariant.kept i f below at)
           (c.remove_blob.ensures.others i below
           (λ e. false≢true (sym no ∙ c.contains_key.ensures ∙ ap (λ k. is_some (get nat_cmp c.args.files.now k)) (sym e) ∙ ap is_some at)));
+      opened = λ h i f below at. c.remove_blob.ensures.still.still i f.blob below
+          (λ e. false≢true (sym no ∙ c.contains_key.ensures ∙ ap (λ k. is_some (get nat_cmp c.args.files.now k)) (sym e) ∙ ap is_some at))
+          (c.loop-inode.invariant.opened h i f below at);
       told = c.remove_blob.ensures.told ∙ c.loop-inode.invariant.told;
     }

@@ -1,9 +1,10 @@
 use Rattle.std.proofs.Common.{◌≡◌}
 use Rattle.blob_journal.specs.Currents.{KeepsFiles}
+use Rattle.blob_journal.specs.Fixed.{KeepsHandles}
 use Rattle.blob_journal.specs.Journals.{store_of}
 use Rattle.blob_journal.specs.Keeping.{table_in, told_in}
 use Rattle.blob_fs.specs.Bytes.{HasOnlyLinked}
-use Rattle.blob_fs.proofs.Recovering.{Ascend, Stands}
+use Rattle.blob_fs.proofs.Recovering.{AreLinked, Ascend, Stands}
 use Rattle.blob_fs.proofs.recovery.reopen_all.Given as goal
 
 abbrev pub invariant-loop-inode : goal.invariant-loop-inode
@@ -11,7 +12,9 @@ invariant-loop-inode g l = record {
   names : table_in l.store ≡ table_in l.fn.store;
   files : KeepsFiles (store_of l.fn.store) (store_of l.store);
   ascend : Ascend l.inode-iterator;
+  counted : AreLinked l.tree l.inode-iterator;
   left : Stands l.fn.store l.old l.tree l.cuts l.inode-iterator l.store l.files;
   told : told_in l.store ≡ told_in l.fn.store;
+  handles : KeepsHandles l.fn.store l.store;
   linked : HasOnlyLinked l.tree l.files;
 }

@@ -15,3 +15,6 @@ returns-clause-settled g c = λ h.
       settled = subst AreSettled (sym told) h.settled;
       names = λ keeps chosen e. ap (λ (l : List Found). names_kept keeps chosen l e) told ∙ h.names keeps chosen e ∙ sym (ap (λ (t : Table). bound t e) names);
     }
+
+pub invariant_of-self : goal.invariant_of-self
+invariant_of-self g c = record { opened = ∣ c.remove_unnamed.ensures.opened c.requires.opened ∣₁ }

@@ -7,6 +7,8 @@ use Rattle.blob_directory.specs.Tables.{bound}
 use Rattle.blob_directory.specs.Trees.{Finds}
 use Rattle.blob_fs.specs.Files.{keeps_of, names_of}
 use Rattle.std.proofs.Common.{◌∙◌}
+use Rattle.blob_fs.proofs.Crashed.{finds_byte}
+use Rattle.blob_fs.proofs.Fixed.{opened_store}
 use Rattle.blob_fs.proofs.file_system.FileSystem.crash.Goals as goal
 
 pub returns-clause-found : goal.returns-clause-found
@@ -34,9 +36,35 @@ returns-clause-kept g c =
     record { chosen = f.chosen; finds = subst (λ (l : List Found). Finds (names_of c.recover.new.self) (names_kept (keeps_of c.args.self.now) f.chosen l)) c.crash.ensures.told f.finds }
 
 pub returns-clause-bytes : goal.returns-clause-bytes
-returns-clause-bytes g c = λ name inode old found below named at is.
-    let b = c.in_ok-edits.ensures.bytes name inode old found below named at (c.in_ok-rows.ensures.bytes inode ∙ is) in
-    record { durable = b.durable; read = b.read; synced = b.synced; size = b.size }
+returns-clause-bytes g c = λ name inode below named.
+    let d = c.in_ok-edits.ensures.bytes name inode below named in
+    let b = d.has in
+    record {
+      found = d.found;
+      is = λ bytes is. d.is bytes (c.in_ok-rows.ensures.bytes inode ∙ is);
+      was = λ there. sym (c.in_ok-rows.ensures.bytes inode) ∙ d.was there;
+      has = record { durable = b.durable; read = b.read; synced = b.synced; size = b.size };
+    }
 
 pub returns-clause-orphans : goal.returns-clause-orphans
 returns-clause-orphans g c = λ inode none. c.in_ok-edits.ensures.orphans inode none
+
+pub returns-clause-fixed : goal.returns-clause-fixed
+returns-clause-fixed g c = λ name inode at byte below named there f.
+    let fs = c.args.self.now in
+    let crashed = c.crash.new.self in
+    let still = c.in_ok-rows.ensures.still in
+    let d = c.in_ok-edits.ensures.bytes name inode below named in
+    record {
+      bytes = _;
+      durable = d.has.durable;
+      read = d.has.read;
+      has = finds_byte c.blobs.ensures.durable crashed inode d.found d.is c.fixed.ensures at byte fs.options.profile.cuts fs.files below
+          (opened_store fs.store crashed fs.files still fs.opened) there f.synced (λ was here. still.fixed was.blob at byte (f.fixed was here));
+    }
+
+pub invariant_of-self : goal.invariant_of-self
+invariant_of-self g c = record { opened = opened_store c.args.self.now.store c.crash.new.self c.args.self.now.files c.crash.ensures.still c.args.self.now.opened }
+
+pub invariant_of-self-2 : goal.invariant_of-self-2
+invariant_of-self-2 g c = record { opened = opened_store c.args.self.now.store c.crash.new.self c.args.self.now.files c.crash.ensures.still c.args.self.now.opened }

@@ -1,3 +1,5 @@
+use Rattle.std.proofs.Common.{◌<◌, arith}
+use Rattle.blob_fs.proofs.Fixed.{opened_store}
 use Rattle.std.proofs.Common.{ap, sym, ◌∙◌}
 use Rattle.blob_directory.specs.declared.table.Table.{Table}
 use Rattle.blob_directory.specs.Tables.{bound}
@@ -9,3 +11,39 @@ pub returns-in_err-descriptor-clause-refused : goal.returns-in_err-descriptor-cl
 returns-in_err-descriptor-clause-refused g c =
     let same : SameNames c.args.self.now c.open_new.new.self = λ e. sym (ap (λ (t : Table). bound t e) (c.open_new.ensures.names ∙ c.open_file.ensures.names ∙ c.begin_call.ensures.names)) in
     on_err _ _ same
+
+pub invariant_of-self : goal.invariant_of-self
+invariant_of-self g c = record {
+  opened = opened_store c.begin_call.new.self.store c.open_file.new.self c.begin_call.new.self.files c.open_file.ensures.still c.begin_call.new.self.opened;
+}
+
+pub returns-in_err-blob-clause-fixed : goal.returns-in_err-blob-clause-fixed
+returns-in_err-blob-clause-fixed g c = λ inode at byte below f.
+    let one = c.begin_call.ensures.fixed inode at byte below f in
+    record { numbered = one.numbered; synced = one.synced; fixed = λ was there. c.open_file.ensures.still.fixed was.blob at byte (one.fixed was there) }
+
+pub returns-in_err-descriptor-clause-fixed : goal.returns-in_err-descriptor-clause-fixed
+returns-in_err-descriptor-clause-fixed g c = λ inode at byte below f.
+    let one = c.begin_call.ensures.fixed inode at byte below f in
+    let lt : inode < c.args.self.now.next_inode = f.numbered in
+    let two = c.open_new.ensures.fixed inode at byte below (λ e. omega (arith, lt, e))
+    (record { numbered = one.numbered; synced = one.synced; fixed = λ was there. c.open_file.ensures.still.fixed was.blob at byte (one.fixed was there) }) in
+    two
+
+pub returns-in-Err-clause-fixed : goal.returns-in-Err-clause-fixed
+returns-in-Err-clause-fixed g c = λ inode at byte below f.
+    let one = c.begin_call.ensures.fixed inode at byte below f in
+    let lt : inode < c.args.self.now.next_inode = f.numbered in
+    let two = c.open_new.ensures.fixed inode at byte below (λ e. omega (arith, lt, e))
+    (record { numbered = one.numbered; synced = one.synced; fixed = λ was there. c.open_file.ensures.still.fixed was.blob at byte (one.fixed was there) }) in
+    let three = c.make.ensures.fixed inode at byte below two in
+    c.remove_file.ensures.fixed inode at byte below (record { numbered = three.numbered; synced = three.synced; fixed = three.fixed })
+
+pub returns-clause-fixed : goal.returns-clause-fixed
+returns-clause-fixed g c = λ inode at byte below f.
+    let one = c.begin_call.ensures.fixed inode at byte below f in
+    let lt : inode < c.args.self.now.next_inode = f.numbered in
+    let two = c.open_new.ensures.fixed inode at byte below (λ e. omega (arith, lt, e))
+    (record { numbered = one.numbered; synced = one.synced; fixed = λ was there. c.open_file.ensures.still.fixed was.blob at byte (one.fixed was there) }) in
+    let three = c.make.ensures.fixed inode at byte below two in
+    record { numbered = omega (arith, three.numbered, c.max-self.ensures); synced = three.synced; fixed = three.fixed }

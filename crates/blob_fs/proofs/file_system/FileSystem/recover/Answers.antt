@@ -7,13 +7,15 @@ use Rattle.blob_directory.specs.Trees.{Finds}
 use Rattle.blob_fs.specs.Files.{keeps_of, names_of, table_of}
 use Rattle.std.proofs.Common.{true, ap}
 use Rattle.blob_directory.specs.Trees.{has_link}
-use Rattle.blob_journal.specs.Blobs.{current_file}
-use Rattle.std.proofs.Common.{ℕ, Some}
+use Rattle.std.proofs.Common.{ℕ}
 use Rattle.std.specs.BTreeMap.{BTreeMap, get}
 use Rattle.std.specs.Ordering.{nat_cmp}
 use Rattle.blob_fs.specs.Bytes.{HasOnlyLinked}
+use Rattle.blob_fs.specs.Open.{AllOpen}
 use Rattle.blob_fs.specs.declared.file_system.File.{File}
-use Rattle.blob_fs.proofs.Recovering.{has_bytes, left_stays, no_orphan}
+use Rattle.blob_fs.proofs.Crashed.{found_is, opened_handles}
+use Rattle.blob_fs.proofs.Fixed.{opened_store}
+use Rattle.blob_fs.proofs.Recovering.{all_open, has_bytes, left_stays, no_orphan}
 use Rattle.blob_fs.proofs.file_system.FileSystem.recover.Goals as goal
 
 pub returns-clause-found : goal.returns-clause-found
@@ -38,21 +40,25 @@ pub returns-clause-told : goal.returns-clause-told
 returns-clause-told g c = c.begin_life.ensures.settled (c.in_ok-directories.ensures.told c.in_ok-tree.ensures.fits)
 
 pub returns-clause-bytes : goal.returns-clause-bytes
-returns-clause-bytes g c = λ name inode old found below named at is.
+returns-clause-bytes g c = λ name inode below named.
     let fs = c.args.self.now in
     let searched = c.find_names.new.self in
     let opened = c.reopen_all.new.store in
     let renewed = c.renew.new.self in
     let new = c.begin_life.new.self in
     let tree = c.in_ok-tree.tree in
-    let files = c.in_ok-files.files in
     let taken : table_of new ≡ tree.names = c.begin_life.ensures.names ∙ c.in_ok-directories.ensures.done in
     let linked : has_link tree inode ≡ true = c.in_ok-tree.ensures.links name inode (ap (λ (t : Table). bound t name) (sym taken) ∙ named) in
-    let now : current_file searched inode ≡ Some found = c.blobs.ensures.current fs.store searched inode (c.in_ok-tree.ensures.same inode) ∙ is in
-    let l = c.in_ok-files.ensures.left inode old found below at linked now in
+    let d = c.in_ok-files.ensures.left inode below linked in
+    let l = d.left in
     let same = c.blobs.ensures.twice opened renewed new.store inode (c.in_ok-directories.ensures.same inode) (c.begin_life.ensures.kept inode l.file below l.at) in
-    has_bytes c.blobs.ensures.found c.blobs.ensures.reads new inode found _ l.file (ap (λ (m : BTreeMap ℕ File). get nat_cmp m inode) c.begin_life.ensures.files ∙ l.at)
-    (left_stays c.blobs.ensures.stays opened new.store inode l.file found _ same l.left)
+    record {
+      found = d.found;
+      is = λ bytes is. d.is bytes (c.blobs.ensures.current fs.store searched inode (c.in_ok-tree.ensures.same inode) ∙ is);
+      was = found_is c.blobs.ensures.durable fs.store inode d.found (λ bytes is. d.is bytes (c.blobs.ensures.current fs.store searched inode (c.in_ok-tree.ensures.same inode) ∙ is)) fs.files below fs.opened;
+      has = has_bytes c.blobs.ensures.found c.blobs.ensures.reads new inode d.found _ l.file (ap (λ (m : BTreeMap ℕ File). get nat_cmp m inode) c.begin_life.ensures.files ∙ l.at)
+          (left_stays c.blobs.ensures.stays opened new.store inode l.file d.found _ same l.left);
+    }
 
 pub returns-clause-orphans : goal.returns-clause-orphans
 returns-clause-orphans g c =
@@ -61,3 +67,34 @@ returns-clause-orphans g c =
     let taken : table_of new ≡ tree.names = c.begin_life.ensures.names ∙ c.in_ok-directories.ensures.done in
     no_orphan new tree (λ name. ap (λ (t : Table). bound t name) taken) c.in_ok-tree.ensures.named
     (subst (HasOnlyLinked tree) (sym c.begin_life.ensures.files) c.in_ok-files.ensures.linked)
+
+pub returns-clause-opened : goal.returns-clause-opened
+returns-clause-opened g c =
+    let opened = c.reopen_all.new.store in
+    let new = c.begin_life.new.self in
+    let files = c.in_ok-files.files in
+    subst (AllOpen new.store) (sym c.begin_life.ensures.files)
+    (all_open c.blobs.ensures.stays c.find_names.new.self opened new.store c.args.self.now.files c.in_ok-tree.tree c.args.self.now.options.profile.cuts files
+    c.in_ok-files.ensures.left c.in_ok-files.ensures.linked
+    (λ inode file below at. c.blobs.ensures.twice opened c.renew.new.self new.store inode (c.in_ok-directories.ensures.same inode) (c.begin_life.ensures.kept inode file below at)))
+
+pub invariant_of-self : goal.invariant_of-self
+invariant_of-self g c = record { opened = opened_store c.args.self.now.store c.find_names.new.self c.args.self.now.files c.find_names.ensures.still c.args.self.now.opened }
+
+pub invariant_of-self-in-Break-branch-2 : goal.invariant_of-self-in-Break-branch-2
+invariant_of-self-in-Break-branch-2 g c =
+    let fs = c.args.self.now in
+    record {
+      opened = opened_handles c.find_names.new.self c.reopen_all.new.store fs.files c.reopen_all.ensures.handles
+          (opened_store fs.store c.find_names.new.self fs.files c.find_names.ensures.still fs.opened);
+    }
+
+pub invariant_of-self-2 : goal.invariant_of-self-2
+invariant_of-self-2 g c =
+    let fs = c.args.self.now in
+    let reopened = opened_handles c.find_names.new.self c.reopen_all.new.store fs.files c.reopen_all.ensures.handles
+    (opened_store fs.store c.find_names.new.self fs.files c.find_names.ensures.still fs.opened) in
+    record { opened = opened_store c.reopen_all.new.store c.renew.new.self fs.files c.renew.ensures.still reopened }
+
+pub begin_life-requires : goal.begin_life-requires
+begin_life-requires g c = record { opened = λ inode file below at. c.renew.ensures.still.still inode file.blob (c.in_ok-files.ensures.opened inode file below at) }

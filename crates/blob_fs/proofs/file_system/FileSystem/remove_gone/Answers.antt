@@ -1,4 +1,5 @@
-use Rattle.std.proofs.Common.{◌∙◌, refl}
+use Rattle.std.proofs.Common.{◌≤◌, ◌∙◌, arith, refl}
+use Rattle.blob_fs.proofs.Fixed.{contents_self, fixed_after, fixed_twice, still_self}
 use Rattle.blob_fs.proofs.file_system.FileSystem.remove_gone.Goals as goal
 
 pub loop-i-init : goal.loop-i-init
@@ -6,6 +7,7 @@ loop-i-init g c = record {
   names = refl;
   journal = record { place = refl; durable = refl; pending = refl; files = λ r. r; unsettled = refl; told = refl };
   told = refl;
+  fixed = λ inode at byte below h. h;
 }
 
 pub loop-i-preserved : goal.loop-i-preserved
@@ -13,4 +15,11 @@ loop-i-preserved g c = record {
   names = c.remove_file.ensures.names ∙ c.loop-i.invariant.names;
   journal = c.settling.ensures.twice c.args.self.now.store c.loop-i.self.store c.remove_file.new.self.store c.loop-i.invariant.journal c.remove_file.ensures.journal;
   told = c.remove_file.ensures.told ∙ c.loop-i.invariant.told;
+  fixed = fixed_twice c.args.self.now c.loop-i.self c.remove_file.new.self c.loop-i.invariant.fixed c.remove_file.ensures.fixed;
 }
+
+pub returns-clause-fixed : goal.returns-clause-fixed
+returns-clause-fixed g c =
+    let fs = c.loop-i.self in
+    let more : fs.next_inode ≤ fs.next_inode = omega arith in
+    fixed_twice c.args.self.now fs _ c.loop-i.invariant.fixed (fixed_after fs _ more (contents_self fs.files) (still_self fs.store))

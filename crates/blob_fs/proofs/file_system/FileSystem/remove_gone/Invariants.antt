@@ -1,4 +1,5 @@
 use Rattle.std.proofs.Common.{◌≡◌}
+use Rattle.blob_fs.specs.Fixed.{KeepsFixed}
 use Rattle.blob_fs.specs.Files.{KeepsJournal, table_of, told_of}
 use Rattle.blob_fs.proofs.file_system.FileSystem.remove_gone.Given as goal
 
@@ -7,4 +8,5 @@ invariant-loop-i g l = record {
   names : table_of l.self ≡ table_of l.fn.self;
   journal : KeepsJournal l.fn.self l.self;
   told : told_of l.self ≡ told_of l.fn.self;
+  fixed : KeepsFixed l.fn.self l.self;
 }

@@ -34,6 +34,7 @@ returns-in-None g c =
       refused = on_err r refused refused (λ l _. l.names);
       grows = either r renamed refused (λ x. grows_renames c.args.how _ _ fs two x) (λ l. grows_leaves fs two l);
       untold = on_err r refused refused (λ l _. l.recorded);
+      fixed = λ inode at byte below f. c.rename_free.ensures.fixed inode at byte below (c.begin_call.ensures.fixed inode at byte below f);
     }
 
 pub returns-in-Some : goal.returns-in-Some
@@ -51,4 +52,5 @@ returns-in-Some g c =
       refused = on_err r refused refused (λ l _. l.names);
       grows = either r renamed refused (λ x. grows_renames c.args.how _ _ fs two x) (λ l. grows_leaves fs two l);
       untold = on_err r refused refused (λ l _. l.recorded);
+      fixed = λ inode at byte below f. c.rename_taken.ensures.fixed inode at byte below (c.begin_call.ensures.fixed inode at byte below f);
     }

@@ -22,8 +22,8 @@ loop-call-preserved g c =
     record {
       done = subst (λ (l : List Call). DoesAll l c.push_reserved.new.self.items fs after) (sym {A = List Call} more)
           (subst (λ (l : List Bool). DoesAll (take k calls ++ item ∷ []) l fs after) (sym {A = List Bool} c.push_reserved.ensures.items)
-          (does_more (take k calls) c.loop-call.oks.items item ok fs before after i.done c.call-ok.ensures));
-      grows = c.told.ensures.twice (told_of fs) (told_of before) (told_of after) i.grows (grows_does item ok before after c.call-ok.ensures);
+          (does_more (take k calls) c.loop-call.oks.items item ok fs before after i.done c.call-ok.ensures.does c.call-ok.ensures.fixed));
+      grows = c.told.ensures.twice (told_of fs) (told_of before) (told_of after) i.grows (grows_does item ok before after c.call-ok.ensures.does);
       count = omega (arith, c.push_reserved.ensures.len, i.count);
       room = omega (arith, c.push_reserved.ensures.capacity, i.room);
     }

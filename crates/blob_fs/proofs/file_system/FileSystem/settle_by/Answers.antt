@@ -1,3 +1,5 @@
+use Rattle.std.proofs.Common.{◌≤◌, arith}
+use Rattle.blob_fs.proofs.Fixed.{contents_self, fixed_after, fixed_twice, opened_store}
 use Rattle.blob_fs.proofs.Settling.{settles_then}
 use Rattle.blob_fs.proofs.file_system.FileSystem.settle_by.Goals as goal
 
@@ -6,3 +8,12 @@ returns-clause-settled g c = c.settling.ensures.before c.args.settles c.args.syn
 
 pub returns-clause-some : goal.returns-clause-some
 returns-clause-some g c = settles_then _ _ _ c.settle.ensures.some c.remove_gone.ensures.told
+
+pub invariant_of-self : goal.invariant_of-self
+invariant_of-self g c = record { opened = opened_store c.args.self.now.store c.settle.new.self c.args.self.now.files c.settle.ensures.still c.args.self.now.opened }
+
+pub returns-clause-fixed : goal.returns-clause-fixed
+returns-clause-fixed g c =
+    let fs = c.args.self.now in
+    let more : fs.next_inode ≤ fs.next_inode = omega arith in
+    fixed_twice fs _ c.remove_gone.new.self (fixed_after fs _ more (contents_self fs.files) c.settle.ensures.still) c.remove_gone.ensures.fixed

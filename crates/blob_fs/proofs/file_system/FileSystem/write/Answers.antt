@@ -1,18 +1,76 @@
-use Rattle.std.proofs.Common.{ℕ, Some, ap, subst, sym, ◌∙◌}
-use Rattle.std.specs.Prelude.{option_map}
+use Rattle.std.proofs.Common.{◌<◌, ◌≤◌, ◌^◌, List, Option, Some, ℕ, ap, length, refl, sym, subst, ◌∙◌, arith}
+use Rattle.std.proofs.Math.Logic.{∥∥₁_elim}
 use Rattle.std.specs.BTreeMap.{BTreeMap, get}
+use Rattle.std.specs.Coded.{Coded-set, coded_list, coded_option, coded_ℕ}
 use Rattle.std.specs.Ordering.{nat_cmp}
+use Rattle.std.specs.Prelude.{option_map}
 use Rattle.blob_model.specs.Draws.{chosen_by}
 use Rattle.blob_model.specs.Log.{replay_log}
 use Rattle.blob_draws.specs.Rows.{table_of}
 use Rattle.blob_journal.specs.declared.journaled.Journaled.{Journaled}
 use Rattle.blob_journal.specs.declared.store.FileBlob.{FileBlob}
-use Rattle.blob_journal.specs.Blobs.{IsFileOf, crashed_file}
+use Rattle.blob_journal.specs.Blobs.{IsCurrent, crashed_file}
+use Rattle.blob_journal.specs.Fixed.{ChangesOpen, IsBeside}
 use Rattle.blob_fs.specs.declared.file_system.File.{File}
 use Rattle.blob_fs.specs.declared.file_system.Options.{Options}
 use Rattle.blob_fs.specs.Files.{descriptor_number}
 use Rattle.blob_fs.proofs.Calls.{was_ok}
+use Rattle.blob_fs.proofs.Fixed.{changes_again, contents_same, contents_through, fixed_after, keeps_spared, opened_changed, opened_none, opened_through, sets_through, still_self}
 use Rattle.blob_fs.proofs.file_system.FileSystem.write.Goals as goal
+
+pub returns-in_err-begin_call-clause-fixed : goal.returns-in_err-begin_call-clause-fixed
+returns-in_err-begin_call-clause-fixed g c = λ inode at byte below spared f. c.begin_call.ensures.fixed inode at byte below f
+
+pub returns-in_err-inode-clause-fixed : goal.returns-in_err-inode-clause-fixed
+returns-in_err-inode-clause-fixed g c = λ inode at byte below spared f. c.begin_call.ensures.fixed inode at byte below f
+
+pub returns-in_err-size-clause-fixed : goal.returns-in_err-size-clause-fixed
+returns-in_err-size-clause-fixed g c = λ inode at byte below spared f. c.begin_call.ensures.fixed inode at byte below f
+
+pub returns-in_err-check_room-clause-fixed : goal.returns-in_err-check_room-clause-fixed
+returns-in_err-check_room-clause-fixed g c = λ inode at byte below spared f. c.begin_call.ensures.fixed inode at byte below f
+
+pub invariant_of-self : goal.invariant_of-self
+invariant_of-self g c =
+    let one = c.begin_call.new.self in
+    record { opened = opened_none one.store one.files c.get_mut.follows.lender-at-none c.get_mut.follows.holds-at-none one.opened }
+
+pub returns-in_default-clause-fixed : goal.returns-in_default-clause-fixed
+returns-in_default-clause-fixed g c =
+    let one = c.begin_call.new.self in
+    let more : one.next_inode ≤ one.next_inode = omega arith in
+    λ inode at byte below spared f.
+    fixed_after one _ more (contents_same one.files c.get_mut.follows.lender-at-none c.get_mut.follows.holds-at-none) (still_self one.store) inode at byte below
+    (c.begin_call.ensures.fixed inode at byte below f)
+
+pub invariant_of-self-in-Break-branch-5 : goal.invariant_of-self-in-Break-branch-5
+invariant_of-self-in-Break-branch-5 g c =
+    let one = c.begin_call.new.self in
+    let was = c.in-Some.found.now in
+    let new : File = c.reserve_shown.new.self in
+    record { opened = opened_through one.store one.files (c.get_mut.follows.lender new) c.in_ok-inode.inode was new c.in-Some.ensures.value (c.get_mut.follows.holds new) c.reserve_shown.ensures one.opened }
+
+pub returns-in_err-reserve_shown-clause-fixed : goal.returns-in_err-reserve_shown-clause-fixed
+returns-in_err-reserve_shown-clause-fixed g c =
+    let one = c.begin_call.new.self in
+    let was = c.in-Some.found.now in
+    let new : File = c.reserve_shown.new.self in
+    let more : one.next_inode ≤ one.next_inode = omega arith in
+    λ inode at byte below spared f.
+    fixed_after one _ more (contents_through one.files (c.get_mut.follows.lender new) c.in_ok-inode.inode was new c.in-Some.ensures.value (c.get_mut.follows.holds new) c.reserve_shown.ensures)
+    (still_self one.store) inode at byte below (c.begin_call.ensures.fixed inode at byte below f)
+
+pub invariant_of-self-2 : goal.invariant_of-self-2
+invariant_of-self-2 g c =
+    let one = c.begin_call.new.self in
+    let was = c.in-Some.found.now in
+    let new : File = c.end_write-now.new.self in
+    let spares = IsBeside c.args.offset (length c.args.bytes.now) in
+    let sets = sets_through one.files (c.get_mut.follows.lender new) c.in_ok-inode.inode was new c.in-Some.ensures.value (c.get_mut.follows.holds new) in
+    let changes : ChangesOpen spares one.store was.blob c.write_blob-written.new.store new.blob =
+    changes_again spares one.store c.write_blob-written.new.store c.reserve_shown.new.self.blob c.write_blob-written.new.blob was.blob new.blob
+    c.reserve_shown.ensures.blob c.end_write-now.ensures.blob c.write_blob-written.ensures.still in
+    record { opened = opened_changed spares one.store c.write_blob-written.new.store one.files (c.get_mut.follows.lender new) c.in_ok-inode.inode was new (omega arith) c.in-Some.ensures.value sets changes one.opened }
 
 pub returns-in-Ok-clause-recorded : goal.returns-in-Ok-clause-recorded
 returns-in-Ok-clause-recorded g c = λ by_mode.
@@ -22,6 +80,7 @@ returns-in-Ok-clause-recorded g c = λ by_mode.
     let crashes = c.in_ok-begin_call.ensures.crashes in
     let inode = c.in_ok-inode.inode in
     let found : File = c.in-Some.found.now in
+    let small : inode < 2 ^ 64 = omega arith in
     let how = ap (λ (o : Options). o.failed_write) same.options ∙ by_mode in
     was_ok c.write_blob-written.result _ c.in-Ok.is c.write_blob-written.ensures.recorded (λ recorded.
     let written = recorded how in
@@ -32,9 +91,40 @@ returns-in-Ok-clause-recorded g c = λ by_mode.
       there = ap (λ (m : BTreeMap ℕ File). get nat_cmp m inode) (sym same.files) ∙ sym c.in-Some.ensures.value;
       entries = written.entries;
       is = written.is;
-      left = λ bytes kept r is.
+      left = λ kept.
           ap (λ (j : Journaled g.row.R.Denot). crashed_file j kept inode) c.count.ensures.store
-          ∙ written.left inode bytes kept (crashes.files r)
-          (subst (λ (b : FileBlob). IsFileOf one.store inode b bytes) (sym c.reserve_shown.ensures) (crashes.same inode found.blob bytes is))
+          ∙ ∥∥₁_elim one.opened (Coded-set (coded_option (coded_list coded_ℕ)) _ _) (λ each.
+          written.left inode kept
+          (subst (λ (b : FileBlob). IsCurrent one.store inode b) (sym c.reserve_shown.ensures.blob) (each inode found small (sym c.in-Some.ensures.value)).is.current))
           ∙ ap (option_map (λ x. replay_log x written.entries (chosen_by (table_of kept)))) (crashes.left inode kept);
     })
+
+pub returns-in-Ok-clause-fixed : goal.returns-in-Ok-clause-fixed
+returns-in-Ok-clause-fixed g c =
+    let one = c.begin_call.new.self in
+    let was = c.in-Some.found.now in
+    let new : File = c.end_write-now.new.self in
+    let spares = IsBeside c.args.offset (length c.args.bytes.now) in
+    let sets = sets_through one.files (c.get_mut.follows.lender new) c.in_ok-inode.inode was new c.in-Some.ensures.value (c.get_mut.follows.holds new) in
+    let changes : ChangesOpen spares one.store was.blob c.write_blob-written.new.store new.blob =
+    changes_again spares one.store c.write_blob-written.new.store c.reserve_shown.new.self.blob c.write_blob-written.new.blob was.blob new.blob
+    c.reserve_shown.ensures.blob c.end_write-now.ensures.blob c.write_blob-written.ensures.still in
+    let opens = ap (λ (m : BTreeMap ℕ ℕ). get nat_cmp m (descriptor_number c.args.file)) (sym c.begin_call.ensures.files.opens) ∙ c.in_ok-inode.ensures in
+    let small : c.in_ok-inode.inode < 2 ^ 64 = omega arith in
+    keeps_spared c.args.self.now one c.count.new.self c.args.file spares c.write_blob-written.new.store (c.get_mut.follows.lender new) c.in_ok-inode.inode was new opens c.begin_call.ensures.fixed
+    c.count.ensures.number c.count.ensures.files.files c.count.ensures.store small c.in-Some.ensures.value sets changes (c.end_write-now.ensures.synced ∙ c.reserve_shown.ensures.synced) one.opened
+
+pub returns-in-Err-clause-fixed : goal.returns-in-Err-clause-fixed
+returns-in-Err-clause-fixed g c =
+    let one = c.begin_call.new.self in
+    let was = c.in-Some.found.now in
+    let new : File = c.end_write-now.new.self in
+    let spares = IsBeside c.args.offset (length c.args.bytes.now) in
+    let sets = sets_through one.files (c.get_mut.follows.lender new) c.in_ok-inode.inode was new c.in-Some.ensures.value (c.get_mut.follows.holds new) in
+    let changes : ChangesOpen spares one.store was.blob c.write_blob-written.new.store new.blob =
+    changes_again spares one.store c.write_blob-written.new.store c.reserve_shown.new.self.blob c.write_blob-written.new.blob was.blob new.blob
+    c.reserve_shown.ensures.blob c.end_write-now.ensures.blob c.write_blob-written.ensures.still in
+    let opens = ap (λ (m : BTreeMap ℕ ℕ). get nat_cmp m (descriptor_number c.args.file)) (sym c.begin_call.ensures.files.opens) ∙ c.in_ok-inode.ensures in
+    let small : c.in_ok-inode.inode < 2 ^ 64 = omega arith in
+    keeps_spared c.args.self.now one c.count.new.self c.args.file spares c.write_blob-written.new.store (c.get_mut.follows.lender new) c.in_ok-inode.inode was new opens c.begin_call.ensures.fixed
+    c.count.ensures.number c.count.ensures.files.files c.count.ensures.store small c.in-Some.ensures.value sets changes (c.end_write-now.ensures.synced ∙ c.reserve_shown.ensures.synced) one.opened

@@ -1,0 +1,16 @@
+use Rattle.std.proofs.Common.{refl}
+use Rattle.blob_fs.specs.declared.file_system.File.{File}
+use Rattle.blob_fs.proofs.Fixed.{opened_none, opened_through}
+use Rattle.blob_fs.proofs.file_system.FileSystem.drop_open.Goals as goal
+
+pub invariant_of-self : goal.invariant_of-self
+invariant_of-self g c =
+    let fs = c.args.self.now in
+    let was : File = c.in-Some.file.now in
+    let now : File = record was { opens = c.saturating_sub-file.result } in
+    record {
+      opened = opened_through fs.store fs.files (c.get_mut.follows.lender now) c.args.inode was now c.in-Some.ensures.value (c.get_mut.follows.holds now) (record { blob = refl; synced = refl }) fs.opened;
+    }
+
+pub invariant_of-self-in_default : goal.invariant_of-self-in_default
+invariant_of-self-in_default g c = record { opened = opened_none c.args.self.now.store c.args.self.now.files _ c.get_mut.follows.holds-at-none c.args.self.now.opened }

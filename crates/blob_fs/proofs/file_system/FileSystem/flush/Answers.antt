@@ -1,0 +1,66 @@
+use Rattle.std.proofs.Common.{◌<◌, ◌≤◌, ◌^◌, ℕ, false, inr, refl, subst, sym, arith}
+use Rattle.blob_journal.specs.Fixed.{ChangesOpen}
+use Rattle.blob_fs.specs.declared.file_system.File.{File}
+use Rattle.blob_fs.proofs.Fixed.{changes_after, contents_same, fixed_changed, opened_after, opened_changed, sets_through}
+use Rattle.blob_fs.proofs.Syncing.{seen_below}
+use Rattle.blob_fs.proofs.file_system.FileSystem.flush.Goals as goal
+
+pub invariant_of-self-in_default : goal.invariant_of-self-in_default
+invariant_of-self-in_default g c =
+    let fs = c.args.self.now in
+    record {
+      opened = opened_after fs.store c.set_config.new.self fs.files c.get_mut.follows.lender-at-none (contents_same fs.files c.get_mut.follows.lender-at-none c.get_mut.follows.holds-at-none)
+          c.set_config.ensures.still fs.opened;
+    }
+
+pub invariant_of-self-in-Break-1 : goal.invariant_of-self-in-Break-1
+invariant_of-self-in-Break-1 g c =
+    let fs = c.args.self.now in
+    let was = c.in-Some.file.now in
+    let new : File = record was { blob = c.sync_file.new.file } in
+    let changes : ChangesOpen (λ at. Unit) fs.store was.blob c.sync_file.new.self new.blob =
+    changes_after (λ at. Unit) fs.store c.set_config.new.self c.sync_file.new.self was.blob new.blob c.set_config.ensures.still c.sync_file.ensures.still in
+    let sets = sets_through fs.files (c.get_mut.follows.lender new) c.args.inode was new c.in-Some.ensures.value (c.get_mut.follows.holds new) in
+    record {
+      opened = opened_changed (λ at. Unit) fs.store c.sync_file.new.self fs.files (c.get_mut.follows.lender new) c.args.inode was new (omega arith) c.in-Some.ensures.value sets changes fs.opened;
+    }
+
+pub returns-in_err-sync_file-clause-fixed : goal.returns-in_err-sync_file-clause-fixed
+returns-in_err-sync_file-clause-fixed g c =
+    let fs = c.args.self.now in
+    let was = c.in-Some.file.now in
+    let new : File = record was { blob = c.sync_file.new.file } in
+    let changes : ChangesOpen (λ at. Unit) fs.store was.blob c.sync_file.new.self new.blob =
+    changes_after (λ at. Unit) fs.store c.set_config.new.self c.sync_file.new.self was.blob new.blob c.set_config.ensures.still c.sync_file.ensures.still in
+    let sets = sets_through fs.files (c.get_mut.follows.lender new) c.args.inode was new c.in-Some.ensures.value (c.get_mut.follows.holds new) in
+    let more : fs.next_inode ≤ fs.next_inode = omega arith in
+    let small : c.args.inode < 2 ^ 64 = omega arith in
+    λ inode at byte below h.
+    fixed_changed fs _ more (λ at. Unit) c.args.inode was new small c.in-Some.ensures.value sets changes fs.opened
+    inode at byte below (inr tt) (λ long is. long) h
+
+pub invariant_of-self-2 : goal.invariant_of-self-2
+invariant_of-self-2 g c =
+    let fs = c.args.self.now in
+    let was = c.in-Some.file.now in
+    let new : File = record was { blob = c.sync_file.new.file; synced = c.size-file.result; is_truncated = false } in
+    let changes : ChangesOpen (λ at. Unit) fs.store was.blob c.sync_file.new.self new.blob =
+    changes_after (λ at. Unit) fs.store c.set_config.new.self c.sync_file.new.self was.blob new.blob c.set_config.ensures.still c.sync_file.ensures.still in
+    let sets = sets_through fs.files (c.get_mut.follows.lender new) c.args.inode was new c.in-Some.ensures.value (c.get_mut.follows.holds new) in
+    record {
+      opened = opened_changed (λ at. Unit) fs.store c.sync_file.new.self fs.files (c.get_mut.follows.lender new) c.args.inode was new (omega arith) c.in-Some.ensures.value sets changes fs.opened;
+    }
+
+pub returns-clause-fixed : goal.returns-clause-fixed
+returns-clause-fixed g c =
+    let fs = c.args.self.now in
+    let was = c.in-Some.file.now in
+    let new : File = record was { blob = c.sync_file.new.file; synced = c.size-file.result; is_truncated = false } in
+    let changes : ChangesOpen (λ at. Unit) fs.store was.blob c.sync_file.new.self new.blob =
+    changes_after (λ at. Unit) fs.store c.set_config.new.self c.sync_file.new.self was.blob new.blob c.set_config.ensures.still c.sync_file.ensures.still in
+    let sets = sets_through fs.files (c.get_mut.follows.lender new) c.args.inode was new c.in-Some.ensures.value (c.get_mut.follows.holds new) in
+    let more : fs.next_inode ≤ fs.next_inode = omega arith in
+    let small : c.args.inode < 2 ^ 64 = omega arith in
+    λ inode at byte below h.
+    fixed_changed fs _ more (λ at. Unit) c.args.inode was new small c.in-Some.ensures.value sets changes fs.opened
+    inode at byte below (inr tt) (λ long is. subst (λ (n : ℕ). at < n) (sym c.size-file.ensures) (seen_below new.blob at byte is.seen)) h

@@ -1,0 +1,5 @@
+use Rattle.blob_fs.proofs.Fixed.{opened_store}
+use Rattle.blob_fs.proofs.file_system.FileSystem.make.Goals as goal
+
+pub invariant_of-self-2 : goal.invariant_of-self-2
+invariant_of-self-2 g c = record { opened = opened_store c.args.self.now.store c.make.new.self c.args.self.now.files c.make.ensures.still c.args.self.now.opened }

@@ -1,0 +1,19 @@
+use Rattle.std.proofs.Common.{◌<◌, arith}
+use Rattle.blob_fs.proofs.file_system.FileSystem.make_directory_at.Goals as goal
+
+pub returns-in_err-insert-clause-fixed : goal.returns-in_err-insert-clause-fixed
+returns-in_err-insert-clause-fixed g c = λ inode at byte below f.
+    let one = c.begin_call.ensures.fixed inode at byte below f in
+    record { numbered = one.numbered; synced = one.synced; fixed = one.fixed }
+
+pub returns-in-Err-clause-fixed : goal.returns-in-Err-clause-fixed
+returns-in-Err-clause-fixed g c = λ inode at byte below f.
+    let one = c.begin_call.ensures.fixed inode at byte below f in
+    let two = c.make.ensures.fixed inode at byte below (record { numbered = one.numbered; synced = one.synced; fixed = one.fixed }) in
+    record { numbered = two.numbered; synced = two.synced; fixed = two.fixed }
+
+pub returns-clause-fixed : goal.returns-clause-fixed
+returns-clause-fixed g c = λ inode at byte below f.
+    let one = c.begin_call.ensures.fixed inode at byte below f in
+    let two = c.make.ensures.fixed inode at byte below (record { numbered = one.numbered; synced = one.synced; fixed = one.fixed }) in
+    record { numbered = omega (arith, two.numbered, c.max-self.ensures); synced = two.synced; fixed = two.fixed }

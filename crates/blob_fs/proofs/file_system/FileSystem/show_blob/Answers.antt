@@ -1,0 +1,40 @@
+use Rattle.std.proofs.Common.{ℕ, None, arith, refl, subst, sym}
+use Rattle.std.specs.BTreeMap.{BTreeMap}
+use Rattle.blob_fs.specs.declared.file_system.File.{File}
+use Rattle.blob_fs.proofs.Fixed.{Sets, contents_same, contents_through, contents_twice, fixed_after, opened_none, opened_through, sets_through, still_same}
+use Rattle.blob_fs.proofs.Syncing.{seen_same, seen_set}
+use Rattle.blob_fs.proofs.file_system.FileSystem.show_blob.Goals as goal
+
+pub invariant_of-self : goal.invariant_of-self
+invariant_of-self g c = record { opened = opened_none c.args.self.now.store c.args.self.now.files c.get_mut.follows.lender-at-none c.get_mut.follows.holds-at-none c.args.self.now.opened }
+
+pub invariant_of-self-2 : goal.invariant_of-self-2
+invariant_of-self-2 g c =
+    let new : File = record c.in-Some.file.now { shown = None } in
+    record {
+      opened = opened_through c.args.self.now.store c.args.self.now.files (c.get_mut.follows.lender new) c.args.inode c.in-Some.file.now new c.in-Some.ensures.value (c.get_mut.follows.holds new) (record { blob = refl; synced = refl }) c.args.self.now.opened;
+    }
+
+pub returns-clause-fixed : goal.returns-clause-fixed
+returns-clause-fixed g c =
+    let fs = c.args.self.now in
+    let new : File = record c.in-Some.file.now { shown = None } in
+    let next = c.count.ensures.number in
+    fixed_after fs c.count.new.self (omega (arith, next))
+    (contents_twice fs.files (c.get_mut.follows.lender new) c.count.new.self.files
+    (contents_through fs.files (c.get_mut.follows.lender new) c.args.inode c.in-Some.file.now new c.in-Some.ensures.value (c.get_mut.follows.holds new) (record { blob = refl; synced = refl }))
+    (contents_same (c.get_mut.follows.lender new) c.count.new.self.files c.count.ensures.files.files))
+    (still_same fs.store c.count.new.self.store c.count.ensures.store)
+
+pub returns-clause-seen : goal.returns-clause-seen
+returns-clause-seen g c =
+    let fs = c.args.self.now in
+    let was = c.in-Some.file.now in
+    let new : File = record was { shown = None } in
+    seen_set fs c.count.new.self c.args.inode was new c.in-Some.ensures.value
+    (subst (λ (m : BTreeMap ℕ File). Sets fs.files m c.args.inode new) (sym c.count.ensures.files.files)
+    (sets_through fs.files (c.get_mut.follows.lender new) c.args.inode was new c.in-Some.ensures.value (c.get_mut.follows.holds new)))
+    (λ at byte below has. has)
+
+pub returns-in_default-clause-seen : goal.returns-in_default-clause-seen
+returns-in_default-clause-seen g c = seen_same c.args.self.now _ c.get_mut.follows.holds-at-none

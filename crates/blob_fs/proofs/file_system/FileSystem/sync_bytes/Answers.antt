@@ -1,0 +1,72 @@
+use Rattle.std.proofs.Common.{◌<◌, ◌≤◌, ◌^◌, ℕ, false, inr, sym, subst, arith}
+use Rattle.blob_fs.specs.declared.file_system.File.{File}
+use Rattle.blob_fs.proofs.Fixed.{fixed_changed, fixed_twice, opened_changed, opened_none, sets_through}
+use Rattle.blob_fs.proofs.Syncing.{fixes_synced, seen_below, seen_synced}
+use Rattle.blob_fs.proofs.file_system.FileSystem.sync_bytes.Goals as goal
+
+pub invariant_of-self : goal.invariant_of-self
+invariant_of-self g c = record { opened = opened_none c.args.self.now.store c.args.self.now.files c.get_mut.follows.lender-at-none c.get_mut.follows.holds-at-none c.args.self.now.opened }
+
+pub invariant_of-self-in-Err-1 : goal.invariant_of-self-in-Err-1
+invariant_of-self-in-Err-1 g c =
+    let fs = c.args.self.now in
+    let was = c.in-Some.file.now in
+    let new : File = record was { blob = c.sync_file.new.file } in
+    record {
+      opened = opened_changed (λ at. Unit) fs.store c.sync_file.new.self fs.files (c.get_mut.follows.lender new) c.args.inode was new (omega arith) c.in-Some.ensures.value
+          (sets_through fs.files (c.get_mut.follows.lender new) c.args.inode was new c.in-Some.ensures.value (c.get_mut.follows.holds new)) c.sync_file.ensures.still fs.opened;
+    }
+
+pub returns-in-Err-clause-fixed : goal.returns-in-Err-clause-fixed
+returns-in-Err-clause-fixed g c =
+    let fs = c.args.self.now in
+    let was = c.in-Some.file.now in
+    let new : File = record was { blob = c.sync_file.new.file } in
+    let more : fs.next_inode ≤ fs.next_inode = omega arith in
+    let small : c.args.inode < 2 ^ 64 = omega arith in
+    fixed_twice fs _ c.fail_sync.new.self
+    (λ inode at byte below h.
+    fixed_changed fs _ more (λ at. Unit) c.args.inode was new small c.in-Some.ensures.value
+    (sets_through fs.files (c.get_mut.follows.lender new) c.args.inode was new c.in-Some.ensures.value (c.get_mut.follows.holds new)) c.sync_file.ensures.still fs.opened
+    inode at byte below (inr tt) (λ long is. long) h)
+    c.fail_sync.ensures.fixed
+
+pub invariant_of-self-2 : goal.invariant_of-self-2
+invariant_of-self-2 g c =
+    let fs = c.args.self.now in
+    let was = c.in-Some.file.now in
+    let new : File = record was { blob = c.sync_file.new.file; synced = c.size-file.result; is_changed = false; is_truncated = false } in
+    record {
+      opened = opened_changed (λ at. Unit) fs.store c.sync_file.new.self fs.files (c.get_mut.follows.lender new) c.args.inode was new (omega arith) c.in-Some.ensures.value
+          (sets_through fs.files (c.get_mut.follows.lender new) c.args.inode was new c.in-Some.ensures.value (c.get_mut.follows.holds new)) c.sync_file.ensures.still fs.opened;
+    }
+
+pub returns-clause-fixed : goal.returns-clause-fixed
+returns-clause-fixed g c =
+    let fs = c.args.self.now in
+    let was = c.in-Some.file.now in
+    let new : File = record was { blob = c.sync_file.new.file; synced = c.size-file.result; is_changed = false; is_truncated = false } in
+    let more : fs.next_inode ≤ fs.next_inode = omega arith in
+    let small : c.args.inode < 2 ^ 64 = omega arith in
+    λ inode at byte below h.
+    fixed_changed fs _ more (λ at. Unit) c.args.inode was new small c.in-Some.ensures.value
+    (sets_through fs.files (c.get_mut.follows.lender new) c.args.inode was new c.in-Some.ensures.value (c.get_mut.follows.holds new)) c.sync_file.ensures.still fs.opened
+    inode at byte below (inr tt) (λ long is. subst (λ (n : ℕ). at < n) (sym c.size-file.ensures) (seen_below new.blob at byte is.seen)) h
+
+pub returns-clause-fixes : goal.returns-clause-fixes
+returns-clause-fixes g c =
+    let fs = c.args.self.now in
+    let was = c.in-Some.file.now in
+    let new : File = record was { blob = c.sync_file.new.file; synced = c.size-file.result; is_changed = false; is_truncated = false } in
+    fixes_synced fs _ c.args.inode was new c.in_ok-synced.ensures.numbered c.in-Some.ensures.value
+    (sets_through fs.files (c.get_mut.follows.lender new) c.args.inode was new c.in-Some.ensures.value (c.get_mut.follows.holds new))
+    c.in_default-sync_file.ensures.fixes c.size-file.ensures fs.opened
+
+pub returns-clause-seen : goal.returns-clause-seen
+returns-clause-seen g c =
+    let fs = c.args.self.now in
+    let was = c.in-Some.file.now in
+    let new : File = record was { blob = c.sync_file.new.file; synced = c.size-file.result; is_changed = false; is_truncated = false } in
+    seen_synced fs _ c.args.inode was new c.in-Some.ensures.value
+    (sets_through fs.files (c.get_mut.follows.lender new) c.args.inode was new c.in-Some.ensures.value (c.get_mut.follows.holds new))
+    c.in_default-sync_file.ensures.fixes fs.opened

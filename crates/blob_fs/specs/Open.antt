@@ -1,0 +1,31 @@
+-- The blobs of files are open.
+use Rattle.std.specs.Prelude.{◌≡◌, ◌<◌, ◌^◌, ℕ, Some}
+use Rattle.std.specs.BTreeMap.{BTreeMap, get}
+use Rattle.std.specs.Ordering.{nat_cmp}
+use Rattle.std.proofs.Math.Logic.{∥∥₁_map}
+use Rattle.blob_journal.specs.declared.journaled.Journaled.{Journaled}
+use Rattle.blob_journal.specs.Fixed.{IsOpen}
+use Rattle.blob_journal.specs.Keeping.{with_generator}
+use Rattle.blob_fs.specs.declared.file_system.File.{File}
+
+-- the blob of each file of a map is the current one of its number
+abbrev pub AllOpen : {R : Type 0} → Journaled R → BTreeMap ℕ File → Type 0
+AllOpen j files = (inode : ℕ) (file : File) → inode < 2 ^ 64 → get nat_cmp files inode ≡ Some file → IsOpen j inode file.blob
+
+-- also with another generator
+pub with_open : {R : Type 0} (j : Journaled R) (rng : R) (files : BTreeMap ℕ File) → ∥ AllOpen j files ∥₁ → ∥ AllOpen (with_generator j rng) files ∥₁
+with_open j rng files h = ∥∥₁_map h (λ each inode file below at.
+    let it = each inode file below at in
+    record {
+      durable = it.durable;
+      is = record {
+        current = record { number = it.is.current.number; layout = it.is.current.layout; file = it.is.current.file; is = it.is.current.is };
+        durable = it.is.durable;
+      };
+      tracked = it.tracked;
+    })
+
+-- the same blob, and the same size at the last sync
+pub record SameContent (was now : File) : Type 0 where
+  pub blob : now.blob ≡ was.blob
+  pub synced : now.synced ≡ was.synced

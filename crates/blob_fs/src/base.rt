@@ -1,0 +1,164 @@
+//! What the calls share: their start, and an edit.
+ghost use Rattle.std.specs.Prelude.{◌≡◌, [], None, Some, OnOk, OnErr, IfOk, option_copied};
+ghost use Rattle.blob_fs.specs.Files.{AddsTold, KeepsJournal, KeepsNames, KeepsTold, MakesEdit, SameFiles, SameNames, file_of, journaled_of, names_of, told_of};
+ghost use Rattle.blob_fs.specs.Fixed.{KeepsFixed};
+ghost use Rattle.blob_journal.specs.Writes.{SameCrashes};
+ghost use Rattle.blob_directory.specs.Names.{Same, edit_of, entry};
+
+use crate::error::FsError;
+use crate::file_system::{File, FileSystem, Options, ROOT, Store};
+use crate::path::check_name;
+use blob_directory::edit::{Binding, Edit, Kind, entry_of};
+use blob_directory::unsettled::About;
+use blob_faulty::Config;
+use blob_journal::Journaled;
+use rand_core::Rng;
+use std::alloc::Global;
+use std::collections::BTreeMap;
+
+/// Returns a copy.
+pub(crate) fn copy_of(config: &Config) -> Config {
+    Config {
+        open_rate: config.open_rate,
+        read_rate: config.read_rate,
+        write_rate: config.write_rate,
+        sync_rate: config.sync_rate,
+        resize_rate: config.resize_rate,
+        remove_rate: config.remove_rate,
+        scan_rate: config.scan_rate,
+    }
+}
+
+impl<R: Rng + Drop> FileSystem<R> {
+    /// Returns an empty file system over a new store, with faults drawn from the generator.
+    ///
+    /// # Errors
+    ///
+    /// `Memory` only.
+    pub fn new(alloc: Global, rng: R, options: Options) -> Result<FileSystem<R>, FsError>
+        ensures names { IfOk result (λ fs. Same (names_of fs) (λ _. None)) }
+        ensures told { IfOk result (λ fs. told_of fs ≡ []) }
+    {
+        let store = Journaled::new(alloc, rng)?;
+        let mut directories = BTreeMap::new(alloc);
+        directories.insert(ROOT, ROOT)?;
+        Ok(FileSystem {
+            alloc,
+            store,
+            options,
+            directories,
+            files: BTreeMap::new(alloc),
+            opens: BTreeMap::new(alloc),
+            next_inode: ROOT + 1,
+            next_open: 0,
+            gone: Vec::new(alloc),
+            used: 0,
+            is_down: false,
+        })
+    }
+
+    /// Returns the fault wrapper below.
+    pub fn store(&self) -> &Store<R> {
+        self.store.store()
+    }
+
+    /// Returns the options.
+    pub fn options(&self) -> &Options {
+        &self.options
+    }
+
+    /// Replaces the options. A write or an edit that is pending keeps the mode and the rate of its issue.
+    pub fn set_options(&mut self, options: Options)
+        ensures names { KeepsNames self.old self.new }
+        ensures told { KeepsTold self.old self.new }
+        ensures fixed { KeepsFixed self.old self.new }
+    {
+        self.options = options;
+    }
+
+    /// Refuses calls after a recovery that ran out of memory, and lets the wrapper draw the faults of files.
+    pub(crate) fn begin_call(&mut self) -> Result<(), FsError>
+        ensures names { KeepsNames self.old self.new }
+        ensures told { KeepsTold self.old self.new }
+        ensures journal { OnOk result (KeepsJournal self.old self.new) }
+        ensures crashes { OnOk result (SameCrashes (journaled_of self.old) (journaled_of self.new)) }
+        ensures files { SameFiles self.old self.new }
+        ensures fixed { KeepsFixed self.old self.new }
+    {
+        if self.is_down {
+            return Err(FsError::Crashed);
+        }
+        let faults = copy_of(&self.options.faults);
+        self.store.set_config(faults);
+        Ok(())
+    }
+
+    /// Lets the wrapper draw no faults until the next call begins.
+    pub(crate) fn draw_nothing(&mut self)
+        ensures names { KeepsNames self.old self.new }
+        ensures told { KeepsTold self.old self.new }
+        ensures fixed { KeepsFixed self.old self.new }
+    {
+        self.store.set_config(Config::default());
+    }
+
+    /// Returns the entry of a name in a directory.
+    pub(crate) fn entry_in(&self, directory: u64, name: &[u8]) -> Result<Vec<u8>, FsError>
+        ensures { IfOk result (λ e. e.items ≡ entry directory name.now) }
+    {
+        check_name(name)?;
+        if !self.directories.contains_key(&directory) {
+            return Err(if self.files.contains_key(&directory) {
+                FsError::NotDirectory
+            } else {
+                FsError::NotFound
+            });
+        }
+        Ok(entry_of(self.alloc, directory, name)?)
+    }
+
+    /// Makes an edit: it is in the journal, unsynced, and the names are changed.
+    ///
+    /// # Errors
+    ///
+    /// Those of the journal. No name has changed.
+    pub(crate) fn make(&mut self, edit: Edit, about: About) -> Result<(), FsError>
+        ensures made { OnOk result (MakesEdit (edit_of edit) self.old self.new) }
+        ensures refused { OnErr result (SameNames self.old self.new) }
+        ensures told { OnOk result (AddsTold (edit_of edit) self.old self.new) }
+        ensures untold { OnErr result (KeepsTold self.old self.new) }
+        ensures fixed { KeepsFixed self.old self.new }
+    {
+        self.gone.reserve(1)?;
+        self.store.make(edit, about, self.options.edit_rate)?;
+        Ok(())
+    }
+
+    /// Returns what a name in a directory is bound to.
+    pub(crate) fn binding_of(&self, entry: &[u8]) -> Result<Binding, FsError>
+        ensures { IfOk result (λ b. names_of self.now entry.now ≡ Some b) }
+    {
+        self.store.names().get(entry).ok_or(FsError::NotFound)
+    }
+
+    /// Returns the kind of an inode, if it is one.
+    pub fn kind_of(&self, inode: u64) -> Option<Kind> {
+        if self.directories.contains_key(&inode) {
+            Some(Kind::Directory)
+        } else if self.file(inode).is_some() {
+            Some(Kind::File)
+        } else {
+            None
+        }
+    }
+
+    /// Returns a file that isn't gone.
+    pub(crate) fn file(&self, inode: u64) -> Option<&File>
+        ensures { option_copied result ≡ file_of self.now inode }
+    {
+        match self.files.get(&inode) {
+            Some(file) if !file.is_gone => Some(file),
+            _ => None,
+        }
+    }
+}
