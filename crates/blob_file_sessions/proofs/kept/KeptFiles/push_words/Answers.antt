@@ -1,18 +1,30 @@
-use Rattle.std.proofs.Common.{◌≡◌, ap, ◌∙◌, inr, refl, arith}
+use Rattle.std.proofs.Common.{◌≡◌, ap, ◌∙◌, inr, refl, subst, arith}
 use Rattle.blob_fs.specs.Files.{generator_of, table_of, with_generator}
+use Rattle.blob_fs.specs.Open.{AllOpen}
+use Rattle.blob_journal.specs.Found.{IsKept}
 use Rattle.blob_fs.specs.declared.file_system.FileSystem.{FileSystem}
 use Rattle.blob_lab_model.specs.Scripted.{Left}
 use Rattle.blob_file_sessions.specs.declared.kept.KeptFiles.{KeptFiles}
 use Rattle.blob_file_sessions.proofs.kept.KeptFiles.push_words.Goals as goal
 
--- that nothing settled is lost has no second proof, so that only the generator counts
+-- Two file systems that differ only in the proofs of their invariants are the same.
+alike : (x : FileSystem Left) (k k' : ∥ IsKept x.store.store x.store.journal x.store.unsettled.items ∥₁) (o : ∥ AllOpen (record (x.store) { kept = k }) x.files ∥₁) (o' : ∥ AllOpen (record (x.store) { kept = k' }) x.files ∥₁)
+    → ◌≡◌ {A = FileSystem Left} (record x { store = record (x.store) { kept = k }; opened = o }) (record x { store = record (x.store) { kept = k' }; opened = o' })
+alike x k k' o o' =
+    subst (λ kk. (oo : ∥ AllOpen (record (x.store) { kept = kk }) x.files ∥₁)
+        → ◌≡◌ {A = FileSystem Left} (record x { store = record (x.store) { kept = k }; opened = o }) (record x { store = record (x.store) { kept = kk }; opened = oo }))
+    (squash₁ k k') (λ oo. ap (λ p. record x { store = record (x.store) { kept = k }; opened = p }) (squash₁ o oo)) o'
+
 twice : (f : FileSystem Left) (a b : Left) → with_generator (with_generator f a) b ≡ with_generator f b
 twice f a b =
     let x : FileSystem Left = with_generator f b in
-    ap (λ k. record x { store = record (x.store) { kept = k } }) (squash₁ (with_generator (with_generator f a) b).store.kept x.store.kept)
+    let y : FileSystem Left = with_generator (with_generator f a) b in
+    alike x y.store.kept x.store.kept y.opened x.opened
 
 again : (f : FileSystem Left) → with_generator f (generator_of f) ≡ f
-again f = ap (λ k. record f { store = record (f.store) { kept = k } }) (squash₁ (with_generator f (generator_of f)).store.kept f.store.kept)
+again f =
+    let y : FileSystem Left = with_generator f (generator_of f) in
+    alike f y.store.kept f.store.kept y.opened f.opened
 
 pub returns-in-Err : goal.returns-in-Err
 returns-in-Err c =
