@@ -12,7 +12,7 @@ alike : (x : FileSystem Left) (k k' : ∥ IsKept x.store.store x.store.journal x
     → ◌≡◌ {A = FileSystem Left} (record x { store = record (x.store) { kept = k }; opened = o }) (record x { store = record (x.store) { kept = k' }; opened = o' })
 alike x k k' o o' =
     subst (λ kk. (oo : ∥ AllOpen (record (x.store) { kept = kk }) x.files ∥₁)
-        → ◌≡◌ {A = FileSystem Left} (record x { store = record (x.store) { kept = k }; opened = o }) (record x { store = record (x.store) { kept = kk }; opened = oo }))
+    → ◌≡◌ {A = FileSystem Left} (record x { store = record (x.store) { kept = k }; opened = o }) (record x { store = record (x.store) { kept = kk }; opened = oo }))
     (squash₁ k k') (λ oo. ap (λ p. record x { store = record (x.store) { kept = k }; opened = p }) (squash₁ o oo)) o'
 
 twice : (f : FileSystem Left) (a b : Left) → with_generator (with_generator f a) b ≡ with_generator f b
