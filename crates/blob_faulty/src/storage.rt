@@ -5,7 +5,7 @@ ghost use Rattle.blob_faulty.specs.Lends.{LendsConfig, with_config, with_rng};
 ghost use Rattle.blob_faulty.specs.Names.{Steps};
 ghost use Rattle.blob_faulty.specs.New.{IsNew};
 ghost use Rattle.blob_pending.specs.Lists.{list_of};
-ghost use Rattle.blob_faulty.specs.Wrapper.{inner_of, rng_of, config_of, pending_of};
+ghost use Rattle.blob_faulty.specs.Wrapper.{inner_of, rng_of, config_of, next_write_of, pending_of};
 
 use blob_base::Durable;
 use blob_draws::config::Config;
@@ -80,6 +80,13 @@ impl<S: Durable, R> Storage<S, R> {
         ensures { list_of S.place result.now ≡ pending_of S.place self.now }
     {
         self.lists.as_slice()
+    }
+
+    /// Returns the number of the next write that is recorded. Each one since then has this number or a greater one.
+    pub fn next_write(&self) -> u64
+        ensures { result ≡ next_write_of self.now }
+    {
+        self.next_write
     }
 
     /// Returns the fault rates, which may be changed at any time. A pending entry keeps the mode and rate of its issue.
