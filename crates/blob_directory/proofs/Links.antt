@@ -1,5 +1,5 @@
 -- The files that a tree counts.
-use Rattle.std.proofs.Common.{◌≡◌, ℕ, List, Bool, true, false, ◌&&◌, ◌||◌, not, Option, Some, nat_eq, refl, sym, ap, ap₂, ◌∙◌, ⊎_elim, if◌then◌else◌}
+use Rattle.std.proofs.Common.{◌≡◌, ℕ, List, Bool, true, false, ◌&&◌, not, Some, nat_eq, refl, sym, ap, ap₂, ◌∙◌, ⊎_elim, if◌then◌else◌}
 use Rattle.std.specs.Str.{bytes_eq}
 use Rattle.std.proofs.lemmas.Bool.{and_parts, eq-eqb, eqb-true, false≢true, or_cases, or_left, or_right}
 use Rattle.blob_directory.specs.declared.edit.Binding.{Binding}

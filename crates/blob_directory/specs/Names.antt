@@ -46,6 +46,10 @@ binds directory name to = (entry directory name, Some to) ∷ []
 abbrev pub frees : ℕ → List ℕ → Edit
 frees directory name = (entry directory name, None) ∷ []
 
+-- the edit of a truncation: it frees the entry of the file's number with an empty name, which no call binds
+abbrev pub resizes : ℕ → Edit
+resizes inode = frees inode []
+
 -- a move frees one entry and binds the other
 abbrev pub moves : List ℕ → List ℕ → Binding → Edit
 moves from to moved = (from, None) ∷ (to, Some moved) ∷ []

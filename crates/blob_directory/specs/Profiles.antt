@@ -32,6 +32,16 @@ kept_edits keeps lost (None ∷ found) = kept_edits keeps (lost || is_prefix kee
 kept_edits keeps lost (Some (edit, settled) ∷ found) =
     if settled || not lost then edit ∷ kept_edits keeps lost found else kept_edits keeps lost found
 
+-- of each sector, whether its edit counts
+abbrev pub all_counts : Keeps → Bool → List Found → List Bool
+all_counts keeps lost [] = []
+all_counts keeps lost (None ∷ found) = false ∷ all_counts keeps (lost || is_prefix keeps) found
+all_counts keeps lost (Some (edit, settled) ∷ found) = (settled || not lost) ∷ all_counts keeps lost found
+
+-- the same of the sectors of a journal
+abbrev pub counts_in : Keeps → List ℕ → List Bool
+counts_in keeps journal = all_counts keeps false (found_in_all (length journal / 1024) journal)
+
 -- the edits of a journal that count
 abbrev pub edits_of : Keeps → List ℕ → List Edit
 edits_of keeps journal = kept_edits keeps false (found_in_all (length journal / 1024) journal)

@@ -94,9 +94,9 @@ FitsSector (c ∷ []) = Fits c × (length (edit_bytes (c ∷ [])) ≤ 1023)
 FitsSector (c ∷ d ∷ []) = Fits c × Fits d × (length (edit_bytes (c ∷ d ∷ [])) ≤ 1023)
 FitsSector (c ∷ d ∷ _ ∷ _) = ⊥
 
--- a change of a name of at most 255 bytes
+-- a change of a name of at most 255 bytes; it may be empty
 abbrev pub IsOfName : Change → Type 0
-IsOfName c = (8 < length c.0) × (length c.0 ≤ 263) × (inode_told c.1 < 2 ^ 64)
+IsOfName c = (8 ≤ length c.0) × (length c.0 ≤ 263) × (inode_told c.1 < 2 ^ 64)
 
 -- edits of such names fit
 pub record NamesFit : Type 0 where

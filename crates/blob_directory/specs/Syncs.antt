@@ -16,9 +16,13 @@ is_number (Some m) n = nat_eq m n
 abbrev pub is_of : ℕ → About → Bool
 is_of inode about = nat_eq about.inode inode || is_number about.other inode
 
--- an edit of a name in this directory
+-- an edit of a name in this directory; a truncation is in the file's own number
 abbrev pub is_in : ℕ → About → Bool
 is_in directory about = nat_eq about.directory directory || is_number about.other_directory directory
+
+-- what a truncation of this file is about
+abbrev pub of_truncation : ℕ → About
+of_truncation inode = record { inode = inode; other = None; directory = inode; other_directory = None }
 
 -- one or the other
 abbrev pub touches : ℕ → About → Bool
@@ -53,9 +57,9 @@ pub record IsUpToLast (edits : List Unsettled) (number : ℕ) (edit : Unsettled)
   pub last : HasEdit edits number
   pub up_to : edit.number ≤ last.edit.number
 
--- a sync of a file or of a directory settles this edit
+-- A sync of a file or of a directory settles this edit. The edits in a file's own number are its truncations.
 abbrev pub SyncSettles : Settles → Synced → List Unsettled → Unsettled → Type 0
-SyncSettles Own (File inode grown changed) edits edit = ⊥
+SyncSettles Own (File inode grown changed) edits edit = is_in inode edit.about ≡ true
 SyncSettles Own (Directory d) edits edit = is_in d edit.about ≡ true
 SyncSettles Names (File inode grown changed) edits edit = IsUpward edits inode edit
 SyncSettles Names (Directory d) edits edit = IsUpward edits d edit ⊎ (is_in d edit.about ≡ true)

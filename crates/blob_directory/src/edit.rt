@@ -1,6 +1,6 @@
 //! Edits of names.
 ghost use Rattle.std.specs.Prelude.{◌≡◌, [], ◌∷◌, IfOk};
-ghost use Rattle.blob_directory.specs.Names.{change_of, edit_of, entry, exchanges, moves};
+ghost use Rattle.blob_directory.specs.Names.{change_of, edit_of, entry, exchanges, moves, resizes};
 
 use std::alloc::{AllocError, Global};
 
@@ -84,6 +84,15 @@ impl Edit {
         };
         Edit::two(first, second)
     }
+}
+
+/// Returns the edit of a truncation of a file. It changes no name: it frees the entry of the file's number with an empty
+/// name. Fails only if memory runs out.
+pub fn truncation_of(alloc: Global, inode: u64) -> Result<Edit, AllocError>
+    ensures { IfOk result (λ edit. edit_of edit ≡ resizes inode) }
+{
+    let entry = entry_of(alloc, inode, &[])?;
+    Ok(Edit::one(entry, None))
 }
 
 /// Returns the entry of a name in a directory. Fails only if memory runs out.

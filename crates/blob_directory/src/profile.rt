@@ -12,7 +12,7 @@ pub enum Keeps {
 /// Which edits a sync of a file or of a directory settles.
 #[derive(Clone, Copy, Debug, PartialEq, Eq)]
 pub enum Settles {
-    /// None for a file. For a directory, those in it.
+    /// For a file, its truncations: the edits in its own number. For a directory, those in it.
     Own,
     /// Those of a file's names and, upward, of the new directories that have them. For a directory also those in it.
     Names,

@@ -2,7 +2,7 @@
 ghost use Rattle.std.specs.Prelude.{◌≡◌, ◌&&◌, ◌||◌, ℕ, false, nat_eq, not, None, IfOk, OnOk};
 ghost use Rattle.blob_directory.specs.Checkpoints.{FitSectors};
 ghost use Rattle.blob_directory.specs.Names.{Names, Same, entry};
-ghost use Rattle.blob_directory.specs.Profiles.{counts, is_prefix, names_told, with_found};
+ghost use Rattle.blob_directory.specs.Profiles.{counts, counts_in, is_prefix, names_told, with_found};
 ghost use Rattle.blob_directory.specs.Sectors.{found_in};
 ghost use Rattle.blob_directory.specs.Tables.{bound};
 ghost use Rattle.blob_directory.specs.Trees.{Finds, HasLinks, HasNamedLinks, HasPlaces, added, has_directory, has_then, is_directory, links_then, has_link};
@@ -102,6 +102,7 @@ pub fn kept_names(
     keeps: Keeps,
 ) -> Result<(Table, Vec<bool>), AllocError>
     ensures names { IfOk result (λ r. Same (bound r.0) (names_told keeps bytes.now)) }
+    ensures kept { IfOk result (λ r. r.1.items ≡ counts_in keeps bytes.now) }
     ensures sectors { IfOk result (λ r. FitSectors (bound r.0)) }
 {
     let mut names = Table::new(alloc);

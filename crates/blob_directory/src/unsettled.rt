@@ -1,6 +1,6 @@
 //! The edits that a crash may lose, and which of them a sync settles.
 ghost use Rattle.std.specs.Prelude.{◌≡◌, OnErr, OnOk};
-ghost use Rattle.blob_directory.specs.Syncs.{Marks, is_in, is_number, is_of, touches};
+ghost use Rattle.blob_directory.specs.Syncs.{Marks, is_in, is_number, is_of, of_truncation, touches};
 
 use crate::edit::Edit;
 use crate::profile::Settles;
@@ -20,7 +20,8 @@ pub struct Unsettled {
     pub is_wanted: bool,
 }
 
-/// What an edit is about: one inode or two, and the directories of its names.
+/// What an edit is about: one inode or two, and the directories of its names. A truncation is about its file, in the file's
+/// own number.
 #[derive(Clone, Copy)]
 pub struct About {
     pub inode: u64,
@@ -39,14 +40,26 @@ fn is_number(other: Option<u64>, number: u64) -> bool
 }
 
 impl About {
-    /// Returns whether the edit changes a name of an inode.
+    /// Returns what the edit of a truncation of a file is about.
+    pub fn of_truncation(inode: u64) -> About
+        ensures { result ≡ of_truncation inode }
+    {
+        About {
+            inode,
+            other: None,
+            directory: inode,
+            other_directory: None,
+        }
+    }
+
+    /// Returns whether the edit changes a name of an inode, or truncates it.
     pub(crate) fn is_of(&self, inode: u64) -> bool
         ensures { result ≡ is_of inode self.now }
     {
         self.inode == inode || is_number(self.other, inode)
     }
 
-    /// Returns whether the edit changes a name in a directory.
+    /// Returns whether the edit changes a name in a directory, or truncates the file of this number.
     pub(crate) fn is_in(&self, directory: u64) -> bool
         ensures { result ≡ is_in directory self.now }
     {

@@ -14,7 +14,7 @@ use std::alloc::{AllocError, Global};
 pub(crate) enum Wanted {
     None,
     All,
-    /// Those in a directory.
+    /// Those in a directory, or in a file's own number.
     In(u64),
     /// Those of names of these inodes.
     Of(Vec<u64>),
@@ -148,7 +148,7 @@ pub(crate) fn choose(
     ensures { IfOk result (λ wanted. Wants settles synced edits.now (wants wanted)) }
 {
     match (settles, synced) {
-        (Settles::Own, Synced::File { .. }) => Ok(Wanted::None),
+        (Settles::Own, Synced::File { inode, .. }) => Ok(Wanted::In(inode)),
         (Settles::Own, Synced::Directory(directory)) => Ok(Wanted::In(directory)),
         (Settles::Names, Synced::File { inode, .. }) => {
             let inodes = upward(alloc, edits, inode)?;

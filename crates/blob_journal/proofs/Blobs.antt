@@ -1,24 +1,24 @@
 -- The blobs of names through the calls of a store.
-use Rattle.std.proofs.Common.{◌≡◌, ◌≢◌, ◌&&◌, ◌==◌, ◌<◌, ◌≤◌, ◌^◌, ◌++◌, ℕ, List, [], Bool, true, false, cond, ⊎_elim, ext_get_or, length, take, unwrap_or, Option, Some, None, Result, Ok, Err, refl, sym, ap, ap₂, subst, ◌∙◌, arith, if◌then◌else◌}
+use Rattle.std.proofs.Common.{◌≡◌, ◌≢◌, ◌&&◌, ◌==◌, ◌<◌, ◌^◌, ◌++◌, ℕ, List, [], Bool, true, false, cond, ⊎_elim, ext_get_or, length, take, unwrap_or, Option, Some, None, Result, Ok, Err, refl, sym, ap, ap₂, ◌∙◌, arith, if◌then◌else◌}
 use Rattle.std.specs.Prelude.{OnOk, codes, option_and_then}
-use Rattle.std.specs.Int.{w64, from_be_bytes, to_be_bytes}
+use Rattle.std.specs.Int.{w64, from_be_bytes}
 use Rattle.std.specs.Str.{bytes_eq}
 use Rattle.std.specs.Cmp.Lexicographic.{bytes_decides}
-use Rattle.std.proofs.lemmas.Bool.{and_parts, cases_Bool, cond-false, cond-true, false≢true}
+use Rattle.std.proofs.lemmas.Bool.{cases_Bool, cond-false, cond-true, false≢true}
 use Rattle.std.proofs.lemmas.List.{get_or-take, length-take-le, take_all}
 use Rattle.std.proofs.lemmas.Nat.{from_be_bytes-to_be_bytes_8}
 use Rattle.blob_header.specs.declared.layout.Layout.{Layout}
 use Rattle.blob_header.specs.declared.version.BlobVersion.{BlobVersion}
-use Rattle.blob_header.specs.Header.{data_start, region}
+use Rattle.blob_header.specs.Header.{region}
 use Rattle.blob_header.specs.Parse.{Failure}
 use Rattle.blob_header.specs.declared.error.Error.{Error}
 use Rattle.blob_header.specs.Refusals.{Refusal, error_of}
 use Rattle.blob_header.specs.Versions.{is_in_range}
 use Rattle.blob_model.specs.Bytes.{resize}
-use Rattle.blob_model.specs.Directory.{Directory, File, Incarnation, Raw, current, directory_without, place_in, with_file}
-use Rattle.blob_model.specs.Durable.{Durable, durable_without, is_under, with_at, with_changed}
+use Rattle.blob_model.specs.Directory.{Directory, File, Incarnation, Raw, current, directory_without, place_in}
+use Rattle.blob_model.specs.Durable.{Durable, durable_without, is_under}
 use Rattle.blob_model.specs.Files.{raw_again}
-use Rattle.blob_model.specs.Opening.{Begins, Begun, Continued, Continues, Declines, IsOpened, Opening, opening, opening_raw, place_of}
+use Rattle.blob_model.specs.Opening.{Begun, Continued, Continues, Declines, IsOpened, opening, opening_raw, place_of}
 use Rattle.blob_model.specs.Log.{Choices}
 use Rattle.blob_model.specs.Pending.{Pending}
 use Rattle.blob_model.specs.Places.{Place, same_place}
@@ -28,13 +28,12 @@ use Rattle.blob_memory.specs.Listing.{logical_blob_of, logical_found, raw_only}
 use Rattle.blob_memory.specs.Store.{directory, durable, live, place}
 use Rattle.blob_memory.proofs.Copies.{behind_region}
 use Rattle.blob_faulty.specs.Keeps.{OverMemory}
-use Rattle.blob_faulty.specs.Wrapper.{inner_of, inside, size_of}
+use Rattle.blob_faulty.specs.Wrapper.{inner_of, inside}
 use Rattle.blob_journal.specs.declared.journaled.Journaled.{Journaled}
 use Rattle.blob_journal.specs.declared.store.FileBlob.{FileBlob}
-use Rattle.blob_journal.specs.Blobs.{CurrentStays, DurableIsFound, DurableStays, HasDurable, IsFileOf, ReadsSeen, ResizeShortens, SameTwice, Sees, file_name}
+use Rattle.blob_journal.specs.Blobs.{CurrentStays, DurableIsFound, DurableStays, IsFileOf, ReadsSeen, ResizeShortens, SameTwice, file_name}
 use Rattle.blob_journal.specs.Incarnations.{ChangesOnly, IsIncarnation, KeepsOtherBlobs, KeepsPartition, SameBlob}
 use Rattle.blob_journal.specs.Journals.{store_of}
-use Rattle.blob_journal.proofs.Currents.{current_named}
 
 -- another name
 

@@ -1,12 +1,12 @@
 -- What the writes of a journal record: none fails, and a crash keeps each sector whole or loses it.
-use Rattle.std.proofs.Common.{◌≡◌, ◌⊎◌, inl, inr, ⊎_elim, ℕ, ◌+◌, ◌-◌, ◌*◌, ◌/◌, ◌^◌, ◌<◌, ◌==◌, Bool, true, false, List, [], ◌∷◌, length, Option, Some, None, refl, sym, ◌∙◌, ap, ap₂, subst, arith, option_map}
+use Rattle.std.proofs.Common.{◌≡◌, ◌⊎◌, inl, inr, ⊎_elim, ℕ, ◌+◌, ◌-◌, ◌*◌, ◌^◌, ◌<◌, ◌==◌, Bool, true, false, List, [], ◌∷◌, length, Option, Some, None, refl, sym, ◌∙◌, ap, ap₂, subst, arith, option_map}
 use Rattle.std.specs.Prelude.{nat_lt, if◌then◌else◌}
-use Rattle.std.proofs.lemmas.Bool.{cases_Bool, cond-true}
+use Rattle.std.proofs.lemmas.Bool.{cond-true}
 use Rattle.rand_core.specs.Stream.{Stream}
 use Rattle.blob_header.specs.Refusals.{Refusal, BlobMissing}
 use Rattle.blob_model.specs.declared.mode.PartialWriteMode.{PartialWriteMode}
 use Rattle.blob_model.specs.declared.mode.PartialWriteMode.TheVariants.{Sectors}
-use Rattle.blob_model.specs.Bytes.{overlay_by, write_live}
+use Rattle.blob_model.specs.Bytes.{overlay_by}
 use Rattle.blob_model.specs.Log.{Choices, Entry, Loose, Write, durable_after, replay_log}
 use Rattle.blob_model.specs.Rates.{Rate, sample}
 use Rattle.blob_model.proofs.Bytes.{none_chosen}

@@ -1,5 +1,5 @@
 -- Open files, and the bytes of them that no crash changes, through the calls of a store.
-use Rattle.std.proofs.Common.{◌≡◌, ◌≢◌, ◌&&◌, ◌<◌, ◌≤◌, ◌^◌, ◌⊎◌, ◌+◌, ◌-◌, ⊎_elim, inl, inr, min, ℕ, List, Bool, true, false, length, get_or, take, Option, Some, None, is_some, refl, sym, ap, ap₂, subst, ◌∙◌, arith}
+use Rattle.std.proofs.Common.{◌≡◌, ◌&&◌, ◌<◌, ◌≤◌, ◌^◌, ◌⊎◌, ◌+◌, ◌-◌, ⊎_elim, inl, inr, min, ℕ, List, Bool, true, false, length, get_or, take, Option, Some, None, is_some, refl, sym, ap, ap₂, subst, ◌∙◌, arith}
 use Rattle.std.proofs.Math.Logic.{∥∥₁_elim, ∥∥₁_map}
 use Rattle.std.specs.Coded.{Coded-set, coded_bool}
 use Rattle.std.specs.Prelude.{codes, nat_eq, nat_lt, option_and_then, option_map}
@@ -25,9 +25,9 @@ use Rattle.blob_faulty.specs.Leaves.{Test}
 use Rattle.blob_faulty.specs.Wrapper.{inner_of, inside, size_of}
 use Rattle.blob_journal.specs.declared.journaled.Journaled.{Journaled}
 use Rattle.blob_journal.specs.declared.store.FileBlob.{FileBlob}
-use Rattle.blob_journal.specs.Blobs.{DurableIsOpen, IsCurrent, IsOpen, OpenIsFound, OpenIsSeen, bytes_of, current_file, file_name}
+use Rattle.blob_journal.specs.Blobs.{DurableIsOpen, IsCurrent, IsOpen, OpenIsFound, OpenIsSeen, bytes_of, file_name}
 use Rattle.blob_journal.specs.Currents.{FindsNoMore, FindsNoMoreBeside, FindsNoMoreBut, FindsOnly, IsGiven, Represents}
-use Rattle.blob_journal.specs.Fixed.{ChangesOpen, FixedIsFound, FixesOpen, IsBeside, KeepsHandles, KeepsOpen, KeepsOpenBut, ReopensFile, has_byte}
+use Rattle.blob_journal.specs.Fixed.{ChangesOpen, FixedIsFound, FixesOpen, HasFixed, IsBeside, KeepsHandles, KeepsOpen, KeepsOpenBut, ReopensFile, has_byte}
 use Rattle.blob_journal.specs.Incarnations.{IsIncarnation, KeepsIncarnations, KeepsOtherBlobs, SameBlob}
 use Rattle.blob_journal.specs.Journals.{store_of}
 use Rattle.blob_journal.proofs.Blobs.{file_beside, file_names_apart, named_apart}
@@ -116,6 +116,24 @@ pub keeps_open : {R : Type 0} (j j' : Journaled R) → ((n : List ℕ) (o : Plac
 keeps_open j j' names finds = record {
   still = λ inode file is. is_open j' inode file (names (file_name inode) (place (inside file.blob)) is.is.current) is.tracked;
   fixed = λ file at byte h. record { seen = h.seen; found = ∥∥₁_map h.found (λ k. finds (place (inside file.blob)) (has_byte at byte) file.partition k) };
+}
+
+-- what is open, by the store alone
+open_over : {R : Type 0} (j j' : Journaled R) (inode : ℕ) (file : FileBlob) → store_of j' ≡ store_of j → IsOpen j inode file → IsOpen j' inode file
+open_over {R} j j' inode file same is = is_open j' inode file
+    (subst (λ (s : OverMemory R). IsIncarnation s (codes "f") (file_name inode) (place (inside file.blob))) (sym same) is.is.current) is.tracked
+
+fixed_over : {R : Type 0} (j j' : Journaled R) (file : FileBlob) (at byte : ℕ) → store_of j' ≡ store_of j → HasFixed j file at byte → HasFixed j' file at byte
+fixed_over {R} j j' file at byte same h = record {
+  seen = h.seen;
+  found = ∥∥₁_map h.found (λ k. subst (λ (s : OverMemory R). FindsOnly s (place (inside file.blob)) (has_byte at byte)) (sym same) k);
+}
+
+-- a call, and others before it and after it that leave the store as it is
+pub keeps_between : {R : Type 0} (a b c d : Journaled R) → store_of b ≡ store_of a → store_of d ≡ store_of c → KeepsOpen b c → KeepsOpen a d
+keeps_between a b c d before after keeps = record {
+  still = λ inode file is. open_over c d inode file after (keeps.still inode file (open_over a b inode file before is));
+  fixed = λ file at byte h. fixed_over c d file at byte after (keeps.fixed file at byte (fixed_over a b file at byte before h));
 }
 
 pub same_open : {R : Type 0} (j : Journaled R) → KeepsOpen j j

@@ -8,7 +8,7 @@ use Rattle.std.proofs.lemmas.Bool.{cases_Bool, cond-false}
 use Rattle.blob_model.specs.Bytes.{overlay, write_live}
 use Rattle.blob_model.specs.Directory.{Directory, current, directory_without, is_current}
 use Rattle.blob_model.specs.Durable.{Durable, is_under}
-use Rattle.blob_model.specs.Files.{Files, after_remove, crashed_at, durable_at, log_of}
+use Rattle.blob_model.specs.Files.{after_remove, log_of}
 use Rattle.blob_model.specs.Log.{Choices, Entry, durable_after, replay_log}
 use Rattle.blob_model.specs.Opening.{Begun, Begins, Continued, Continues, IsOpened, opening}
 use Rattle.blob_model.specs.Pending.{Pending}

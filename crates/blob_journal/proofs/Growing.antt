@@ -1,24 +1,23 @@
 -- What calls make of the edits that a journal was told.
-use Rattle.std.proofs.Common.{◌≡◌, ⊎_elim, ℕ, zero, suc, ◌+◌, ◌*◌, ◌<◌, ◌≤◌, Bool, true, false, ◌&&◌, ◌||◌, List, [], ◌∷◌, ◌++◌, Some, None, length, get_or, drop, take, refl, sym, ◌∙◌, ap, ap₂, subst, arith, ◌-◌}
+use Rattle.std.proofs.Common.{◌≡◌, ⊎_elim, ℕ, zero, suc, ◌+◌, ◌*◌, ◌<◌, ◌≤◌, Bool, true, false, ◌&&◌, ◌||◌, List, [], ◌∷◌, ◌++◌, Some, None, length, get_or, drop, take, refl, sym, ◌∙◌, ap, ap₂, arith, ◌-◌}
 use Rattle.std.specs.Prelude.{nat_eq, replicate, if◌then◌else◌}
 use Rattle.std.specs.List.{list_any}
 use Rattle.std.specs.Coded.{Coded, Coded-set, Unit-prop, ×_prop, →_prop, coded×, coded_bool, coded_list, coded_option, coded_ℕ}
 use Rattle.std.proofs.lemmas.Bool.{cases_Bool, cases_eq, false≢true}
 use Rattle.std.proofs.lemmas.Bool.Decides.{nat_tests}
 use Rattle.std.proofs.lemmas.List.{length-drop, take_more}
-use Rattle.blob_model.specs.Bytes.{overlay, write_live}
+use Rattle.blob_model.specs.Bytes.{write_live}
 use Rattle.blob_directory.specs.declared.unsettled.Unsettled.{Unsettled}
 use Rattle.blob_directory.specs.contracts.edit.Binding as binding
 use Rattle.blob_directory.specs.Names.{Edit, edit_of}
 use Rattle.blob_directory.specs.Profiles.{found_in_all}
-use Rattle.blob_directory.specs.Sectors.{Found, edit_bytes, filled, found_in, has_change, edit_told, sector_of}
+use Rattle.blob_directory.specs.Sectors.{Found, edit_bytes, found_in, has_change, edit_told, sector_of}
 use Rattle.blob_directory.proofs.Checkpoints.{sector_long}
 use Rattle.blob_journal.specs.declared.journal.Journal.{Journal}
 use Rattle.blob_journal.specs.Keeping.{bytes_in, told_by}
 use Rattle.blob_journal.specs.Sectors.{HasEdit, sector_at}
 use Rattle.blob_journal.specs.Told.{Grows, edit_in, is_marked_in, settle_one, settled_in, was_settled}
 use Rattle.blob_journal.proofs.Listed.{live_other, live_written}
-use Rattle.blob_journal.proofs.Sectors.{is_sector, live_overlay}
 use Rattle.blob_journal.proofs.Told.{first_sector, next_sector}
 
 -- what the sectors from one on have

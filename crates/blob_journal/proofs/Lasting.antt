@@ -1,13 +1,11 @@
 -- A settled edit that no later one touches, through calls and crashes.
-use Rattle.std.proofs.Common.{◌≡◌, ℕ, suc, Bool, true, false, ◌||◌, List, [], ◌∷◌, ◌++◌, Some, None, length, drop, refl, sym, ap, ap₂, subst, ◌∙◌}
+use Rattle.std.proofs.Common.{◌≡◌, ℕ, suc, Bool, true, false, ◌||◌, List, [], ◌∷◌, ◌++◌, Some, None, length, drop, refl, ap, subst, ◌∙◌}
 use Rattle.std.specs.Prelude.{if◌then◌else◌}
-use Rattle.blob_directory.specs.declared.profile.Keeps.{Keeps}
-use Rattle.blob_directory.specs.Names.{Edit, Names, all_edited, edited}
-use Rattle.blob_directory.specs.Profiles.{kept_edits}
+use Rattle.blob_directory.specs.Names.{Edit}
 use Rattle.blob_directory.specs.Sectors.{Found}
 use Rattle.blob_directory.specs.Settled.{AreSettled, IsBeside, changes_entry}
 use Rattle.blob_directory.proofs.Settled.{settled_counts}
-use Rattle.blob_journal.specs.Told.{Grows, IsLastTold, SettledIsKept, SettledStays, Stays, after_loss, edit_in, names_kept, was_settled}
+use Rattle.blob_journal.specs.Told.{Grows, SettledIsKept, SettledStays, Stays, after_loss, edit_in, was_settled}
 
 -- what is lost, in two parts
 loss_parts : (chosen : ℕ → Bool) (n : ℕ) (before rest : List Found) → (m : ℕ) × (after_loss chosen n (before ++ rest) ≡ after_loss chosen n before ++ after_loss chosen m rest)

@@ -1,8 +1,9 @@
 -- Edits in sectors of their own.
-use Rattle.std.proofs.Common.{◌≡◌, ℕ, zero, suc, ◌+◌, ◌*◌, ◌<◌, ◌≤◌, Bool, true, false, List, [], ◌∷◌, ◌++◌, length, get_or, map, refl, sym, ◌∙◌, ap, subst, arith}
-use Rattle.std.specs.Prelude.{filter, not, cond}
+use Rattle.std.proofs.Common.{◌≡◌, ℕ, zero, suc, ◌+◌, ◌-◌, ◌*◌, ◌<◌, ◌≤◌, Bool, true, false, List, [], ◌∷◌, ◌++◌, length, get_or, map, None, Some, refl, sym, ◌∙◌, ap, ap₂, subst, arith}
+use Rattle.std.specs.Prelude.{filter, slice_get}
 use Rattle.std.proofs.lemmas.Bool.{cond_both}
-use Rattle.blob_model.specs.Bytes.{overlay, write_live}
+use Rattle.std.proofs.lemmas.List.{length_push}
+use Rattle.blob_model.specs.Bytes.{write_live}
 use Rattle.blob_directory.specs.declared.unsettled.Unsettled.{Unsettled}
 use Rattle.blob_directory.specs.Names.{Edit, edit_of}
 use Rattle.blob_directory.specs.Sectors.{sector_of}
@@ -104,3 +105,21 @@ in_settled from n w (e ∷ edits) (suc k) item low is long h =
 pub unset : (edit : Edit) → is_settled (sector_of edit false) ≡ false
 unfolding sector_of
 unset edit = refl
+
+-- The last of some edits.
+
+at_end : (xs : List Unsettled) (x : Unsettled) → slice_get (xs ++ x ∷ []) (length xs) ≡ Some x
+at_end [] x = refl
+at_end (y ∷ xs) x = at_end xs x
+
+last_here : (l xs : List Unsettled) (x : Unsettled) → l ≡ xs ++ x ∷ [] → slice_get l (length l - 1) ≡ Some x
+last_here l xs x is =
+    let long : length l ≡ length xs + 1 = ap length is ∙ length_push xs x in
+    let at : length l - 1 ≡ length xs = omega (arith, long) in
+    ap₂ (λ (k : List Unsettled) (n : ℕ). slice_get k n) is at ∙ at_end xs x
+
+pub last_is : (l xs : List Unsettled) (x y : Unsettled) → l ≡ xs ++ x ∷ [] → Some y ≡ slice_get l (length l - 1) → y ≡ x
+last_is l xs x y is at = let same : Some y ≡ Some x = at ∙ last_here l xs x is in cc
+
+pub has_last : (l xs : List Unsettled) (x : Unsettled) → l ≡ xs ++ x ∷ [] → None ≡ slice_get l (length l - 1) → ⊥
+has_last l xs x is at = let none : None ≡ Some x = at ∙ last_here l xs x is in cc

@@ -1,7 +1,7 @@
 -- The blobs of files: their bytes, and what calls leave of them.
 use Rattle.std.specs.Prelude.{◌≡◌, ◌≢◌, ◌<◌, ◌≤◌, ◌^◌, ℕ, List, length, take, codes, Option, Some, option_and_then}
 use Rattle.std.specs.Int.{w64, to_be_bytes}
-use Rattle.blob_model.specs.Bytes.{resize}
+use Rattle.blob_model.specs.Bytes.{resize, write_live}
 use Rattle.blob_model.specs.Directory.{current}
 use Rattle.blob_model.specs.Draws.{chosen_by}
 use Rattle.blob_model.specs.Stands.{replayed_at}
@@ -82,6 +82,11 @@ pub record OpensFile {R : Type 0} (j : Journaled R) (inode : ℕ) (j' : Journale
 abbrev pub ResizesFile : {R : Type 0} → ℕ → Journaled R → FileBlob → Journaled R → FileBlob → Type 0
 ResizesFile {R} length j file j' file' = (inode : ℕ) (bytes : List ℕ) → IsFileOf j inode file bytes
     → IsFileOf j' inode file' bytes × ((seen : List ℕ) → Sees file seen → Sees file' (resize seen length))
+
+-- bytes were written to a file at an offset, not durably
+abbrev pub WritesFile : {R : Type 0} → ℕ → List ℕ → Journaled R → FileBlob → Journaled R → FileBlob → Type 0
+WritesFile {R} offset bytes j file j' file' = (inode : ℕ) (durable : List ℕ) → IsFileOf j inode file durable
+    → IsFileOf j' inode file' durable × ((seen : List ℕ) → Sees file seen → Sees file' (write_live seen offset bytes))
 
 -- what calls see of a file is durable
 abbrev pub SyncsFile : {R : Type 0} → Journaled R → FileBlob → Journaled R → FileBlob → Type 0

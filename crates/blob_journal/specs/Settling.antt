@@ -1,27 +1,63 @@
 -- The sectors that a sync settles.
-use Rattle.std.specs.Prelude.{◌≡◌, ℕ, ◌*◌, Bool, true, List, if◌then◌else◌, map, option_map}
+use Rattle.std.specs.Prelude.{◌≡◌, ℕ, ◌*◌, ◌++◌, Bool, true, false, List, [], ◌∷◌, get_or, if◌then◌else◌, map, option_map}
 use Rattle.std.specs.List.{fold}
 use Rattle.blob_model.specs.Bytes.{overlay}
 use Rattle.blob_model.specs.Directory.{is_current}
 use Rattle.blob_model.specs.Places.{Place}
+use Rattle.blob_draws.specs.declared.selections.Selections.{Selections}
 use Rattle.blob_memory.specs.Store.{directory, durable, place}
 use Rattle.blob_faulty.specs.Keeps.{OverMemory}
 use Rattle.blob_faulty.specs.Wrapper.{inner_of, inside}
+use Rattle.blob_directory.specs.declared.profile.Keeps.{Keeps}
 use Rattle.blob_directory.specs.declared.profile.Settles.{Settles}
+use Rattle.blob_directory.specs.declared.unsettled.About.{About}
 use Rattle.blob_directory.specs.declared.unsettled.Synced.{Synced}
 use Rattle.blob_directory.specs.declared.unsettled.Unsettled.{Unsettled}
 use Rattle.blob_directory.specs.Names.{Edit, edit_of}
+use Rattle.blob_directory.specs.Profiles.{counts_in}
 use Rattle.blob_directory.specs.Sectors.{sector_of}
 use Rattle.blob_directory.specs.Syncs.{Wants, marked}
 use Rattle.blob_journal.specs.declared.journaled.Journaled.{Journaled}
 use Rattle.blob_journal.specs.Currents.{KeepsFiles, LeftAs, Represents, pending_at}
-use Rattle.blob_journal.specs.Journals.{store_of}
+use Rattle.blob_journal.specs.Journals.{IsJournal, IsJournalAfter, generation_of, store_of}
 use Rattle.blob_journal.specs.Keeping.{KeepsTold, told_in}
 use Rattle.blob_journal.specs.Told.{is_marked_in, settled_in}
 
 -- the edits that nothing settled
 abbrev pub unsettled_of : {R : Type 0} → Journaled R → List Unsettled
 unsettled_of j = j.unsettled.items
+
+-- the same edits are unsettled
+abbrev pub KeepsUnsettled : {R : Type 0} → Journaled R → Journaled R → Type 0
+KeepsUnsettled j j' = unsettled_of j' ≡ unsettled_of j
+
+-- One more edit is unsettled, the last one: it is this edit, is about this, and has this number.
+pub record AddsUnsettled {R : Type 0} (e : Edit) (a : About) (n : ℕ) (j j' : Journaled R) : Type 0 where
+  pub last : Unsettled
+  pub is : unsettled_of j' ≡ unsettled_of j ++ last ∷ []
+  pub edit : edit_of last.edit ≡ e
+  pub about : last.about ≡ a
+  pub number : last.number ≡ n
+
+-- by the sectors that count, of each of these edits whether its sector does
+abbrev pub counted : List Bool → List Unsettled → List Bool
+counted counts edits = map (λ e. get_or counts e.sector false) edits
+
+-- the journal is found with these bytes, and this is of each edit that nothing settled whether its sector counts
+pub record FindsEdits {R : Type 0} (j : Journaled R) (keeps : Keeps) (edits : List Bool) : Type 0 where
+  pub journal : List ℕ
+  pub is : IsJournal (store_of j) (generation_of j) journal
+  pub found : edits ≡ counted (counts_in keeps journal) (unsettled_of j)
+
+-- the same after a crash that kept these rows: the journal has those of its pending sectors that the crash kept
+pub record FindsKeptEdits {R : Type 0} (j : Journaled R) (kept : Selections) (keeps : Keeps) (edits : List Bool) : Type 0 where
+  pub journal : List ℕ
+  pub is : IsJournalAfter (store_of j) (generation_of j) kept journal
+  pub found : edits ≡ counted (counts_in keeps journal) (unsettled_of j)
+
+-- whatever edits are found after a crash that kept these rows, the journal before it has them
+abbrev pub CrashKeepsEdits : {R : Type 0} → Journaled R → Selections → Journaled R → Type 0
+CrashKeepsEdits j kept j' = (keeps : Keeps) (edits : List Bool) → FindsEdits j' keeps edits → FindsKeptEdits j kept keeps edits
 
 -- the incarnation of the journal's blob
 abbrev pub place_of : {R : Type 0} → Journaled R → Place

@@ -13,6 +13,7 @@ impl<R: Rng + Drop> Journaled<R> {
     ghost use Rattle.blob_journal.specs.Fixed.{KeepsOpen};
     ghost use Rattle.blob_journal.specs.Journals.{CrashKeeps, GivesNames, store_of};
     ghost use Rattle.blob_journal.specs.Keeping.{KeepsTable, KeepsTold};
+    ghost use Rattle.blob_journal.specs.Settling.{CrashKeepsEdits, KeepsUnsettled};
 
     /// Crashes the store. The draws decide which unsynced bytes and which unsettled edits are kept. Handles keep their live
     /// bytes, and calls see the same names, until a recovery.
@@ -27,6 +28,8 @@ impl<R: Rng + Drop> Journaled<R> {
         ensures names { KeepsTable self.old self.new }
         ensures told { KeepsTold self.old self.new }
         ensures bytes { IfOk result (λ rows. (i : ℕ) → current_file self.new i ≡ crashed_file self.old rows i) }
+        ensures edits { IfOk result (λ rows. CrashKeepsEdits self.old rows self.new) }
+        ensures unsettled { KeepsUnsettled self.old self.new }
         ensures still { KeepsOpen self.old self.new }
     {
         leaves::crashed::<R>();

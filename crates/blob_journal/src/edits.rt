@@ -1,8 +1,9 @@
 //! Edits of the names, each in the journal, and the syncs that settle them.
 ghost use Rattle.std.specs.Prelude.{◌≡◌, None, [], IfOk, OnOk, OnErr};
 ghost use Rattle.blob_memory.specs.Store.{place};
-ghost use Rattle.blob_faulty.specs.Wrapper.{inside};
-ghost use Rattle.blob_directory.specs.Names.{Same, edit_of};
+ghost use Rattle.blob_faulty.specs.Wrapper.{inside, next_write_of};
+ghost use Rattle.blob_directory.specs.Names.{Same, edit_of, resizes};
+ghost use Rattle.blob_directory.specs.Syncs.{of_truncation};
 ghost use Rattle.blob_journal.specs.Currents.{FindsNoMoreBut, SameDirectory};
 ghost use Rattle.blob_journal.specs.Found.{IsKept};
 ghost use Rattle.blob_journal.specs.Keeping.{told_by};
@@ -13,7 +14,7 @@ use crate::journal::Journal;
 use crate::journaled::Journaled;
 use crate::store::Store;
 use blob_base::{Error, Probability};
-use blob_directory::edit::Edit;
+use blob_directory::edit::{Edit, truncation_of};
 use blob_directory::profile::Settles;
 use blob_directory::table::Table;
 use blob_directory::unsettled::{About, Synced, Unsettled, want};
@@ -48,7 +49,8 @@ fn settle_marked<R: Rng>(
 
 impl<R: Rng + Drop> Journaled<R> {
     ghost use Rattle.blob_journal.specs.Fixed.{KeepsOpen};
-    ghost use Rattle.blob_journal.specs.Settling.{KeepsJournal, SettlesEdits, unsettled_of};
+    ghost use Rattle.blob_journal.specs.Settling.{AddsUnsettled, KeepsJournal, KeepsUnsettled, SettlesEdits, unsettled_of};
+    ghost use Rattle.blob_journal.specs.Journals.{store_of};
     ghost use Rattle.blob_journal.specs.Writes.{SameCrashes};
     ghost use Rattle.blob_journal.specs.Keeping.{AddsSector, AddsTold, Edits, KeepsTable, KeepsTold, SameBindings, SettlesSome, generator_in, names_in, table_in, told_in, with_generator};
 
@@ -132,6 +134,42 @@ impl<R: Rng + Drop> Journaled<R> {
         self.next_edit
     }
 
+    /// Returns the number of the next write that the store records, of a file or of an edit. Each one since then has this
+    /// number or a greater one.
+    pub fn next_write(&self) -> u64
+        ensures { result ≡ next_write_of (store_of self.now) }
+    {
+        self.store.next_write()
+    }
+
+    /// Adds an edit to the journal, unsynced, in a sector of its own, and to those that nothing settled. Changes no name.
+    /// Returns the edit's number. The errors are those of `make`.
+    fn add_edit(&mut self, edit: Edit, about: About, rate: Probability) -> Result<u64, Error>
+        ensures noted { IfOk result (λ number. AddsUnsettled (edit_of edit) about number self.old self.new) }
+        ensures refused { OnErr result (KeepsUnsettled self.old self.new) }
+        ensures names { KeepsTable self.old self.new }
+        ensures sector { OnOk result (AddsSector (edit_of edit) self.old self.new) }
+        ensures told { OnOk result (AddsTold (edit_of edit) self.old self.new) }
+        ensures untold { OnErr result (KeepsTold self.old self.new) }
+        ensures still { KeepsOpen self.old self.new }
+    {
+        self.unsettled.reserve(1)?;
+        let number = self.next_edit;
+        let Some(next) = number.checked_add(1) else {
+            return Err(Error::OffsetOverflow);
+        };
+        let sector = self.journal.add(self.alloc, &mut self.store, &edit, rate)?;
+        self.next_edit = next;
+        self.unsettled.push_reserved(Unsettled {
+            edit,
+            sector,
+            number,
+            about,
+            is_wanted: false,
+        });
+        Ok(number)
+    }
+
     /// Makes an edit: it is in the journal, unsynced, in a sector of its own that a crash keeps whole, by this rate, or loses. The
     /// names are changed. Draws nothing.
     ///
@@ -147,22 +185,31 @@ impl<R: Rng + Drop> Journaled<R> {
         ensures still { KeepsOpen self.old self.new }
     {
         self.names.prepare(&edit)?;
-        self.unsettled.reserve(1)?;
-        let number = self.next_edit;
-        let Some(next) = number.checked_add(1) else {
-            return Err(Error::OffsetOverflow);
+        self.add_edit(edit, about, rate)?;
+        let Some(added) = self.unsettled.last() else {
+            return Ok(());
         };
-        let sector = self.journal.add(self.alloc, &mut self.store, &edit, rate)?;
-        self.names.apply(&edit);
-        self.next_edit = next;
-        self.unsettled.push_reserved(Unsettled {
-            edit,
-            sector,
-            number,
-            about,
-            is_wanted: false,
-        });
+        self.names.apply(&added.edit);
         Ok(())
+    }
+
+    /// Records the edit of a truncation of a file: it is in the journal, unsynced, in a sector of its own that a crash keeps
+    /// whole, by this rate, or loses. Returns the edit's number. No name changes. Draws nothing.
+    ///
+    /// # Errors
+    ///
+    /// Those of `make`. No edit was recorded.
+    pub fn record_truncation(&mut self, inode: u64, rate: Probability) -> Result<u64, Error>
+        ensures noted { IfOk result (λ n. AddsUnsettled (resizes inode) (of_truncation inode) n self.old self.new) }
+        ensures refused { OnErr result (KeepsUnsettled self.old self.new) }
+        ensures names { KeepsTable self.old self.new }
+        ensures sector { OnOk result (AddsSector (resizes inode) self.old self.new) }
+        ensures told { OnOk result (AddsTold (resizes inode) self.old self.new) }
+        ensures untold { OnErr result (KeepsTold self.old self.new) }
+        ensures still { KeepsOpen self.old self.new }
+    {
+        let edit = truncation_of(self.alloc, inode)?;
+        self.add_edit(edit, About::of_truncation(inode), rate)
     }
 
     /// Settles the edits that a sync settles. Draws nothing.

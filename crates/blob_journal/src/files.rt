@@ -30,13 +30,13 @@ fn number_of<R: Rng>(blob: &Handle) -> u64
 }
 
 impl<R: Rng + Drop> Journaled<R> {
-    ghost use Rattle.blob_journal.specs.Blobs.{ChangesFile, FixesFile, OpensFile, ResizesFile, SameFiles, SameFilesBut, SyncsFile, bytes_of};
+    ghost use Rattle.blob_journal.specs.Blobs.{ChangesFile, FixesFile, OpensFile, ResizesFile, SameFiles, SameFilesBut, SyncsFile, WritesFile, bytes_of};
     ghost use Rattle.blob_journal.specs.Currents.{IsGiven, KeepsFiles};
     ghost use Rattle.blob_journal.specs.Fixed.{ChangesOpen, FixesOpen, IsBeside, KeepsHandles, KeepsOpen, KeepsOpenBut, ReopensFile};
     ghost use Rattle.blob_journal.specs.Journals.{GivesNames, HasFile, KeepsFile, KeepsFilesOf, KeepsGiven, durable_file, store_of};
     ghost use Rattle.blob_journal.specs.Keeping.{KeepsTable, KeepsTold, NotesOpened};
-    ghost use Rattle.blob_journal.specs.Settling.{KeepsJournal};
-    ghost use Rattle.blob_journal.specs.Writes.{RecordsWrite};
+    ghost use Rattle.blob_journal.specs.Settling.{KeepsJournal, KeepsUnsettled};
+    ghost use Rattle.blob_journal.specs.Writes.{RecordsWrite, SameCrashes};
 
     /// Opens the blob of a file's number. A missing one is created, empty.
     ///
@@ -151,6 +151,9 @@ impl<R: Rng + Drop> Journaled<R> {
     pub fn read_file(&mut self, file: &FileBlob, offset: u64, buf: &mut [u8]) -> Result<(), Error>
         ensures names { KeepsTable self.old self.new }
         ensures told { KeepsTold self.old self.new }
+        ensures files { KeepsFiles (store_of self.old) (store_of self.new) }
+        ensures journal { KeepsJournal self.old self.new }
+        ensures crashes { SameCrashes self.old self.new }
         ensures still { KeepsOpen self.old self.new }
     {
         leaves::same_bytes::<blob_memory::Storage, R>();
@@ -170,6 +173,11 @@ impl<R: Rng + Drop> Journaled<R> {
     ) -> Result<(), Error>
         ensures names { KeepsTable self.old self.new }
         ensures told { KeepsTold self.old self.new }
+        ensures files { KeepsFilesOf file.old self.old self.new }
+        ensures given { KeepsFile file.old self.old file.new self.new }
+        ensures written { OnOk result (WritesFile offset bytes.now self.old file.old self.new file.new) }
+        ensures same { OnOk result (SameFiles self.old self.new) }
+        ensures unsettled { KeepsUnsettled self.old self.new }
         ensures recorded { OnOk result (RecordsWrite offset bytes.now self.old file.old self.new file.new) }
         ensures still { ChangesOpen (IsBeside offset (length bytes.now)) self.old file.old self.new file.new }
         ensures handles { KeepsHandles self.old self.new }
@@ -195,6 +203,7 @@ impl<R: Rng + Drop> Journaled<R> {
         ensures told { KeepsTold self.old self.new }
         ensures files { KeepsFilesOf file.old self.old self.new }
         ensures given { KeepsFile file.old self.old file.new self.new }
+        ensures unsettled { KeepsUnsettled self.old self.new }
         ensures resized { OnOk result (ResizesFile length self.old file.old self.new file.new) }
         ensures same { OnOk result (SameFiles self.old self.new) }
         ensures still { ChangesOpen (λ at. at < length) self.old file.old self.new file.new }

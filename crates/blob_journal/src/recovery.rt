@@ -22,10 +22,11 @@ impl<R: Rng + Drop> Journaled<R> {
     ghost use Rattle.blob_journal.specs.Currents.{KeepsFiles, Represents};
     ghost use Rattle.blob_journal.specs.Fixed.{KeepsOpen};
     ghost use Rattle.blob_journal.specs.Journals.{FindsNames, GivesNames, store_of};
+    ghost use Rattle.blob_journal.specs.Settling.{FindsEdits, KeepsUnsettled, counted, unsettled_of};
     ghost use Rattle.blob_journal.specs.Keeping.{FindsTold, GivesTold, KeepsTable, KeepsTold, names_in, table_in};
 
-    /// Returns the names that the journal gives and the root reaches, and of each edit that nothing settled whether the
-    /// journal has it. Calls still see the names of before. From here on the store draws nothing.
+    /// Returns the names that the journal gives and the root reaches, and of each edit that nothing settled, in order, whether
+    /// the journal has its sector and it counts. Calls still see the names of before. From here on the store draws nothing.
     ///
     /// # Errors
     ///
@@ -39,6 +40,8 @@ impl<R: Rng + Drop> Journaled<R> {
         ensures told { KeepsTold self.old self.new }
         ensures kept { IfOk result (λ r. FindsTold self.old keeps (bound r.0.names)) }
         ensures links { IfOk result (λ r. HasLinks r.0) }
+        ensures edits { IfOk result (λ r. FindsEdits self.old keeps r.1.items) }
+        ensures unsettled { KeepsUnsettled self.old self.new }
         ensures named { IfOk result (λ r. HasNamedLinks r.0) }
         ensures same { OnOk result (SameFiles self.old self.new) }
         ensures still { KeepsOpen self.old self.new }
@@ -52,7 +55,10 @@ impl<R: Rng + Drop> Journaled<R> {
         Ok((tree, edits))
     }
 
-    fn kept_edits(&self, kept: &[bool]) -> Result<Vec<bool>, AllocError> {
+    /// Returns of each edit that nothing settled whether its sector counts. Fails only if memory runs out.
+    fn kept_edits(&self, kept: &[bool]) -> Result<Vec<bool>, AllocError>
+        ensures { IfOk result (λ edits. edits.items ≡ counted kept.now (unsettled_of self.now)) }
+    {
         let mut edits = Vec::new(self.alloc);
         for edit in &self.unsettled {
             let is_kept = kept.get(edit.sector as usize).copied().unwrap_or(false);

@@ -1,11 +1,11 @@
 use Rattle.std.proofs.Common.{◌≡◌, ◌+◌, ◌-◌, ◌/◌, ◌<◌, suc, length, not, ◌||◌, ◌&&◌, arith, ap, sym, ◌∙◌}
 use Rattle.std.proofs.lemmas.List.Elements.{All-from_get_or}
 use Rattle.blob_directory.specs.Names.{Same, all_edited}
-use Rattle.blob_directory.specs.Profiles.{counts, found_in_all, is_prefix, kept_edits, names_told, with_found}
+use Rattle.blob_directory.specs.Profiles.{counts, counts_in, found_in_all, is_prefix, kept_edits, names_told, with_found}
 use Rattle.blob_directory.specs.Sectors.{found_in}
 use Rattle.blob_directory.specs.Tables.{bound}
 use Rattle.blob_directory.proofs.Fitting.{told_fits}
-use Rattle.blob_directory.proofs.Journals.{one_sector}
+use Rattle.blob_directory.proofs.Journals.{one_flag, one_sector}
 use Rattle.blob_directory.proofs.tree.kept_names.Goals as goal
 
 pub loop-i-preserved : goal.loop-i-preserved
@@ -20,6 +20,9 @@ loop-i-preserved c =
     c.is_next_lost-is_lost.ensures ∙ ap (λ k. lost || (is_prefix c.args.keeps && not k)) kept in
     record {
       long = omega arith;
+      kept = one_flag c.args.keeps lost c.is_next_lost-is_lost.result c.in_ok-is_kept.is_kept c.loop-i.kept.items c.push.new.self.items
+          (end - c.loop-i.i) (end - (c.loop-i.i + 1)) c.loop-i.left.now sector c.split_at.result.1.now (counts_in c.args.keeps c.args.bytes.now)
+          one_less c.split_at.ensures.front c.split_at.ensures.back kept next c.in_ok-push.ensures.items c.loop-i.invariant.kept;
       names = one_sector c.args.keeps lost c.is_next_lost-is_lost.result (bound c.loop-i.names) (bound c.keep.new.names)
           (end - c.loop-i.i) (end - (c.loop-i.i + 1)) c.loop-i.left.now sector c.split_at.result.1.now (names_told c.args.keeps c.args.bytes.now)
           one_less c.split_at.ensures.front c.split_at.ensures.back same next c.loop-i.invariant.names;

@@ -2,7 +2,7 @@ use Rattle.std.proofs.Common.{◌≡◌, List, ℕ, ap₂, false, refl}
 use Rattle.blob_directory.specs.Profiles.{found_in_all}
 use Rattle.blob_directory.specs.Sectors.{Found}
 use Rattle.blob_journal.specs.Keeping.{told_by}
-use Rattle.blob_journal.specs.Told.{Grows, is_marked_in, settled_in}
+use Rattle.blob_journal.specs.Told.{Grows}
 use Rattle.blob_journal.proofs.Growing.{grows_settled, settled_none}
 use Rattle.blob_journal.proofs.Telling.{told_more, told_same}
 use Rattle.blob_journal.proofs.Settling.{changes_none}

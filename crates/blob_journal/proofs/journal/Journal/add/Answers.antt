@@ -1,12 +1,11 @@
 use Rattle.blob_journal.proofs.Draws.{IsLoose}
-use Rattle.std.proofs.Common.{◌≡◌, ◌++◌, ◌∷◌, [], ◌+◌, ◌*◌, ℕ, List, Bool, false, None, Some, length, ap, ap₂, refl, sym, subst, ◌∙◌, rules}
+use Rattle.std.proofs.Common.{◌≡◌, ◌++◌, ◌∷◌, [], ◌+◌, ◌*◌, ℕ, List, Bool, false, None, Some, length, ap, refl, sym, subst, ◌∙◌, rules}
 use Rattle.blob_base.specs.Options.{is_sync}
 use Rattle.blob_header.specs.Refusals.{refusal_of}
 use Rattle.blob_model.specs.Places.{Place}
 use Rattle.blob_model.specs.Bytes.{write_live}
 use Rattle.blob_memory.specs.Store.{directory, live, place}
 use Rattle.blob_draws.specs.Recorded.{live_of_write, recorded_write}
-use Rattle.blob_draws.specs.declared.config.Config.{Config}
 use Rattle.blob_faulty.specs.Keeps.{OverMemory}
 use Rattle.blob_faulty.specs.Wrapper.{config_of, inner_of, inside, next_write_of, rng_of}
 use Rattle.blob_directory.specs.Names.{edit_of}

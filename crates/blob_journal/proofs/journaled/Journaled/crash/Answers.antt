@@ -4,7 +4,7 @@ use Rattle.blob_draws.specs.declared.selections.Selections.{Selections}
 use Rattle.blob_memory.specs.Store.{directory}
 use Rattle.blob_faulty.specs.Wrapper.{inner_of}
 use Rattle.blob_journal.proofs.Found.{same_next, still_given, still_kept}
-use Rattle.std.proofs.Common.{List, ℕ, [], ap, ◌∙◌, ◌≡◌}
+use Rattle.std.proofs.Common.{List, ℕ, [], ap, sym, ◌∙◌, ◌≡◌}
 use Rattle.std.specs.Prelude.{codes}
 use Rattle.std.specs.Int.{w64, to_be_bytes}
 use Rattle.blob_model.specs.Directory.{current}
@@ -86,3 +86,16 @@ returns-clause-still g c =
     let new = c.crash.new.self in
     let same = c.crash.ensures.directory in
     keeps_open _ _ (incarnations_same old new same (codes "f")) (λ o test f k. c.crashed.ensures old new o test c.in_ok-rows.rows same c.in_ok-rows.ensures.rows c.in_ok-rows.ensures.stands k)
+
+pub returns-clause-edits : goal.returns-clause-edits
+returns-clause-edits g c = λ keeps edits f.
+    let at : Place = f.is.place in
+    record {
+      journal = f.journal;
+      is = record {
+        place = at;
+        current = ap (λ (d : Directory). current d (codes "j") (to_be_bytes w64 c.args.self.now.journal.generation)) (sym c.crash.ensures.directory) ∙ f.is.current;
+        replayed = sym (c.in_ok-rows.ensures.durable at) ∙ f.is.durable;
+      };
+      found = f.found;
+    }

@@ -1,8 +1,9 @@
-use Rattle.std.proofs.Common.{None, true}
+use Rattle.std.proofs.Common.{Bool, None, true}
 use Rattle.blob_memory.specs.Store.{live}
 use Rattle.blob_directory.specs.Names.{all_edited}
 use Rattle.blob_journal.specs.Keeping.{told_in}
 use Rattle.blob_journal.specs.Sectors.{may_be_found}
+use Rattle.blob_journal.specs.Settling.{counted}
 use Rattle.blob_journal.specs.Told.{chosen_of, names_kept}
 use Rattle.blob_journal.proofs.Telling.{found_now, whole_of}
 use Rattle.blob_journal.proofs.Told.{found_edits}
@@ -20,7 +21,7 @@ use Rattle.blob_memory.specs.declared.storage.Storage as memory
 use Rattle.blob_faulty.specs.Keeps.{OverMemory}
 use Rattle.blob_faulty.specs.Wrapper.{inner_of, inside}
 use Rattle.blob_directory.specs.Names.{Same}
-use Rattle.blob_directory.specs.Profiles.{names_told}
+use Rattle.blob_directory.specs.Profiles.{counts_in, names_told}
 use Rattle.blob_directory.specs.Tables.{bound}
 use Rattle.blob_journal.specs.Keeping.{names_in}
 use Rattle.blob_journal.proofs.Currents.{current_of_name}
@@ -48,6 +49,25 @@ returns-clause-found g c =
       journal = c.in_ok-bytes.bytes.items;
       is = record { place = at; current = here; durable = sym (ap (λ (s : memory.Storage). durable s at) inner) ∙ found };
       finds = c.in_ok-tree.ensures.finds (names_told c.args.keeps c.in_ok-bytes.bytes.items) same;
+    }
+
+pub returns-clause-edits : goal.returns-clause-edits
+returns-clause-edits g c =
+    let self = c.args.self.now in
+    let at : Place = place (inside self.journal.blob) in
+    let name : List ℕ = to_be_bytes w64 self.journal.generation in
+    let bytes : List ℕ = c.in_ok-bytes.bytes.items in
+    let here : current (directory (inner_of self.store)) (codes "j") name ≡ Some at =
+    ap₂ (λ (p n : List ℕ). current (directory (inner_of self.store)) p n) (sym self.partition) (sym self.name) ∙ current_of_name (directory (inner_of self.store)) at self.current in
+    let inner : inner_of c.set_config.new.self ≡ inner_of self.store = ap (λ (s : OverMemory g.row.R.Denot). inner_of s) c.set_config.ensures.set in
+    let found : durable (inner_of c.set_config.new.self) at ≡ Some bytes =
+    c.in_ok-bytes.ensures.found at (ap (λ (s : memory.Storage). current (directory s) (codes "j") name) inner ∙ here) in
+    let counts : c.deref-2.result.now ≡ counts_in c.args.keeps bytes =
+    c.deref-2.ensures.value ∙ c.in_ok-names.ensures.kept ∙ ap (λ l. counts_in c.args.keeps l) c.deref.ensures.value in
+    record {
+      journal = bytes;
+      is = record { place = at; current = here; durable = sym (ap (λ (s : memory.Storage). durable s at) inner) ∙ found };
+      found = c.in_ok-edits.ensures ∙ ap (λ (l : List Bool). counted l self.unsettled.items) counts;
     }
 
 pub returns-clause-fits : goal.returns-clause-fits

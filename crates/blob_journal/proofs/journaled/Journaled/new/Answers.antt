@@ -1,15 +1,13 @@
-use Rattle.std.proofs.Common.{◌≡◌, ◌/◌, ℕ, List, length, [], Some, None, ap, sym, subst, ◌∙◌, arith, refl}
+use Rattle.std.proofs.Common.{◌≡◌, ◌/◌, ℕ, List, length, [], Some, None, ap, ◌∙◌, arith, refl}
 use Rattle.std.specs.Prelude.{codes}
 use Rattle.std.specs.Int.{w64, to_be_bytes}
 use Rattle.blob_model.specs.Directory.{Directory}
 use Rattle.blob_model.specs.Files.{wrap}
-use Rattle.blob_model.specs.Pending.{Pending}
 use Rattle.blob_model.specs.Places.{Place}
 use Rattle.blob_directory.specs.Profiles.{found_in_all}
-use Rattle.blob_memory.specs.Store.{directory, durable, live, place}
+use Rattle.blob_memory.specs.Store.{directory, live, place}
 use Rattle.blob_memory.specs.declared.storage.Storage as memory
-use Rattle.blob_faulty.specs.Keeps.{bytes_found}
-use Rattle.blob_faulty.specs.Wrapper.{inner_of, inside, next_marker_of, next_write_of}
+use Rattle.blob_faulty.specs.Wrapper.{inner_of, inside}
 use Rattle.blob_journal.specs.Currents.{IsFixed, Represents, pending_at}
 use Rattle.blob_journal.proofs.Found.{fixed_kept}
 use Rattle.blob_journal.proofs.Standing.{fixed_by}

@@ -1,10 +1,15 @@
-use Rattle.std.proofs.Common.{◌≡◌, ap, ◌∙◌}
+use Rattle.std.proofs.Common.{◌≡◌, ap, refl, ◌∙◌}
+use Rattle.blob_model.specs.Places.{Place}
 use Rattle.blob_model.specs.Directory.{Directory, is_current}
 use Rattle.blob_memory.specs.Store.{directory, durable, place}
 use Rattle.blob_memory.specs.declared.storage.Storage as memory
 use Rattle.blob_faulty.specs.Wrapper.{inner_of, inside}
 use Rattle.blob_journal.proofs.Found.{same_next, still_given, still_kept}
 use Rattle.std.specs.Prelude.{codes}
+use Rattle.blob_model.specs.Draws.{chosen_by}
+use Rattle.blob_draws.specs.Rows.{table_of}
+use Rattle.blob_journal.specs.Blobs.{file_name}
+use Rattle.blob_journal.proofs.Writes.{crashed_alike}
 use Rattle.blob_journal.proofs.Fixed.{incarnations_same, keeps_open}
 use Rattle.blob_journal.proofs.journaled.Journaled.read_file.Goals as goal
 
@@ -32,3 +37,35 @@ returns-clause-still g c =
     let same : directory (inner_of after) ≡ directory (inner_of before) = ap (λ (s : memory.Storage). directory s) r.inner in
     let bytes : durable (inner_of after) ≡ durable (inner_of before) = ap (λ (s : memory.Storage). durable s) r.inner in
     keeps_open _ _ (incarnations_same before after same (codes "f")) (λ o test f k. c.same_bytes.ensures.unrecorded before after o test same bytes r.leaves.unrecorded k)
+
+pub returns-clause-crashes : goal.returns-clause-crashes
+returns-clause-crashes g c =
+    let before = c.args.self.now.store in
+    let after = c.read_into.new.store in
+    let r = c.read_into.ensures in
+    record {
+      files = λ h. (h.0, r.leaves.files h.0 h.1);
+      same = λ inode file bytes is. record {
+        current = record {
+          number = is.current.number;
+          layout = is.current.layout;
+          file = ap (λ (s : memory.Storage). (directory s).file (codes "f") (file_name inode)) r.inner ∙ is.current.file;
+          is = is.current.is;
+        };
+        durable = ap (λ (s : memory.Storage). durable s (place (inside file.blob))) r.inner ∙ is.durable;
+      };
+      left = λ inode kept. crashed_alike before after (chosen_by (table_of kept)) inode r.inner r.leaves.unrecorded.pending;
+    }
+
+pub returns-clause-journal : goal.returns-clause-journal
+returns-clause-journal g c =
+    let at : Place = place (inside c.args.self.now.journal.blob) in
+    let r = c.read_into.ensures in
+    record {
+      place = refl;
+      durable = ap (λ (s : memory.Storage). durable s at) r.inner;
+      pending = r.leaves.unrecorded.pending at;
+      files = λ h. (h.0, r.leaves.files h.0 h.1);
+      unsettled = refl;
+      told = refl;
+    }

@@ -1,4 +1,4 @@
-use Rattle.std.proofs.Common.{◌≡◌, ◌≤◌, ap, subst, sym, ◌∙◌}
+use Rattle.std.proofs.Common.{◌≡◌, ap, subst, sym, ◌∙◌}
 use Rattle.blob_model.specs.Directory.{is_current}
 use Rattle.blob_memory.specs.Store.{directory, place}
 use Rattle.blob_memory.specs.declared.storage.Storage as memory

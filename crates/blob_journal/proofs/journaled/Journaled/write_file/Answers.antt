@@ -10,12 +10,17 @@ use Rattle.blob_faulty.specs.Wrapper.{config_of, inner_of, inside, next_write_of
 use Rattle.blob_model.specs.Draws.{chosen_by}
 use Rattle.blob_model.specs.Durable.{Durable}
 use Rattle.blob_model.specs.Log.{replay_log}
+use Rattle.blob_model.specs.Files.{all_logged}
+use Rattle.blob_faulty.specs.Wrapper.{Stands}
 use Rattle.blob_memory.specs.Store.{durable}
 use Rattle.blob_draws.specs.Rows.{table_of}
 use Rattle.blob_journal.specs.Blobs.{file_name}
 use Rattle.blob_journal.specs.Writes.{IsWrite}
-use Rattle.blob_journal.proofs.Blobs.{by_ok}
-use Rattle.blob_journal.proofs.Writes.{crashed_by, crashed_in, is_write}
+use Rattle.blob_journal.proofs.Blobs.{blob_same, by_ok}
+use Rattle.blob_model.specs.Live.{live_written}
+use Rattle.blob_draws.proofs.Sizes.{length-written}
+use Rattle.blob_faulty.specs.HandleLeaves.{size_written}
+use Rattle.blob_journal.proofs.Writes.{by_oks, crashed_by, crashed_in, is_write}
 use Rattle.blob_journal.proofs.Found.{other_blob, same_next, still_given, still_kept}
 use Rattle.std.proofs.Common.{◌<◌, List, ℕ, ap₂, arith, length, take}
 use Rattle.blob_memory.specs.Store.{live}
@@ -114,3 +119,44 @@ returns-in_err-check-clause-handles g c = same_handles c.args.self.now c.args.se
 
 pub returns-clause-handles : goal.returns-clause-handles
 returns-clause-handles g c = same_handles c.args.self.now _ c.write_from.ensures.directory
+
+pub returns-clause-files : goal.returns-clause-files
+returns-clause-files g c = λ has r.
+    let old = c.args.self.now.store in
+    let new = c.write_from.new.store in
+    let w = c.write_from.ensures in
+    let at : Place = place (inside c.args.file.now.blob) in
+    let es = recorded_write (config_of old) (next_write_of old) (g.R.Rng.stream (rng_of old)) (is_sync c.default-options.result) c.args.offset c.args.bytes.now (error_of c.write_from.result) in
+    (all_logged r.0 at es, subst (λ (d : Directory). Stands (λ (o : Place). o) d (durable (inner_of new)) new (all_logged r.0 at es)) (sym w.directory) (w.leaves.recorded refl r.0 has r.1))
+
+pub returns-clause-same : goal.returns-clause-same
+returns-clause-same g c =
+    let plain : is_sync c.default-options.result ≡ false = first_of (search rules, cc) in
+    let w = c.write_from.ensures in
+    by_ok c.write_from.result w.plain (λ done. done)
+    (λ durable_same done inode. blob_same (codes "f") (file_name inode) c.args.self.now.store c.write_from.new.store w.directory (durable_same plain))
+
+pub returns-clause-written : goal.returns-clause-written
+returns-clause-written g c =
+    let new = c.write_from.new.store in
+    let w = c.write_from.ensures in
+    let at : Place = place (inside c.args.file.now.blob) in
+    let offset = c.args.offset in
+    let bytes = c.args.bytes.now in
+    let plain : is_sync c.default-options.result ≡ false = first_of (search rules, cc) in
+    by_oks c.write_from.result w.plain w.live w.leaves.done_size
+    (λ durable_same alive sized inode known is. (
+      record {
+        current = record {
+          number = is.current.number;
+          layout = is.current.layout;
+          file = ap (λ (d : Directory). d.file (codes "f") (file_name inode)) w.directory ∙ is.current.file;
+          is = w.place ∙ is.current.is;
+        };
+        durable = ap (λ (o : Place). durable (inner_of new) o) w.place ∙ ap (λ (d : Durable). d at) (durable_same plain) ∙ is.durable;
+      },
+      λ seen s. record {
+        live = alive ∙ ap₂ (λ (b : Bool) (l : List ℕ). live_written b l offset bytes) plain s.live;
+        size = sized ∙ ap₂ (λ (b : Bool) (n : ℕ). size_written b n offset bytes) plain s.size ∙ sym (length-written seen offset bytes);
+      },
+    ))

@@ -1,0 +1,78 @@
+use Rattle.std.proofs.Common.{List, [], ◌∷◌, ◌++◌, false, refl}
+use Rattle.blob_directory.specs.declared.unsettled.Unsettled.{Unsettled}
+use Rattle.std.proofs.Math.Logic.{∥∥₁_elim}
+use Rattle.blob_directory.specs.Profiles.{found_in_all}
+use Rattle.blob_journal.proofs.Growing.{told_prop}
+use Rattle.blob_journal.proofs.Found.{on_err}
+use Rattle.std.proofs.Math.Logic.{∥∥₁_map}
+use Rattle.blob_memory.specs.Store.{directory}
+use Rattle.blob_faulty.specs.Wrapper.{inner_of}
+use Rattle.blob_journal.proofs.Found.{done_add, refused_add, same_next, still_given}
+use Rattle.std.proofs.Common.{ap, ap₂, sym, ◌∙◌, ℕ}
+use Rattle.std.specs.Int.{w64, to_be_bytes}
+use Rattle.blob_model.specs.Directory.{Directory, is_current}
+use Rattle.blob_model.specs.Places.{Place}
+use Rattle.std.specs.Prelude.{codes}
+use Rattle.blob_memory.specs.Store.{place}
+use Rattle.blob_faulty.specs.Wrapper.{inside}
+use Rattle.blob_journal.proofs.Blobs.{journal_apart}
+use Rattle.blob_journal.proofs.Fixed.{current_given, incarnations_same, keeps_open}
+use Rattle.blob_journal.proofs.journaled.Journaled.add_edit.Goals as goal
+
+pub invariant_of-self-in-Break-branch-2 : goal.invariant_of-self-in-Break-branch-2
+invariant_of-self-in-Break-branch-2 g c = record {
+  partition = ap (λ (o : Place). o.partition) c.add.ensures.place ∙ c.args.self.now.partition;
+  name = ap (λ (o : Place). o.name) c.add.ensures.place ∙ c.args.self.now.name ∙ ap (λ (n : ℕ). to_be_bytes w64 n) (sym c.add.ensures.generation);
+  current = ap₂ (λ (d : Directory) (o : Place). is_current d o) c.add.ensures.directory c.add.ensures.place ∙ c.args.self.now.current;
+  given = still_given c.args.self.now.store c.add.new.store c.args.self.now.opened (same_next (directory (inner_of c.args.self.now.store)) (directory (inner_of c.add.new.store)) c.add.ensures.directory) c.args.self.now.given;
+  kept = ∥∥₁_map c.args.self.now.kept (λ k. refused_add c.args.self.now.store c.add.new.store c.args.self.now.journal c.add.new.self c.args.self.now.unsettled.items c.reserve.new.self.items
+      c.reserve.ensures.items c.in_err-sector.ensures.refused c.in_err-sector.ensures.unmoved (c.add.ensures.left k.sectors) k);
+}
+
+pub invariant_of-self-2 : goal.invariant_of-self-2
+invariant_of-self-2 g c = record {
+  partition = ap (λ (o : Place). o.partition) c.add.ensures.place ∙ c.args.self.now.partition;
+  name = ap (λ (o : Place). o.name) c.add.ensures.place ∙ c.args.self.now.name ∙ ap (λ (n : ℕ). to_be_bytes w64 n) (sym c.add.ensures.generation);
+  current = ap₂ (λ (d : Directory) (o : Place). is_current d o) c.add.ensures.directory c.add.ensures.place ∙ c.args.self.now.current;
+  given = still_given c.args.self.now.store c.add.new.store c.args.self.now.opened (same_next (directory (inner_of c.args.self.now.store)) (directory (inner_of c.add.new.store)) c.add.ensures.directory) c.args.self.now.given;
+  kept = ∥∥₁_map c.args.self.now.kept (λ k. done_add c.args.self.now.store c.add.new.store c.args.self.now.journal c.add.new.self c.args.self.now.unsettled.items _ c.push_reserved.new.self.items _
+      c.push_reserved.ensures.items c.reserve.ensures.items
+      c.in_ok-sector.ensures.bytes c.in_ok-sector.ensures.sectors c.in_ok-sector.ensures.sector (c.add.ensures.left k.sectors) k);
+}
+
+pub returns-in_err-sector-clause-untold : goal.returns-in_err-sector-clause-untold
+returns-in_err-sector-clause-untold g c = on_err _ _ (ap₂ (λ (n : ℕ) (l : List ℕ). found_in_all n l) c.in_err-sector.ensures.unmoved c.in_err-sector.ensures.refused)
+
+pub returns-clause-told : goal.returns-clause-told
+returns-clause-told g c = ∥∥₁_elim c.args.self.now.kept (told_prop _ _) (λ k. c.in_ok-sector.ensures.told k.sectors)
+
+pub returns-in_err-sector-clause-still : goal.returns-in_err-sector-clause-still
+returns-in_err-sector-clause-still g c =
+    let self = c.args.self.now in
+    let at : Place = place (inside self.journal.blob) in
+    keeps_open _ _ (incarnations_same self.store c.add.new.store c.add.ensures.directory (codes "f"))
+    (λ o test f k. c.add.ensures.beside (current_given self.store at self.current) o test (journal_apart at o self.partition f) k)
+
+pub returns-clause-still : goal.returns-clause-still
+returns-clause-still g c =
+    let self = c.args.self.now in
+    let at : Place = place (inside self.journal.blob) in
+    keeps_open _ _ (incarnations_same self.store c.add.new.store c.add.ensures.directory (codes "f"))
+    (λ o test f k. c.add.ensures.beside (current_given self.store at self.current) o test (journal_apart at o self.partition f) k)
+
+pub returns-clause-noted : goal.returns-clause-noted
+returns-clause-noted g c =
+    let last : Unsettled = record {
+      edit = c.args.edit;
+      sector = c.in_ok-sector.sector;
+      number = c.args.self.now.next_edit;
+      about = c.args.about;
+      is_wanted = false;
+    } in
+    record {
+      last = last;
+      is = c.push_reserved.ensures.items ∙ ap (λ (l : List Unsettled). l ++ last ∷ []) c.reserve.ensures.items;
+      edit = refl;
+      about = refl;
+      number = refl;
+    }
