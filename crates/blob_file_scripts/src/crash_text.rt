@@ -1,6 +1,6 @@
 //! What a crash kept, in the words of files.
 use crate::byte_text::push_outcomes;
-use crate::edit_text::{edit_outcome, outcome_words};
+use crate::edit_text::{edit_outcome, inode_truncated, outcome_words};
 use crate::path_text::read_path;
 use crate::paths::Paths;
 use blob_faulty::entry::Entry;
@@ -47,7 +47,7 @@ struct File {
 /// What must be known of a crash before it is made.
 #[derive(Drop)]
 pub(crate) struct Before {
-    /// The files with unsynced writes.
+    /// The files with unsynced writes or unsettled truncations.
     files: Vec<File>,
     /// The ranges of each pending write that later durable bytes cover.
     holes: BTreeMap<u64, Vec<(u64, u64)>>,
@@ -97,8 +97,26 @@ fn file_of(
     }))
 }
 
+/// Returns the inodes of the files with unsynced writes or unsettled truncations.
+fn inodes_of(
+    alloc: Global,
+    fs: &FileSystem<ScriptedRng>,
+    writes: &BTreeMap<u64, Vec<Unsynced>>,
+) -> Result<BTreeMap<u64, ()>, AllocError> {
+    let mut inodes = BTreeMap::new(alloc);
+    for (inode, _) in writes {
+        inodes.insert(*inode, ())?;
+    }
+    for unsettled in fs.unsettled() {
+        if let Some(inode) = inode_truncated(&unsettled.edit) {
+            inodes.insert(inode, ())?;
+        }
+    }
+    Ok(inodes)
+}
+
 impl Before {
-    /// Looks at the files with unsynced writes before a crash.
+    /// Looks at the files with unsynced writes or unsettled truncations before a crash.
     pub(crate) fn read(
         alloc: Global,
         fs: &FileSystem<ScriptedRng>,
@@ -106,7 +124,7 @@ impl Before {
         writes: &BTreeMap<u64, Vec<Unsynced>>,
     ) -> Result<Before, AllocError> {
         let mut files = Vec::new(alloc);
-        for (inode, _) in writes {
+        for (inode, _) in &inodes_of(alloc, fs, writes)? {
             if let Some(file) = file_of(alloc, fs, paths, *inode)? {
                 files.push(file)?;
             }
@@ -270,14 +288,23 @@ fn push_lines(
         push_write(before, file, write, row, text)?;
     }
     let (found, size) = (fs.found_size_of(file.inode), fs.size_of(file.inode));
-    if size < found {
-        let synced = file.synced;
-        writeln!(
-            text,
-            "  truncated from {found} to {size}, at its first lost byte beyond the synced size {synced}"
-        )?;
+    push_cut(found, size, file.synced, text)
+}
+
+/// Appends that the profile truncated a file, if it did: beyond the size at its last sync, or beyond a kept truncation.
+fn push_cut(found: u64, size: u64, synced: u64, text: &mut String) -> Result<(), AllocError> {
+    if size >= found {
+        return Ok(());
     }
-    Ok(())
+    write!(
+        text,
+        "  truncated from {found} to {size}, at its first lost byte "
+    )?;
+    if size < synced {
+        text.push_str("beyond a kept truncation\n")
+    } else {
+        writeln!(text, "beyond the synced size {synced}")
+    }
 }
 
 /// Appends a file's path and sizes, and the path that it had before the crash if that was another one.

@@ -2,11 +2,12 @@
 ghost use Rattle.std.specs.Prelude.{◌≡◌};
 ghost use Rattle.blob_file_scripts.specs.Outcomes.{edit_outcome};
 
-use crate::call::Call;
+use crate::call::{Call, Named};
 use crate::path_text::print_path;
-use crate::paths::Paths;
+use crate::paths::{Paths, parts_of};
 use blob_file_sessions::kinds;
-use blob_fs::Edit;
+use blob_fs::{Edit, FileSystem};
+use blob_lab::ScriptedRng;
 use std::alloc::AllocError;
 
 /// What a crash did with an edit that nothing settled.
@@ -67,13 +68,55 @@ fn push_word(call: &Call, text: &mut String) -> Result<(), AllocError> {
     Ok(())
 }
 
-/// Appends an edit as its call with full paths: `create PATH`, `rename PATH -> PATH`, `exchange PATH, PATH` and so on.
+/// Returns the inode of the file that an edit truncates. `None` if it changes a name.
+pub(crate) fn inode_truncated(edit: &Edit) -> Option<u64> {
+    match parts_of(&edit.first.entry) {
+        Some((inode, [])) => Some(inode),
+        _ => None,
+    }
+}
+
+/// Returns the path by which a call truncates a file, if it has one.
+fn path_truncated(call: &Call) -> Option<&[u8]> {
+    match call {
+        Call::OnFile {
+            file: Named::Path(path),
+            ..
+        } => Some(path),
+        Call::Plain { asked, path, .. } if asked.kind == kinds::OPEN_TRUNCATED => Some(path),
+        _ => None,
+    }
+}
+
+/// Appends the truncation of a file, with the length that the call left: one that failed in part left a longer one.
+fn push_truncation(
+    call: &Call,
+    fs: &FileSystem<ScriptedRng>,
+    inode: u64,
+    paths: &Paths,
+    text: &mut String,
+) -> Result<(), AllocError> {
+    text.push_str("truncate ")?;
+    match path_truncated(call) {
+        Some(path) => print_path(path, text)?,
+        None => paths.push_file(inode, text)?,
+    }
+    let length = fs.size_of(inode);
+    write!(text, " {length}")
+}
+
+/// Appends an edit as its call with full paths: `create PATH`, `rename PATH -> PATH`, `exchange PATH, PATH`, `truncate PATH LENGTH`
+/// and so on.
 pub(crate) fn push_edit(
     call: &Call,
+    fs: &FileSystem<ScriptedRng>,
     edit: &Edit,
     paths: &Paths,
     text: &mut String,
 ) -> Result<(), AllocError> {
+    if let Some(inode) = inode_truncated(edit) {
+        return push_truncation(call, fs, inode, paths, text);
+    }
     let Some(second) = &edit.second else {
         push_word(call, text)?;
         return paths.push_entry(&edit.first.entry, text);

@@ -19,8 +19,8 @@ pub(crate) struct Paths {
     places: BTreeMap<u64, Place>,
 }
 
-/// Returns the number of the directory of an entry, and the name in it.
-fn parts_of(entry: &[u8]) -> Option<(u64, &[u8])> {
+/// Returns the number of the directory of an entry, and the name in it. That of a truncation has the file's number and no name.
+pub(crate) fn parts_of(entry: &[u8]) -> Option<(u64, &[u8])> {
     let (number, name) = entry.split_first_chunk::<8>()?;
     Some((u64::from_be_bytes(*number), name))
 }
@@ -101,6 +101,14 @@ impl Paths {
             }
         }
         Ok(true)
+    }
+
+    /// Appends the path of a file.
+    pub(crate) fn push_file(&self, inode: u64, text: &mut String) -> Result<(), AllocError> {
+        if !self.push_path(inode, text)? {
+            write!(text, "inode {inode}")?;
+        }
+        Ok(())
     }
 
     /// Appends the path of an entry.

@@ -24,8 +24,6 @@ pub(crate) struct Watch {
     writes: BTreeMap<u64, Vec<Unsynced>>,
     /// Of a crash that has no reply yet.
     before: Option<Before>,
-    /// How many truncations of its file a crash applies, before a truncation that has no reply yet.
-    truncations: usize,
 }
 
 /// Returns the inode of a look-up. `None` if it found none.
@@ -37,29 +35,11 @@ fn found(looked: Result<u64, FsError>) -> Result<Option<u64>, AllocError> {
     }
 }
 
-/// Returns the inode of a path.
-fn inode_at(fs: &FileSystem<ScriptedRng>, path: &[u8]) -> Result<Option<u64>, AllocError> {
-    found(fs.find(path).map(|binding| binding.inode))
-}
-
 /// Returns the inode of a file.
 fn inode_named(fs: &FileSystem<ScriptedRng>, file: &Named) -> Result<Option<u64>, AllocError> {
     match file {
-        Named::Path(path) => inode_at(fs, path),
+        Named::Path(path) => found(fs.find(path).map(|binding| binding.inode)),
         Named::Descriptor(number) => found(fs.inode_of(Descriptor::numbered(*number))),
-    }
-}
-
-/// Returns the inode of the file that a call truncates.
-fn inode_truncated(fs: &FileSystem<ScriptedRng>, call: &Call) -> Result<Option<u64>, AllocError> {
-    match call {
-        Call::OnFile { kind, file, .. } if *kind == kinds::TRUNCATE => inode_named(fs, file),
-        Call::Plain { asked, path, .. } => match asked.kind {
-            kinds::OPEN_TRUNCATED => inode_at(fs, path),
-            kinds::OPEN_INODE_TRUNCATED => Ok(Some(asked.number)),
-            _ => Ok(None),
-        },
-        _ => Ok(None),
     }
 }
 
@@ -81,16 +61,12 @@ impl Watch {
             next_edit: 0,
             writes: BTreeMap::new(alloc),
             before: None,
-            truncations: 0,
         }
     }
 
     /// Looks at the files before a call.
     pub(crate) fn before(&mut self, files: &KeptFiles, call: &Call) -> Result<(), AllocError> {
         let fs = files.fs();
-        if let Some(inode) = inode_truncated(fs, call)? {
-            self.truncations = fs.kept_truncations_of(inode);
-        }
         if let Call::Plain { asked, .. } = call {
             if asked.kind == kinds::CRASH {
                 self.paths = Paths::read(self.alloc, fs)?;
@@ -111,9 +87,7 @@ impl Watch {
         let fs = files.fs();
         let mut text = String::new(self.alloc);
         let is_done = reply == "ok";
-        if let Some(inode) = inode_truncated(fs, call)? {
-            self.push_truncation(fs, inode, &mut text)?;
-        }
+        self.note_edit(line, fs, call)?;
         match call {
             Call::Write {
                 file,
@@ -125,25 +99,11 @@ impl Watch {
             }
             Call::Plain { asked, .. } => match files.reply() {
                 Some(Reply::Crashed(crash)) => self.after_crash(fs, crash, &mut text)?,
-                _ => self.after_names(line, fs, call, asked.kind, is_done, &mut text)?,
+                _ => self.after_names(fs, asked.kind, is_done, &mut text)?,
             },
             _ => {}
         }
         Ok(text)
-    }
-
-    /// Adds a truncation that a crash applies.
-    fn push_truncation(
-        &self,
-        fs: &FileSystem<ScriptedRng>,
-        inode: u64,
-        text: &mut String,
-    ) -> Result<(), AllocError> {
-        if fs.kept_truncations_of(inode) > self.truncations {
-            let size = fs.size_of(inode);
-            writeln!(text, "truncated to {size}, which a crash applies")?;
-        }
-        Ok(())
     }
 
     /// Notes a write that returned Ok.
@@ -190,17 +150,14 @@ impl Watch {
         self.push_settled(fs, text)
     }
 
-    /// Notes the edit of a call on names, and what a sync of names settled.
+    /// Adds what a sync of names settled, and forgets edits that are settled.
     fn after_names(
         &mut self,
-        line: u64,
         fs: &FileSystem<ScriptedRng>,
-        call: &Call,
         kind: u32,
         is_done: bool,
         text: &mut String,
     ) -> Result<(), AllocError> {
-        self.note_edit(line, fs, call)?;
         let is_lie = fs.options().syncs == Syncs::Lie;
         match kind {
             kinds::SYNC_DIRECTORY | kinds::SYNC_DIRECTORY_AT | kinds::SYNC_ALL
@@ -234,7 +191,7 @@ impl Watch {
             return Ok(());
         }
         let mut words = String::new(self.alloc);
-        push_edit(call, &last.edit, &self.paths, &mut words)?;
+        push_edit(call, fs, &last.edit, &self.paths, &mut words)?;
         self.paths.note(&last.edit)?;
         self.edits.push(Issued {
             number: last.number,

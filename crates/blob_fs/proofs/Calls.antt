@@ -1,18 +1,19 @@
 -- What each call of a list does.
-use Rattle.std.proofs.Common.{◌≡◌, Bool, true, false, List, [], ◌∷◌, ◌++◌, ℕ, ap, is_ok, refl, subst, sym}
+use Rattle.std.proofs.Common.{◌≡◌, Bool, true, false, List, [], ◌∷◌, ◌++◌, ℕ, ap, is_ok, refl, subst, sym, ⊎_elim}
 use Rattle.std.specs.Prelude.{Err, IfOk, Ok, OnErr, OnOk, Result}
-use Rattle.blob_directory.specs.Names.{Edit, binds, directory_at, entry, exchanges, file, frees, moves}
+use Rattle.blob_directory.specs.Names.{Edit, binds, directory_at, entry, exchanges, file, frees, moves, resizes}
 use Rattle.blob_directory.specs.declared.table.Table.{Table}
 use Rattle.blob_directory.specs.Tables.{bound}
 use Rattle.blob_directory.specs.Sectors.{Found, found_in, sector_of}
 use Rattle.blob_journal.specs.Told.{Grows}
 use Rattle.blob_journal.proofs.Growing.{grows_added}
+use Rattle.blob_fs.specs.declared.file_system.Descriptor.{Descriptor}
 use Rattle.blob_fs.specs.declared.file_system.FileSystem.{FileSystem}
 use Rattle.blob_fs.specs.declared.renames.Rename as rename
 use Rattle.blob_fs.specs.declared.run.Call.{Call}
 use Rattle.blob_fs.specs.declared.run.Call.TheVariants.{Create, MakeDirectory, Link, Unlink, RemoveDirectory, Rename, Open, OpenTruncated, Close, Read, Write, Truncate, Sync, SyncData, SyncDirectory, SyncAll, Settle}
 use Rattle.blob_fs.specs.declared.switches.Syncs.TheVariants.{Honest}
-use Rattle.blob_fs.specs.Files.{AddsTold, GrowsTold, KeepsNames, KeepsTold, MakesEdit, SameNames, SettlesSome, fresh_inode, syncs_of, told_of}
+use Rattle.blob_fs.specs.Files.{AddsTold, GrowsTold, KeepsNames, KeepsTold, MakesEdit, MayResize, MayTruncate, SameNames, SettlesSome, fresh_inode, syncs_of, told_of}
 use Rattle.blob_fs.specs.Calls.{ByResult, Does, DoesAll, Leaves, Makes, MakesIf, Renames, Unchanged, Moved, Exchanged, SyncsIf}
 use Rattle.blob_fs.specs.Fixed.{KeepsUnreached}
 use Rattle.blob_fs.proofs.Growing.{grows_kept}
@@ -70,8 +71,11 @@ leaves fs fs' names told = record { recorded = told; names = same fs fs' names }
 
 -- no edit is changed by a call
 
+grows_added_one : {R : Type 0} (edit : Edit) (fs fs' : FileSystem R) → AddsTold edit fs fs' → GrowsTold fs fs'
+grows_added_one edit fs fs' told = subst (λ (l : List Found). Grows (told_of fs) l) (sym told) (grows_added (told_of fs) (found_in (sector_of edit false) ∷ []))
+
 grows_makes : {R : Type 0} (edit : Edit) (fs fs' : FileSystem R) → Makes edit fs fs' → GrowsTold fs fs'
-grows_makes edit fs fs' m = subst (λ (l : List Found). Grows (told_of fs) l) (sym m.recorded) (grows_added (told_of fs) (found_in (sector_of edit false) ∷ []))
+grows_makes edit fs fs' m = grows_added_one edit fs fs' m.recorded
 
 pub grows_leaves : {R : Type 0} (fs fs' : FileSystem R) → Leaves fs fs' → GrowsTold fs fs'
 grows_leaves fs fs' l = grows_kept (told_of fs) (told_of fs') l.recorded
@@ -79,6 +83,12 @@ grows_leaves fs fs' l = grows_kept (told_of fs) (told_of fs') l.recorded
 grows_if : {R : Type 0} (ok : Bool) (edit : Edit) (fs fs' : FileSystem R) → MakesIf ok edit fs fs' → GrowsTold fs fs'
 grows_if true edit fs fs' m = grows_makes edit fs fs' m
 grows_if false edit fs fs' m = grows_leaves fs fs' m
+
+grows_resize : {R : Type 0} (inode : ℕ) (fs fs' : FileSystem R) → MayResize inode fs fs' → GrowsTold fs fs'
+grows_resize inode fs fs' may = ⊎_elim (grows_kept (told_of fs) (told_of fs')) (grows_added_one (resizes inode) fs fs') may
+
+grows_truncate : {R : Type 0} (f : Descriptor) (fs fs' : FileSystem R) → MayTruncate f fs fs' → GrowsTold fs fs'
+grows_truncate f fs fs' may = ⊎_elim (grows_kept (told_of fs) (told_of fs')) (λ t. grows_added_one (resizes t.0) fs fs' t.2) may
 
 pub grows_renames : {R : Type 0} (how : rename.Rename) (old new : List ℕ) (fs fs' : FileSystem R) → Renames how old new fs fs' → GrowsTold fs fs'
 grows_renames how old new fs fs' (Unchanged to is at other left) = grows_leaves fs fs' left
@@ -94,11 +104,11 @@ grows_does (RemoveDirectory d name) ok fs fs' m = grows_if ok (frees d name.item
 grows_does (Rename from old to new how) true fs fs' m = grows_renames how (entry from old.items) (entry to new.items) fs fs' m
 grows_does (Rename from old to new how) false fs fs' m = grows_leaves fs fs' m
 grows_does (Open i) ok fs fs' m = grows_leaves fs fs' m
-grows_does (OpenTruncated i) ok fs fs' m = grows_leaves fs fs' m
+grows_does (OpenTruncated i) ok fs fs' m = grows_resize i fs fs' m.1
 grows_does (Close f) ok fs fs' m = grows_leaves fs fs' m
 grows_does (Read f offset len) ok fs fs' m = grows_leaves fs fs' m
 grows_does (Write f offset bytes) ok fs fs' m = grows_leaves fs fs' m.0
-grows_does (Truncate f length) ok fs fs' m = grows_leaves fs fs' m
+grows_does (Truncate f length) ok fs fs' m = grows_truncate f fs fs' m.1
 grows_does (Sync f) ok fs fs' m = m.0.1.grows
 grows_does (SyncData f) ok fs fs' m = m.0.1.grows
 grows_does (SyncDirectory d) ok fs fs' m = m.0.1.grows

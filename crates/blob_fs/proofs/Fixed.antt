@@ -1,7 +1,8 @@
 -- Open files and their fixed bytes, through changes of the map of files and of the store.
-use Rattle.std.proofs.Common.{◌≡◌, ◌≢◌, ◌<◌, ◌≤◌, ◌⊎◌, ◌^◌, ℕ, Bool, true, false, List, cond, inl, inr, ⊎_elim, Option, None, Some, refl, sym, ap, subst, ◌∙◌, arith}
+use Rattle.std.proofs.Common.{◌≡◌, ◌≢◌, ◌<◌, ◌≤◌, ◌⊎◌, ◌^◌, ℕ, zero, suc, true, false, List, [], ◌∷◌, ◌++◌, cond, inl, inr, ⊎_elim, Option, None, Some, refl, sym, ap, subst, ◌∙◌, arith}
 use Rattle.std.proofs.Math.Logic.{∥∥₁_elim, ∥∥₁_map, ∥∥₁_prop}
-use Rattle.std.specs.Prelude.{Err, IsSome, Ok, OnErr, OnOk, Result, length, take}
+use Rattle.std.specs.Prelude.{All, Err, IsSome, Ok, OnErr, OnOk, Result}
+use Rattle.std.proofs.lemmas.List.Elements.{All-append}
 use Rattle.std.specs.Map.{lookup}
 use Rattle.std.specs.BTreeMap.{BTreeMap, Updates, WritesThrough, get, is_at}
 use Rattle.std.specs.Coded.{Coded-set, coded_bool}
@@ -9,13 +10,14 @@ use Rattle.std.specs.Ordering.{is_eq, nat_cmp}
 use Rattle.std.proofs.lemmas.Bool.{cases_Bool, cond-false, cond-true, false≢true}
 use Rattle.blob_journal.specs.declared.journaled.Journaled.{Journaled}
 use Rattle.blob_journal.specs.declared.store.FileBlob.{FileBlob}
-use Rattle.blob_journal.specs.Fixed.{ChangesOpen, HasFixed, IsOpen, KeepsOpen, KeepsOpenBut, has_byte}
+use Rattle.blob_journal.specs.Fixed.{ChangesOpen, HasFixed, IsOpen, KeepsOpen, KeepsOpenBut}
 use Rattle.blob_fs.specs.declared.file_system.Descriptor.{Descriptor}
 use Rattle.blob_fs.specs.declared.file_system.File.{File}
 use Rattle.blob_fs.specs.declared.file_system.FileSystem.{FileSystem}
 use Rattle.blob_fs.specs.Bytes.{file_in}
 use Rattle.blob_fs.specs.Files.{fresh_inode, inode_opened, journaled_of}
-use Rattle.blob_fs.specs.Fixed.{IsFixed, KeepsFixed, KeepsFixedBut, KeepsSpared}
+use Rattle.blob_fs.specs.Fixed.{IsFixed, IsSyncedAt, KeepsFixed, KeepsFixedBut, KeepsSpared}
+use Rattle.blob_fs.specs.declared.truncation.Truncation.{Truncation}
 use Rattle.blob_fs.specs.Open.{AllOpen, SameContent}
 use Rattle.blob_fs.proofs.Recovering.{key_is, key_self}
 
@@ -31,20 +33,30 @@ none_some e = cc
 abbrev pub SameContents : BTreeMap ℕ File → BTreeMap ℕ File → Type 0
 SameContents m n = (k : ℕ) (now : File) → get nat_cmp n k ≡ Some now → (was : File) × (get nat_cmp m k ≡ Some was) × SameContent was now
 
+-- a position that was synced in a file is in one of the same synced size and truncations
+pub synced_kept : (at : ℕ) (was now : File) → now.synced ≡ was.synced → now.truncations.items ≡ was.truncations.items → IsSyncedAt was at → IsSyncedAt now at
+synced_kept at was now synced truncations is = record {
+  below = subst (λ (n : ℕ). at < n) (sym synced) is.below;
+  uncut = subst (λ (ts : List Truncation). All (λ t. at < t.length) ts) (sym truncations) is.uncut;
+}
+
+pub synced_same : (at : ℕ) (was now : File) → SameContent was now → IsSyncedAt was at → IsSyncedAt now at
+synced_same at was now same is = synced_kept at was now same.synced same.truncations is
+
 pub contents_self : (m : BTreeMap ℕ File) → SameContents m m
-contents_self m k now at = (now, at, record { blob = refl; synced = refl })
+contents_self m k now at = (now, at, record { blob = refl; synced = refl; truncations = refl })
 
 pub contents_same : (m n : BTreeMap ℕ File) → n ≡ m → SameContents m n
 contents_same m n e = subst (λ x. SameContents m x) (sym e) (contents_self m)
 
 pub contents_entries : (m n : BTreeMap ℕ File) → n.entries ≡ m.entries → SameContents m n
-contents_entries m n e k now at = (now, ap (λ (es : List (ℕ × File)). lookup (is_at (nat_cmp k)) es) (sym e) ∙ at, record { blob = refl; synced = refl })
+contents_entries m n e k now at = (now, ap (λ (es : List (ℕ × File)). lookup (is_at (nat_cmp k)) es) (sym e) ∙ at, record { blob = refl; synced = refl; truncations = refl })
 
 pub contents_twice : (a b c : BTreeMap ℕ File) → SameContents a b → SameContents b c → SameContents a c
 contents_twice a b c f g k now at =
     let one = g k now at in
     let two = f k one.0 one.1 in
-    (two.0, two.1, record { blob = one.2.blob ∙ two.2.blob; synced = one.2.synced ∙ two.2.synced })
+    (two.0, two.1, record { blob = one.2.blob ∙ two.2.blob; synced = one.2.synced ∙ two.2.synced; truncations = one.2.truncations ∙ two.2.truncations })
 
 -- one file has changed
 abbrev pub Sets : BTreeMap ℕ File → BTreeMap ℕ File → ℕ → File → Type 0
@@ -59,7 +71,7 @@ contents_set m n k was now at sets same q x there = ⊎_elim
     (λ y. let e : k ≡ q = key_is k q y in
     let is : now ≡ x = some_same (sym (sets q ∙ cond-true (is_eq (nat_cmp k q)) (Some now) (get nat_cmp m q) y) ∙ there) in
     (was, subst (λ (i : ℕ). get nat_cmp m i ≡ Some was) e (sym at), subst (λ (f : File). SameContent was f) is same))
-    (λ n'. (x, sym (sets q ∙ cond-false (is_eq (nat_cmp k q)) (Some now) (get nat_cmp m q) n') ∙ there, record { blob = refl; synced = refl }))
+    (λ n'. (x, sym (sets q ∙ cond-false (is_eq (nat_cmp k q)) (Some now) (get nat_cmp m q) n') ∙ there, record { blob = refl; synced = refl; truncations = refl }))
     (cases_Bool (is_eq (nat_cmp k q)))
 
 -- through `get_mut`
@@ -70,7 +82,7 @@ contents_through m n k was now at w same = contents_set m n k was now at (sets_t
 pub contents_without : (m n : BTreeMap ℕ File) (k : ℕ) → Updates nat_cmp m n k None → SameContents m n
 contents_without m n k u q x there = ⊎_elim
     (λ y. absurd (none_some (sym (u.0 q ∙ cond-true (is_eq (nat_cmp k q)) None (get nat_cmp m q) y) ∙ there)))
-    (λ n'. (x, sym (u.0 q ∙ cond-false (is_eq (nat_cmp k q)) None (get nat_cmp m q) n') ∙ there, record { blob = refl; synced = refl }))
+    (λ n'. (x, sym (u.0 q ∙ cond-false (is_eq (nat_cmp k q)) None (get nat_cmp m q) n') ∙ there, record { blob = refl; synced = refl; truncations = refl }))
     (cases_Bool (is_eq (nat_cmp k q)))
 
 -- Stores that keep open files.
@@ -108,6 +120,14 @@ changes_before spares a b c file file' changes keeps = record {
         still = λ other f low apart o. keeps.still other f (but.still other f low apart o);
         fixed = λ other f at byte low apart o has. keeps.fixed f at byte (but.fixed other f at byte low apart o has);
       };
+}
+
+-- one that spares less
+pub changes_less : {R : Type 0} (spares less : ℕ → Type 0) (a b : Journaled R) (file file' : FileBlob) → ((at : ℕ) → less at → spares at) → ChangesOpen spares a file b file' → ChangesOpen less a file b file'
+changes_less spares less a b file file' within changes = record {
+  still = changes.still;
+  fixed = λ at byte spared h. changes.fixed at byte (within at spared) h;
+  others = changes.others;
 }
 
 -- a call on the same blob
@@ -202,7 +222,7 @@ module _ {R : Type 0} (fs fs' : FileSystem R) (more : fresh_inode fs ≤ fresh_i
   pub fixed_after : SameContents fs.files fs'.files → KeepsOpen (journaled_of fs) (journaled_of fs') → KeepsFixed fs fs'
   fixed_after same keeps inode at byte below f = record {
     numbered = omega (arith, more, f.numbered);
-    synced = λ now there. let it = same inode now there in subst (λ (n : ℕ). at < n) (sym it.2.synced) (f.synced it.0 it.1);
+    synced = λ now there. let it = same inode now there in synced_same at it.0 now it.2 (f.synced it.0 it.1);
     fixed = λ now there. let it = same inode now there in
         subst (λ (b : FileBlob). HasFixed (journaled_of fs') b at byte) (sym it.2.blob) (keeps.fixed it.0.blob at byte (f.fixed it.0 it.1));
   }
@@ -211,14 +231,14 @@ module _ {R : Type 0} (fs fs' : FileSystem R) (more : fresh_inode fs ≤ fresh_i
   module _ (spares : ℕ → Type 0) (k : ℕ) (was now : File) (small : k < 2 ^ 64) (here : Some was ≡ file_in fs k) (sets : Sets fs.files fs'.files k now)
       (changes : ChangesOpen spares (journaled_of fs) was.blob (journaled_of fs') now.blob) (opened : ∥ AllOpen (journaled_of fs) fs.files ∥₁) where
     -- its fixed bytes that the call spares
-    own : (at byte : ℕ) → ((at < was.synced) → HasFixed (journaled_of fs') now.blob at byte → at < now.synced) → spares at → IsFixed fs k at byte → IsFixed fs' k at byte
+    own : (at byte : ℕ) → (spares at → IsSyncedAt was at → HasFixed (journaled_of fs') now.blob at byte → IsSyncedAt now at) → spares at → IsFixed fs k at byte → IsFixed fs' k at byte
     own at byte synced spared f =
         let fixed : HasFixed (journaled_of fs') now.blob at byte = changes.fixed at byte spared (f.fixed was (sym here)) in
-        let long : at < now.synced = synced (f.synced was (sym here)) fixed in
+        let long : IsSyncedAt now at = synced spared (f.synced was (sym here)) fixed in
         let is : (x : File) → file_in fs' k ≡ Some x → now ≡ x = λ x there. some_same (sym (sets k ∙ cond-true (is_eq (nat_cmp k k)) (Some now) (file_in fs k) (key_self k)) ∙ there) in
         record {
           numbered = omega (arith, more, f.numbered);
-          synced = λ x there. subst (λ (y : File). at < y.synced) (is x there) long;
+          synced = λ x there. subst (λ (y : File). IsSyncedAt y at) (is x there) long;
           fixed = λ x there. subst (λ (y : File). HasFixed (journaled_of fs') y.blob at byte) (is x there) fixed;
         }
 
@@ -236,7 +256,7 @@ module _ {R : Type 0} (fs fs' : FileSystem R) (more : fresh_inode fs ≤ fresh_i
               (each inode x below (before x there)) (f.fixed x (before x there)));
         }
 
-    pub fixed_changed : (inode at byte : ℕ) → inode < 2 ^ 64 → (inode ≢ k) ⊎ spares at → ((at < was.synced) → HasFixed (journaled_of fs') now.blob at byte → at < now.synced)
+    pub fixed_changed : (inode at byte : ℕ) → inode < 2 ^ 64 → (inode ≢ k) ⊎ spares at → (spares at → IsSyncedAt was at → HasFixed (journaled_of fs') now.blob at byte → IsSyncedAt now at)
         → IsFixed fs inode at byte → IsFixed fs' inode at byte
     fixed_changed inode at byte below spared synced f = ⊎_elim
         (λ y. let e : k ≡ inode = key_is k inode y in
@@ -285,10 +305,24 @@ fixed_same a b e inode at byte below h = subst (λ x. IsFixed x inode at byte) (
 -- A call on a descriptor that changes one file, after one that keeps fixed bytes, and the counting after it.
 pub keeps_spared : {R : Type 0} (fs one fs' : FileSystem R) (descriptor : Descriptor) (spares : ℕ → Type 0) (j : Journaled R) (n : BTreeMap ℕ File) (k : ℕ) (was now : File)
     → inode_opened fs descriptor ≡ Some k → KeepsFixed fs one → fresh_inode fs' ≡ fresh_inode one → fs'.files ≡ n → journaled_of fs' ≡ j → k < 2 ^ 64 → Some was ≡ file_in one k → Sets one.files n k now
-    → ChangesOpen spares (journaled_of one) was.blob j now.blob → now.synced ≡ was.synced → ∥ AllOpen (journaled_of one) one.files ∥₁ → KeepsSpared descriptor spares fs fs'
+    → ChangesOpen spares (journaled_of one) was.blob j now.blob → ((at : ℕ) → spares at → IsSyncedAt was at → IsSyncedAt now at) → ∥ AllOpen (journaled_of one) one.files ∥₁ → KeepsSpared descriptor spares fs fs'
 keeps_spared {R} fs one fs' descriptor spares j n k was now of keeps same files store small here sets changes synced opened inode at byte below spared f =
     let more : fresh_inode one ≤ fresh_inode fs' = omega (arith, same) in
     fixed_changed one fs' more spares k was now small here (subst (λ (m : BTreeMap ℕ File). Sets one.files m k now) (sym files) sets)
     (subst (λ (s : Journaled R). ChangesOpen spares (journaled_of one) was.blob s now.blob) (sym store) changes) opened inode at byte below
     (⊎_elim (λ apart. inl (λ e. apart (of ∙ ap (λ (i : ℕ). let o : Option ℕ = Some i in o) (sym e)))) (λ s. inr s) spared)
-    (λ long has. subst (λ (m : ℕ). at < m) (sym synced) long) (keeps inode at byte below f)
+    (λ s long has. synced at s long) (keeps inode at byte below f)
+
+pub all_none : {X : Type 0} (P : X → Type 0) → All P []
+all_none P k d less = absurd (omega (arith, less))
+
+all_one : {X : Type 0} (P : X → Type 0) (x : X) → P x → All P (x ∷ [])
+all_one P x p zero d less = p
+all_one P x p (suc k) d less = absurd (omega (arith, less))
+
+-- a position below one more truncation
+pub synced_more : (at : ℕ) (was now : File) (t : Truncation) → now.synced ≡ was.synced → now.truncations.items ≡ was.truncations.items ++ t ∷ [] → at < t.length → IsSyncedAt was at → IsSyncedAt now at
+synced_more at was now t synced more short is = record {
+  below = subst (λ (n : ℕ). at < n) (sym synced) is.below;
+  uncut = subst (λ (ts : List Truncation). All (λ t. at < t.length) ts) (sym more) (All-append (λ t. at < t.length) was.truncations.items (t ∷ []) is.uncut (all_one (λ t. at < t.length) t short));
+}

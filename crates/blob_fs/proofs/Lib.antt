@@ -1,5 +1,7 @@
+mod Drawing
 pub mod Calls
 pub mod Growing
+pub mod Truncating
 pub mod Cutting
 pub mod Crashed
 pub mod Recovering
@@ -10,3 +12,4 @@ pub mod Synced
 pub mod Fixed
 pub mod Unreached
 pub mod Syncing
+pub mod Fixing

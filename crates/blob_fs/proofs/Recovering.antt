@@ -19,10 +19,12 @@ use Rattle.blob_journal.specs.declared.journaled.Journaled.{Journaled}
 use Rattle.blob_journal.specs.declared.store.FileBlob.{FileBlob}
 use Rattle.blob_journal.specs.Blobs.{CurrentStays, DurableIsFound, DurableStays, HasDurable, ReadsSeen, SameFile, SameFilesBut, SameTwice, bytes_of}
 use Rattle.blob_journal.specs.Fixed.{IsOpen}
+use Rattle.blob_fs.specs.declared.truncation.Kept.{Kept}
+use Rattle.blob_fs.specs.declared.truncations.Loss.{Loss}
 use Rattle.blob_fs.specs.declared.file_system.File.{File}
 use Rattle.blob_fs.specs.declared.file_system.FileSystem.{FileSystem}
 use Rattle.blob_fs.specs.Files.{file_of, journaled_of, names_of, shown}
-use Rattle.blob_fs.specs.Bytes.{HasBytes, HasNoOrphan, HasOnlyLinked, IsLeft, KeepsBlobsOf, Reopens, ReopensAll, ReopensIn, bytes_read, left_of}
+use Rattle.blob_fs.specs.Bytes.{HasBytes, HasNoOrphan, HasOnlyLinked, IsLeft, KeepsBlobsOf, Reopens, ReopensAll, ReopensIn, bytes_read, left_after}
 use Rattle.blob_fs.specs.Open.{AllOpen}
 
 -- Keys of a map.
@@ -83,43 +85,43 @@ linked_rest tree k links rest h i there = h i (⊎_elim
 
 -- The turns of the loop.
 
-module _ {R : Type 0} (j : Journaled R) (old : BTreeMap ℕ File) (tree : Tree) (cuts : Bool) where
+module _ {R : Type 0} (j : Journaled R) (old : BTreeMap ℕ File) (tree : Tree) (kept : Kept) (loss : Loss) where
   -- each file that the tree counts is among those that are left, with the same blob, or was opened again
   abbrev pub Stands : List (ℕ × ℕ) → Journaled R → BTreeMap ℕ File → Type 0
   Stands rest j' files = (i : ℕ) → i < 2 ^ 64 → has_link tree i ≡ true
-      → ((is_left rest i ≡ true) × SameFile i j j') ⊎ ((is_left rest i ≡ false) × ReopensIn j i (get nat_cmp old i) cuts j' files)
+      → ((is_left rest i ≡ true) × SameFile i j j') ⊎ ((is_left rest i ≡ false) × ReopensIn j i old kept loss j' files)
 
   pub begins : (files : BTreeMap ℕ File) → Stands tree.links.entries j files
   begins files i below linked = inl (linked, record { file = refl; durable = λ o x y. refl })
 
-  pub ends : (j' : Journaled R) (files : BTreeMap ℕ File) → Stands [] j' files → ReopensAll j old tree cuts j' files
+  pub ends : (j' : Journaled R) (files : BTreeMap ℕ File) → Stands [] j' files → ReopensAll j old tree kept loss j' files
   ends j' files stands i below linked = ⊎_elim (λ w. absurd (false≢true w.0)) (λ d. d.1) (stands i below linked)
 
   module _ (current : CurrentStays R) (stays : DurableStays R) (twice : SameTwice R) (k links : ℕ) (rest : List (ℕ × ℕ)) (a b : Journaled R) (before after : BTreeMap ℕ File) (file : File) (sorted : Ascend ((k, links) ∷ rest))
-      (added : (q : ℕ) → get nat_cmp after q ≡ cond (is_eq (nat_cmp k q)) (Some file) (get nat_cmp before q)) (others : SameFilesBut k a b) (left : Reopens a k (get nat_cmp old k) cuts b file) where
+      (added : (q : ℕ) → get nat_cmp after q ≡ cond (is_eq (nat_cmp k q)) (Some file) (get nat_cmp before q)) (others : SameFilesBut k a b) (left : Reopens a k old kept loss b file) where
     here : get nat_cmp after k ≡ Some file
     here = added k ∙ cond-true (is_eq (nat_cmp k k)) (Some file) (get nat_cmp before k) (key_self k)
 
     -- the file that is opened now
-    now : SameFile k j a → ReopensIn j k (get nat_cmp old k) cuts b after
+    now : SameFile k j a → ReopensIn j k old kept loss b after
     now same = record {
-      found = left.found;
+      bytes = left.bytes;
       is = λ bytes is. left.is bytes (current j a k same ∙ is);
       left = record { file = file; at = here; left = left.left };
     }
 
     -- one that was opened before
-    still : (i : ℕ) → i < 2 ^ 64 → is_eq (nat_cmp i k) ≡ false → ReopensIn j i (get nat_cmp old i) cuts a before → ReopensIn j i (get nat_cmp old i) cuts b after
+    still : (i : ℕ) → i < 2 ^ 64 → is_eq (nat_cmp i k) ≡ false → ReopensIn j i old kept loss a before → ReopensIn j i old kept loss b after
     still i below n d =
         let l = d.left in
         record {
-          found = d.found;
+          bytes = d.bytes;
           is = d.is;
           left = record {
             file = l.file;
             at = added i ∙ cond-false (is_eq (nat_cmp k i)) (Some file) (get nat_cmp before i) (key_apart i k n) ∙ l.at;
             left = record {
-              has = stays a b i l.file.blob (left_of cuts (get nat_cmp old i) d.found) (others i below (apart_keys i k n)) l.left.has;
+              has = stays a b i l.file.blob (left_after kept loss i (get nat_cmp old i) d.bytes) (others i below (apart_keys i k n)) l.left.has;
               synced = l.left.synced;
               size = l.left.size;
               there = l.left.there;
@@ -134,7 +136,7 @@ module _ {R : Type 0} (j : Journaled R) (old : BTreeMap ℕ File) (tree : Tree) 
         inr (
           ap (λ x. is_left rest x) e ∙ ap is_some (none_after k rest (ascend_parts (k, links) rest sorted).0),
           ⊎_elim
-              (λ w. subst (λ x. ReopensIn j x (get nat_cmp old x) cuts b after) (sym e) (now (subst (λ x. SameFile x j a) e w.1)))
+              (λ w. subst (λ x. ReopensIn j x old kept loss b after) (sym e) (now (subst (λ x. SameFile x j a) e w.1)))
               (λ d. absurd (false≢true (sym d.0 ∙ left_first i k links rest y)))
               (stands i below linked),
         ))
@@ -167,7 +169,7 @@ no_orphan fs tree same named only inode none = ⊎_elim
 there_is : (file : File) → file.is_gone ≡ false → shown file ≡ Some file
 there_is file e = ap (λ (b : Bool). if b then None else Some file) e
 
-read_is : (file : File) (bytes : List ℕ) → file.shown ≡ None → bytes_of file.blob ≡ bytes → bytes_read file ≡ bytes
+pub read_is : (file : File) (bytes : List ℕ) → file.shown ≡ None → bytes_of file.blob ≡ bytes → bytes_read file ≡ bytes
 read_is file bytes none is = ap (λ (s : Option (Vec ℕ Global)). elim s [ None ↦ bytes_of file.blob | Some v ↦ v.items ]) none ∙ is
 
 pub has_bytes : {R : Type 0} → DurableIsFound R → ReadsSeen → (fs : FileSystem R) (inode : ℕ) (found bytes : List ℕ) (file : File) → get nat_cmp fs.files inode ≡ Some file
@@ -199,15 +201,11 @@ some_same : {A : Type 0} {x y : A} → Some x ≡ Some y → x ≡ y
 some_same e = cc
 
 -- so is each one of a map that was opened again, while its blob is the same
-pub all_open : {R : Type 0} → DurableStays R → (j a b : Journaled R) (old : BTreeMap ℕ File) (tree : Tree) (cuts : Bool) (files : BTreeMap ℕ File)
-    → ReopensAll j old tree cuts a files → HasOnlyLinked tree files → KeepsBlobsOf files a b → AllOpen b files
-all_open stays j a b old tree cuts files all only same inode file below at =
+pub all_open : {R : Type 0} → DurableStays R → (j a b : Journaled R) (old : BTreeMap ℕ File) (tree : Tree) (kept : Kept) (loss : Loss) (files : BTreeMap ℕ File)
+    → ReopensAll j old tree kept loss a files → HasOnlyLinked tree files → KeepsBlobsOf files a b → AllOpen b files
+all_open stays j a b old tree kept loss files all only same inode file below at =
     let d = all inode below (only inode (ap is_some at)) in
     let l = d.left in
-    let has : HasDurable b inode l.file.blob (left_of cuts (get nat_cmp old inode) d.found) =
-    stays a b inode l.file.blob (left_of cuts (get nat_cmp old inode) d.found) (same inode file below at) l.left.has in
-    subst (λ (f : File). IsOpen b inode f.blob) (some_same (sym l.at ∙ at)) (durable_open b inode l.file.blob (left_of cuts (get nat_cmp old inode) d.found) has)
-
--- a blob is the same after no call
-pub same_now : {R : Type 0} (j : Journaled R) (files : BTreeMap ℕ File) → KeepsBlobsOf files j j
-same_now j files inode file below at = record { file = refl; durable = λ o x y. refl }
+    let bytes = left_after kept loss inode (get nat_cmp old inode) d.bytes in
+    let has : HasDurable b inode l.file.blob bytes = stays a b inode l.file.blob bytes (same inode file below at) l.left.has in
+    subst (λ (f : File). IsOpen b inode f.blob) (some_same (sym l.at ∙ at)) (durable_open b inode l.file.blob bytes has)

@@ -3,7 +3,9 @@ use Rattle.std.proofs.Common.{◌≡◌, ◌≤◌, ◌==◌, ℕ, suc, Bool, tr
 use Rattle.std.proofs.lemmas.Bool.{cond-true, eq-eqb}
 use Rattle.std.proofs.lemmas.List.{length-drop}
 use Rattle.blob_fs.specs.declared.file_system.File.{File}
-use Rattle.blob_fs.specs.Bytes.{HasBytes, bytes_left, common_length, cut_bytes, kept_length, left_of}
+use Rattle.blob_fs.specs.declared.truncation.Truncation.{Truncation}
+use Rattle.blob_fs.specs.Bytes.{HasBytes, bytes_found, bytes_left, common_length, cut_bytes, found_of, kept_by, kept_length, left_of, lost_by}
+use Rattle.blob_fs.specs.Truncations.{cut_start, truncated}
 use Rattle.blob_fs.specs.Synced.{SyncedIsFound}
 use Rattle.blob_fs.proofs.Cutting.{uncut}
 
@@ -23,12 +25,20 @@ uncut_same true synced bytes = uncut synced bytes bytes (kept_all synced bytes)
 uncut_same false synced bytes = refl
 
 pub synced_is_found : (R : Type 0) → SyncedIsFound R
-synced_is_found R fs fs' kept name inode bytes below finds synced named =
+synced_is_found R fs fs' crash name inode bytes below finds synced named =
     let cuts = fs.options.profile.cuts in
+    let kept = kept_by fs crash in
+    let lost = lost_by fs crash in
+    let was = synced.was in
     let f = finds name inode below named in
-    let same : f.found ≡ bytes = sym (f.is bytes (synced.left kept)) in
-    let cut : bytes_left fs inode bytes ≡ bytes =
-    ap (λ (old : Option File). left_of cuts old bytes) synced.at
-    ∙ ap (λ (seen : List ℕ). cut_bytes cuts synced.was.synced seen bytes) synced.seen
-    ∙ uncut_same cuts synced.was.synced bytes in
-    subst (λ (l : List ℕ). HasBytes fs' inode bytes l) cut (subst (λ (l : List ℕ). HasBytes fs' inode l (bytes_left fs inode l)) same f.has)
+    let same : f.bytes ≡ bytes = sym (f.is bytes (synced.left crash.rows)) in
+    let whole : bytes_found fs kept lost inode bytes ≡ bytes =
+    ap (λ (old : Option File). found_of kept lost inode old bytes) synced.at
+    ∙ ap (λ (ts : List Truncation). truncated kept lost inode ts bytes) synced.whole in
+    let cut : bytes_left fs lost inode bytes ≡ bytes =
+    ap (λ (old : Option File). left_of cuts lost old bytes) synced.at
+    ∙ ap (λ (seen : List ℕ). cut_bytes cuts (cut_start lost was.synced was.truncations.items) seen bytes) synced.seen
+    ∙ uncut_same cuts (cut_start lost was.synced was.truncations.items) bytes in
+    subst (λ (l : List ℕ). HasBytes fs' inode bytes l) cut
+    (subst (λ (l : List ℕ). HasBytes fs' inode l (bytes_left fs lost inode l)) whole
+    (subst (λ (l : List ℕ). HasBytes fs' inode (bytes_found fs kept lost inode l) (bytes_left fs lost inode (bytes_found fs kept lost inode l))) same f.has))

@@ -1,7 +1,7 @@
 -- Fixed bytes of files through syncs, and through a file that is opened again.
-use Rattle.std.proofs.Common.{◌≡◌, ◌<◌, ◌≤◌, ◌^◌, ◌+◌, ◌⊎◌, ℕ, List, Bool, true, false, cond, length, get_or, Option, None, Some, refl, sym, ap, subst, ◌∙◌, ⊎_elim, inl, inr, arith}
+use Rattle.std.proofs.Common.{◌≡◌, ◌<◌, ◌≤◌, ◌^◌, ◌+◌, ◌⊎◌, ℕ, List, [], Bool, true, false, cond, length, get_or, Option, None, Some, refl, sym, ap, subst, ◌∙◌, ⊎_elim, inl, inr, arith}
 use Rattle.std.proofs.Math.Logic.{∥∥₁_map}
-use Rattle.std.specs.Prelude.{Contains, option_and_then}
+use Rattle.std.specs.Prelude.{All, Contains, option_and_then}
 use Rattle.std.specs.BTreeMap.{BTreeMap, get, is_at}
 use Rattle.std.specs.Map.{lookup}
 use Rattle.std.specs.Ordering.{is_eq, nat_cmp}
@@ -17,9 +17,10 @@ use Rattle.blob_fs.specs.declared.file_system.File.{File}
 use Rattle.blob_fs.specs.declared.file_system.FileSystem.{FileSystem}
 use Rattle.blob_fs.specs.Bytes.{file_in}
 use Rattle.blob_fs.specs.Files.{file_of, fresh_inode, journaled_of, shown}
-use Rattle.blob_fs.specs.Fixed.{FixesAll, FixesInode, HasSeen, IsFixed, KeepsFixed, KeepsSeen, ListsFiles}
+use Rattle.blob_fs.specs.declared.truncation.Truncation.{Truncation}
+use Rattle.blob_fs.specs.Fixed.{FixesAll, FixesInode, HasSeen, IsFixed, IsSyncedAt, KeepsFixed, KeepsSeen, ListsFiles}
 use Rattle.blob_fs.specs.Open.{AllOpen}
-use Rattle.blob_fs.proofs.Fixed.{Sets, fixed_by}
+use Rattle.blob_fs.proofs.Fixed.{Sets, all_none, fixed_by}
 use Rattle.blob_fs.proofs.Recovering.{key_is, key_self}
 
 some_same : {A : Type 0} {x y : A} → Some x ≡ Some y → x ≡ y
@@ -45,18 +46,25 @@ set_beside m n k q now x sets apart there = sym (sets q ∙ cond-false (is_eq (n
 pub seen_below : (file : FileBlob) (at byte : ℕ) → has_byte at byte (bytes_of file) ≡ true → at < size_of file.blob
 seen_below file at byte seen = (seen_parts at byte (size_of file.blob) _ seen).0
 
+-- a file whose synced size is that of its blob, and that wasn't truncated since, is synced up to there
+pub synced_whole : (at : ℕ) (now : File) → now.synced ≡ size_of now.blob.blob → now.truncations.items ≡ [] → at < size_of now.blob.blob → IsSyncedAt now at
+synced_whole at now size uncut below = record {
+  below = subst (λ (n : ℕ). at < n) (sym size) below;
+  uncut = subst (λ (ts : List Truncation). All (λ t. at < t.length) ts) (sym uncut) (all_none (λ t. at < t.length));
+}
+
 -- All bytes of a file that calls see are fixed, if its new synced size is that of its blob.
 pub fixes_synced : {R : Type 0} (fs fs' : FileSystem R) (k : ℕ) (was now : File) → k < fresh_inode fs' → Some was ≡ file_in fs k → Sets fs.files fs'.files k now
-    → FixesOpen (journaled_of fs) was.blob (journaled_of fs') now.blob → now.synced ≡ size_of now.blob.blob → ∥ AllOpen (journaled_of fs) fs.files ∥₁ → FixesInode k fs fs'
-fixes_synced fs fs' k was now numbered here sets fixes size opened = record {
+    → FixesOpen (journaled_of fs) was.blob (journaled_of fs') now.blob → now.synced ≡ size_of now.blob.blob → now.truncations.items ≡ [] → ∥ AllOpen (journaled_of fs) fs.files ∥₁ → FixesInode k fs fs'
+fixes_synced fs fs' k was now numbered here sets fixes size uncut opened = record {
   was = was;
   there = sym here;
   fixed = λ at byte below has.
       let is : HasFixed (journaled_of fs') now.blob at byte = fixed_by opened (λ each. fixes k (each k was below (sym here)) at byte has) in
-      let long : at < now.synced = subst (λ (n : ℕ). at < n) (sym size) (seen_below now.blob at byte is.seen) in
+      let long : IsSyncedAt now at = synced_whole at now size uncut (seen_below now.blob at byte is.seen) in
       record {
         numbered = numbered;
-        synced = λ x there. subst (λ (y : File). at < y.synced) (set_here fs.files fs'.files k now x sets there) long;
+        synced = λ x there. subst (λ (y : File). IsSyncedAt y at) (set_here fs.files fs'.files k now x sets there) long;
         fixed = λ x there. subst (λ (y : File). HasFixed (journaled_of fs') y.blob at byte) (set_here fs.files fs'.files k now x sets there) is;
       };
 }
@@ -91,18 +99,18 @@ opened_again j j' m n k now sets keeps again h = ∥∥₁_map h (λ each inode 
 
 -- what was fixed is
 pub fixed_again : {R : Type 0} (fs fs' : FileSystem R) → fresh_inode fs ≤ fresh_inode fs' → (k : ℕ) (was now : File) → Some was ≡ file_in fs k → Sets fs.files fs'.files k now
-    → now.synced ≡ was.synced → KeepsOpen (journaled_of fs) (journaled_of fs') → ReopensFile (journaled_of fs) k (journaled_of fs') now.blob
+    → ((at : ℕ) → IsSyncedAt was at → IsSyncedAt now at) → KeepsOpen (journaled_of fs) (journaled_of fs') → ReopensFile (journaled_of fs) k (journaled_of fs') now.blob
     → ∥ AllOpen (journaled_of fs) fs.files ∥₁ → KeepsFixed fs fs'
 fixed_again fs fs' more k was now here sets size keeps again opened inode at byte below f = ⊎_elim
     (λ y. let e : k ≡ inode = key_is k inode y in
     let there : file_in fs inode ≡ Some was = subst (λ (i : ℕ). file_in fs i ≡ Some was) e (sym here) in
     let is : (x : File) → file_in fs' inode ≡ Some x → now ≡ x = λ x at_x. set_here fs.files fs'.files k now x sets (subst (λ (i : ℕ). file_in fs' i ≡ Some x) (sym e) at_x) in
-    let long : at < now.synced = subst (λ (n : ℕ). at < n) (sym size) (f.synced was there) in
+    let long : IsSyncedAt now at = size at (f.synced was there) in
     let fixed : HasFixed (journaled_of fs') now.blob at byte = fixed_by opened (λ each.
     again.fixed was.blob at byte (subst (λ (i : ℕ). IsOpen (journaled_of fs) i was.blob) (sym e) (each inode was below there)) (f.fixed was there)) in
     record {
       numbered = omega (arith, more, f.numbered);
-      synced = λ x at_x. subst (λ (z : File). at < z.synced) (is x at_x) long;
+      synced = λ x at_x. subst (λ (z : File). IsSyncedAt z at) (is x at_x) long;
       fixed = λ x at_x. subst (λ (z : File). HasFixed (journaled_of fs') z.blob at byte) (is x at_x) fixed;
     })
     (λ n. let before : (x : File) → file_in fs' inode ≡ Some x → file_in fs inode ≡ Some x = λ x at_x. set_beside fs.files fs'.files k inode now x sets n at_x in

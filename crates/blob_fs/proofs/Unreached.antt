@@ -1,5 +1,5 @@
 -- Bytes that no call of a list reaches.
-use Rattle.std.proofs.Common.{List, [], ◌∷◌, subst, sym}
+use Rattle.std.proofs.Common.{[], ◌∷◌, subst, sym}
 use Rattle.blob_fs.specs.declared.file_system.FileSystem.{FileSystem}
 use Rattle.blob_fs.specs.Fixed.{IsFixed}
 use Rattle.blob_fs.specs.Unreached.{UnreachedStaysFixed}

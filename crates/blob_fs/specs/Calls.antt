@@ -1,8 +1,8 @@
 -- What each call of a list does, and what a crash after the list finds.
 use Rattle.std.specs.Prelude.{◌≡◌, ◌≢◌, ℕ, Bool, true, false, List, [], ◌∷◌, Some, None}
-use Rattle.blob_draws.specs.declared.selections.Selections.{Selections}
 use Rattle.blob_directory.specs.declared.edit.Binding.{Binding}
 use Rattle.blob_directory.specs.Names.{Edit, binds, directory_at, entry, exchanges, file, frees, moves}
+use Rattle.blob_fs.specs.declared.crash.Crash.{Crash}
 use Rattle.blob_fs.specs.declared.file_system.FileSystem.{FileSystem}
 use Rattle.blob_fs.specs.declared.renames.Rename.{Rename}
 use Rattle.blob_fs.specs.declared.renames.Rename.TheVariants.{NoReplace, Exchange}
@@ -13,9 +13,9 @@ use Rattle.blob_fs.specs.declared.switches.Syncs.TheVariants.{Honest}
 use Rattle.blob_fs.specs.declared.switches.FailedWrite.TheVariants.{ByMode}
 use Rattle.blob_fs.specs.declared.file_system.Descriptor.{Descriptor}
 use Rattle.blob_fs.specs.Bytes.{FindsBytes}
-use Rattle.blob_fs.specs.Fixed.{FindsFixed, KeepsUnreached}
+use Rattle.blob_fs.specs.Fixed.{FindsFixed, FixesFound, KeepsUnreached}
 use Rattle.blob_fs.specs.Writes.{RecordsWrite, failed_write_of}
-use Rattle.blob_fs.specs.Files.{AddsTold, FindsKept, FindsTold, GrowsTold, KeepsNames, KeepsTold, MakesEdit, SameNames, SettlesSome, SyncsAll, SyncsDirectory, SyncsFile, fresh_inode, names_of, syncs_of}
+use Rattle.blob_fs.specs.Files.{AddsTold, FindsKept, FindsTold, GrowsTold, KeepsNames, KeepsTold, MakesEdit, MayResize, MayTruncate, SameNames, SettlesSome, SyncsAll, SyncsDirectory, SyncsFile, fresh_inode, names_of, syncs_of}
 
 -- one more edit is recorded, which nothing has settled, and the names have it
 pub record Makes {R : Type 0} (edit : Edit) (fs fs' : FileSystem R) : Type 0 where
@@ -82,11 +82,11 @@ Does (RemoveDirectory d name) ok fs fs' = MakesIf ok (frees d name.items) fs fs'
 Does (call.Rename from old to new how) ok fs fs' =
     ByResult ok (RenamesAt how from old.items to new.items fs fs') (Leaves fs fs')
 Does (Open i) ok fs fs' = Leaves fs fs'
-Does (OpenTruncated i) ok fs fs' = Leaves fs fs'
+Does (OpenTruncated i) ok fs fs' = KeepsNames fs fs' × MayResize i fs fs'
 Does (Close f) ok fs fs' = Leaves fs fs'
 Does (Read f offset len) ok fs fs' = Leaves fs fs'
 Does (Write f offset bytes) ok fs fs' = WritesIf ok f offset bytes.items fs fs'
-Does (Truncate f length) ok fs fs' = Leaves fs fs'
+Does (Truncate f length) ok fs fs' = KeepsNames fs fs' × MayTruncate f fs fs'
 Does (Sync f) ok fs fs' = SyncsIf ok (SyncsFile fs f fs') fs fs'
 Does (SyncData f) ok fs fs' = SyncsIf ok (SyncsFile fs f fs') fs fs'
 Does (SyncDirectory d) ok fs fs' = SyncsIf ok (SyncsDirectory fs d fs') fs fs'
@@ -101,12 +101,13 @@ DoesAll (call ∷ calls) [] fs fs' = ⊥
 DoesAll {R} (call ∷ calls) (ok ∷ oks) fs fs' =
     (between : FileSystem R) × Does call ok fs between × KeepsUnreached call fs between × DoesAll calls oks between fs'
 
--- After these calls a crash that kept these rows found the names by the edits that were recorded until then.
-pub record RunsAndCrashes {R : Type 0} (fs : FileSystem R) (calls : List Call) (oks : List Bool) (rows : Selections) (fs' : FileSystem R) : Type 0 where
+-- After these calls this crash found the names by the edits that were recorded until then.
+pub record RunsAndCrashes {R : Type 0} (fs : FileSystem R) (calls : List Call) (oks : List Bool) (crash : Crash) (fs' : FileSystem R) : Type 0 where
   pub between : FileSystem R
   pub done : DoesAll calls oks fs between
   pub grows : GrowsTold fs between
-  pub kept : FindsKept between rows fs'
+  pub kept : FindsKept between crash.rows fs'
   pub finds : FindsTold between fs'
-  pub bytes : FindsBytes between rows fs'
+  pub bytes : FindsBytes between crash fs'
   pub fixed : FindsFixed between fs'
+  pub fixes : FixesFound between fs'

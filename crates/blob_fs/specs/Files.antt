@@ -1,5 +1,5 @@
 -- The names of a file system, and what its calls leave of them.
-use Rattle.std.specs.Prelude.{◌≡◌, ℕ, List, Bool, Option, None, Some, if◌then◌else◌, option_and_then, option_map, unwrap_or}
+use Rattle.std.specs.Prelude.{◌≡◌, ◌⊎◌, ℕ, List, Bool, Option, None, Some, if◌then◌else◌, option_and_then, option_map, unwrap_or}
 use Rattle.std.specs.BTreeMap.{get}
 use Rattle.std.specs.Ordering.{nat_cmp}
 use Rattle.blob_draws.specs.declared.selections.Selections.{Selections}
@@ -7,14 +7,13 @@ use Rattle.blob_fs.specs.declared.file_system.Descriptor.{Descriptor}
 use Rattle.blob_fs.specs.declared.file_system.File.{File}
 use Rattle.blob_fs.specs.declared.file_system.FileSystem.{FileSystem}
 use Rattle.blob_fs.specs.declared.switches.Syncs.{Syncs}
-use Rattle.blob_fs.specs.declared.switches.Syncs.TheVariants.{Honest}
 use Rattle.blob_directory.specs.declared.profile.Settles.{Settles}
 use Rattle.blob_directory.specs.declared.profile.Settles.TheVariants.{All}
 use Rattle.blob_directory.specs.declared.unsettled.Synced.{Synced}
 use Rattle.blob_directory.specs.declared.unsettled.Synced.TheVariants as synced
 use Rattle.blob_directory.specs.declared.profile.Keeps.{Keeps}
 use Rattle.blob_directory.specs.declared.table.Table.{Table}
-use Rattle.blob_directory.specs.Names.{Edit, Names, Same, edited}
+use Rattle.blob_directory.specs.Names.{Edit, Names, Same, edited, resizes}
 use Rattle.blob_directory.specs.Sectors.{Found}
 use Rattle.blob_directory.specs.Tables.{bound}
 use Rattle.blob_directory.specs.Trees.{Finds}
@@ -176,6 +175,18 @@ FindsTold fs fs' = finds_told (journaled_of fs) (keeps_of fs) (names_of fs')
 -- all edits that were told are settled, and they give the names
 abbrev pub GivesTold : {R : Type 0} → FileSystem R → Type 0
 GivesTold fs = gives_told (journaled_of fs)
+
+-- nothing was recorded, or the edit of a truncation of this file, which nothing has settled
+abbrev pub MayResize : {R : Type 0} → ℕ → FileSystem R → FileSystem R → Type 0
+MayResize inode fs fs' = KeepsTold fs fs' ⊎ AddsTold (resizes inode) fs fs'
+
+-- that of some file
+abbrev pub MayResizeSome : {R : Type 0} → FileSystem R → FileSystem R → Type 0
+MayResizeSome fs fs' = (inode : ℕ) × MayResize inode fs fs'
+
+-- that of a descriptor's file
+abbrev pub MayTruncate : {R : Type 0} → Descriptor → FileSystem R → FileSystem R → Type 0
+MayTruncate file fs fs' = KeepsTold fs fs' ⊎ ((inode : ℕ) × (inode_opened fs file ≡ Some inode) × AddsTold (resizes inode) fs fs')
 
 -- A file that isn't gone, by its number, and its sizes.
 

@@ -1,6 +1,10 @@
 -- Bytes of files that a sync made durable, and that no crash changes until a call reaches them.
-use Rattle.std.specs.Prelude.{◌≡◌, ◌≢◌, ◌<◌, ◌^◌, ◌⊎◌, ℕ, List, true, Contains, length, is_some, option_map, Some}
+use Rattle.std.specs.Prelude.{◌≡◌, ◌≢◌, ◌<◌, ◌^◌, ◌⊎◌, ℕ, List, true, All, Contains, length, is_some, option_map, Some}
+use Rattle.std.specs.BTreeMap.{BTreeMap, get}
+use Rattle.std.specs.Ordering.{nat_cmp}
 use Rattle.blob_directory.specs.Names.{file}
+use Rattle.blob_journal.specs.declared.journaled.Journaled.{Journaled}
+use Rattle.blob_journal.specs.declared.store.FileBlob.{FileBlob}
 use Rattle.blob_journal.specs.Blobs.{bytes_of}
 use Rattle.blob_journal.specs.Fixed.{HasFixed, IsBeside, has_byte}
 use Rattle.blob_fs.specs.declared.file_system.Descriptor.{Descriptor}
@@ -11,10 +15,15 @@ use Rattle.blob_fs.specs.declared.run.Call.TheVariants.{OpenTruncated, Truncate,
 use Rattle.blob_fs.specs.Bytes.{bytes_read, file_in}
 use Rattle.blob_fs.specs.Files.{durable_of, file_of, fresh_inode, inode_opened, journaled_of, names_of}
 
--- A byte of a file is fixed, if the file is there: it is below the synced size, calls see it, and each crash leaves it.
+-- a position below the size at the last sync and below the length of each truncation since
+pub record IsSyncedAt (file : File) (at : ℕ) : Type 0 where
+  pub below : at < file.synced
+  pub uncut : All (λ t. at < t.length) file.truncations.items
+
+-- A byte of a file is fixed, if the file is there: it was synced and not truncated since, calls see it, and each crash of the store leaves it.
 pub record IsFixed {R : Type 0} (fs : FileSystem R) (inode at byte : ℕ) : Type 0 where
   pub numbered : inode < fresh_inode fs
-  pub synced : (was : File) → file_in fs inode ≡ Some was → at < was.synced
+  pub synced : (was : File) → file_in fs inode ≡ Some was → IsSyncedAt was at
   pub fixed : (was : File) → file_in fs inode ≡ Some was → HasFixed (journaled_of fs) was.blob at byte
 
 -- each fixed byte stays fixed
@@ -87,3 +96,19 @@ pub record FindsByte {R : Type 0} (fs : FileSystem R) (inode at byte : ℕ) : Ty
 abbrev pub FindsFixed : {R : Type 0} → FileSystem R → FileSystem R → Type 0
 FindsFixed fs fs' = (name : List ℕ) (inode at byte : ℕ) → inode < 2 ^ 64 → names_of fs' name ≡ Some (file inode)
     → is_some (file_in fs inode) ≡ true → IsFixed fs inode at byte → FindsByte fs' inode at byte
+
+-- all that calls see of a file's blob is fixed
+abbrev pub AllFixed : {R : Type 0} → Journaled R → FileBlob → Type 0
+AllFixed j blob = (at byte : ℕ) → has_byte at byte (bytes_of blob) ≡ true → HasFixed j blob at byte
+
+-- each byte that reads return of a file was synced, and is fixed
+abbrev pub IsWhole : {R : Type 0} → Journaled R → File → Type 0
+IsWhole j file = (at byte : ℕ) → has_byte at byte (bytes_read file) ≡ true → IsSyncedAt file at × HasFixed j file.blob at byte
+
+-- so it is for each file of a map
+abbrev pub AreWhole : {R : Type 0} → Journaled R → BTreeMap ℕ File → Type 0
+AreWhole j files = (inode : ℕ) (file : File) → inode < 2 ^ 64 → get nat_cmp files inode ≡ Some file → IsWhole j file
+
+-- each byte that is found of a file is fixed, if the file system had given its number
+abbrev pub FixesFound : {R : Type 0} → FileSystem R → FileSystem R → Type 0
+FixesFound fs fs' = (inode at byte : ℕ) → inode < 2 ^ 64 → inode < fresh_inode fs → FindsByte fs' inode at byte → IsFixed fs' inode at byte

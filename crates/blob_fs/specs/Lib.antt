@@ -1,4 +1,6 @@
+pub mod Draws
 pub mod Files
+pub mod Truncations
 pub mod Bytes
 pub mod Open
 pub mod Synced
@@ -11,3 +13,4 @@ pub use Rattle.blob_directory.specs.Tables
 pub mod Calls
 pub mod Paths
 pub mod Writes
+pub mod Noted

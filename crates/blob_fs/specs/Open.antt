@@ -4,7 +4,8 @@ use Rattle.std.specs.BTreeMap.{BTreeMap, get}
 use Rattle.std.specs.Ordering.{nat_cmp}
 use Rattle.std.proofs.Math.Logic.{∥∥₁_map}
 use Rattle.blob_journal.specs.declared.journaled.Journaled.{Journaled}
-use Rattle.blob_journal.specs.Fixed.{IsOpen}
+use Rattle.blob_journal.specs.declared.store.FileBlob.{FileBlob}
+use Rattle.blob_journal.specs.Fixed.{ChangesOpen, IsOpen}
 use Rattle.blob_journal.specs.Keeping.{with_generator}
 use Rattle.blob_fs.specs.declared.file_system.File.{File}
 
@@ -25,7 +26,12 @@ with_open j rng files h = ∥∥₁_map h (λ each inode file below at.
       tracked = it.tracked;
     })
 
--- the same blob, and the same size at the last sync
+-- the same blob, the same size at the last sync, and the same truncations since
 pub record SameContent (was now : File) : Type 0 where
   pub blob : now.blob ≡ was.blob
   pub synced : now.synced ≡ was.synced
+  pub truncations : now.truncations.items ≡ was.truncations.items
+
+-- a file may have changed; it is still open, and other open files stay as they are
+abbrev pub MayChange : {R : Type 0} → Journaled R → FileBlob → Journaled R → FileBlob → Type 0
+MayChange j file j' file' = ChangesOpen (λ at. ⊥) j file j' file'

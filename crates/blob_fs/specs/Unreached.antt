@@ -1,5 +1,5 @@
 -- Bytes that no call of a list reaches.
-use Rattle.std.specs.Prelude.{◌≡◌, ◌<◌, ◌^◌, ℕ, Bool, List, [], ◌∷◌}
+use Rattle.std.specs.Prelude.{◌<◌, ◌^◌, ℕ, Bool, List, [], ◌∷◌}
 use Rattle.blob_fs.specs.declared.file_system.FileSystem.{FileSystem}
 use Rattle.blob_fs.specs.declared.run.Call.{Call}
 use Rattle.blob_fs.specs.Calls.{DoesAll}

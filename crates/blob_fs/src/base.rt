@@ -54,6 +54,7 @@ impl<R: Rng + Drop> FileSystem<R> {
             gone: Vec::new(alloc),
             used: 0,
             is_down: false,
+            kept: None,
         })
     }
 

@@ -1,12 +1,14 @@
 //! The crash, and the recovery after it.
-ghost use Rattle.std.specs.Prelude.{IfOk, OnErr, OnOk};
-ghost use Rattle.blob_fs.specs.Bytes.{FindsBytes, HasNoOrphan};
-ghost use Rattle.blob_fs.specs.Fixed.{FindsFixed};
+ghost use Rattle.std.specs.Prelude.{◌≡◌, IfOk, OnErr, OnOk, unwrap_or};
+ghost use Rattle.blob_fs.specs.Bytes.{FindsBytes, FindsEdits, HasNoOrphan};
+ghost use Rattle.blob_fs.specs.Fixed.{FindsFixed, FixesFound};
 ghost use Rattle.blob_fs.specs.Files.{FindsKept, FindsTold, GivesNames, GivesTold, IsRecovered, KeepsNames, KeepsTold, SameNames};
 
 use crate::error::FsError;
 use crate::file_system::FileSystem;
 use crate::places::find_places;
+use crate::truncation::Kept;
+use crate::truncations::numbers_of;
 use blob_directory::laws::found;
 use blob_faulty::Selections;
 use blob_journal::laws::{blobs, fixed};
@@ -32,16 +34,27 @@ pub struct Crash {
     pub edits: Vec<bool>,
 }
 
+/// Returns what the last crash kept, if its recovery failed, otherwise what this one kept.
+fn used<'a>(before: &'a Option<Kept>, own: &'a Kept) -> &'a Kept
+    ensures { result.now ≡ unwrap_or before.now own.now }
+{
+    match before {
+        None => own,
+        Some(kept) => kept,
+    }
+}
+
 impl<R: Rng + Drop> FileSystem<R> {
     /// Crashes and recovers. The draws decide which unsynced bytes and which unsettled edits are kept. Then all is durable, and
-    /// every descriptor is stale. A file that a name reaches has the bytes that the layer's crash leaves of it, cut as the profile
-    /// says: each byte that a sync fixed, and that no later call reached, is still there. A file that no name reaches is deleted.
-    /// Another crash straight after it finds the same names.
+    /// every descriptor is stale. A file that a name reaches has the bytes that the layer's crash leaves of it, with the
+    /// truncations that were kept, cut as the profile says: each byte that a sync fixed, and that no later call reached, is still
+    /// there. Each byte that is found is fixed from then on. A file that no name reaches is deleted. Another crash straight after it
+    /// finds the same names.
     ///
     /// # Errors
     ///
     /// `Memory`. If the layer's crash ran out, nothing has changed. If the recovery did, all other calls return `Crashed` until a
-    /// crash returns Ok.
+    /// crash returns Ok, which applies truncations by the writes that this one kept.
     pub fn crash(&mut self) -> Result<Crash, FsError>
         ensures found { IfOk result (λ crash. FindsKept self.old crash.rows self.new) }
         ensures gives { OnOk result (GivesNames self.new) }
@@ -51,20 +64,32 @@ impl<R: Rng + Drop> FileSystem<R> {
         ensures kept { OnOk result (FindsTold self.old self.new) }
         ensures told { OnOk result (GivesTold self.new) }
         ensures untold { OnErr result (KeepsTold self.old self.new) }
-        ensures bytes { IfOk result (λ crash. FindsBytes self.old crash.rows self.new) }
+        ensures bytes { IfOk result (λ crash. FindsBytes self.old crash self.new) }
+        ensures edits { IfOk result (λ crash. FindsEdits self.old crash) }
         ensures orphans { OnOk result (HasNoOrphan self.new) }
         ensures fixed { OnOk result (FindsFixed self.old self.new) }
+        ensures fixes { OnOk result (FixesFound self.old self.new) }
     {
         found();
         blobs::<R>();
         fixed::<R>();
+        let numbers = numbers_of(self.alloc, self.store.unsettled())?;
         let pending = self.pending_places()?;
         let mut places = Vec::with_capacity(self.alloc, pending.len())?;
         let rows = self.store.crash()?;
         find_places(&rows, &pending, &mut places);
         self.is_down = true;
-        let edits = self.recover()?;
+        let own = Kept { rows, places };
+        let before = self.kept.take();
+        let edits = match self.recover(used(&before, &own), &numbers) {
+            Ok(edits) => edits,
+            Err(error) => {
+                self.kept = Some(before.unwrap_or(own));
+                return Err(error);
+            }
+        };
         self.is_down = false;
+        let Kept { rows, places } = own;
         Ok(Crash {
             rows,
             places,

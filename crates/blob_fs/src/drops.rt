@@ -114,6 +114,7 @@ impl<R: Rng + Drop> FileSystem<R> {
         let shown = file.shown_bytes(self.alloc, &mut self.store)?;
         file.blob = self.store.reopen_file(inode)?;
         file.shown = Some(shown);
+        file.truncations.clear();
         Ok(())
     }
 

@@ -2,6 +2,7 @@
 ghost use Rattle.blob_fs.specs.Open.{AllOpen};
 
 use crate::switches::{FailedSync, FailedWrite, Syncs};
+use crate::truncation::{Kept, Truncation};
 use crate::unlinked::Gone;
 use blob_base::Probability;
 use blob_directory::profile::Profile;
@@ -56,6 +57,8 @@ pub(crate) struct File {
     pub(crate) is_truncated: bool,
     /// What reads return in place of the blob's bytes, after a sync that failed and dropped some.
     pub(crate) shown: Option<Vec<u8>>,
+    /// The truncations that no sync made durable, in the order of their calls.
+    pub(crate) truncations: Vec<Truncation>,
     /// No name and no descriptor refers to it, but a crash may give it a name again.
     pub(crate) is_gone: bool,
 }
@@ -77,6 +80,8 @@ pub struct FileSystem<R> {
     /// How many bytes all files have.
     pub(crate) used: u64,
     pub(crate) is_down: bool,
+    /// What the last crash kept, if its recovery ran out of memory.
+    pub(crate) kept: Option<Kept>,
     // the blob of each file is the current one of its number
     ghost opened: { ∥ AllOpen store files ∥₁ },
 }

@@ -1,25 +1,30 @@
 //! Open files: their bytes and sizes.
-ghost use Rattle.std.specs.Prelude.{◌≡◌, ◌<◌, false, length, IfOk, None, Some, OnOk};
+ghost use Rattle.std.specs.Prelude.{◌≡◌, [], ◌<◌, false, length, IfOk, None, Some, OnOk};
 ghost use Rattle.blob_fs.specs.declared.switches.FailedWrite.TheVariants.{ByMode};
 ghost use Rattle.blob_fs.specs.Writes.{RecordsWrite, failed_write_of};
 ghost use Rattle.blob_fs.specs.Fixed.{KeepsFixed, KeepsFixedBut, KeepsSpared};
+ghost use Rattle.blob_fs.specs.Noted.{HasSize, NotesTruncation, size_read};
 ghost use Rattle.blob_fs.specs.Open.{SameContent};
 ghost use Rattle.blob_journal.specs.Fixed.{IsBeside};
-ghost use Rattle.blob_fs.specs.Files.{KeepsNames, KeepsTold, SameFiles, SameOpens, fresh_inode, inode_opened, journaled_of};
+ghost use Rattle.blob_fs.specs.Files.{KeepsNames, KeepsTold, MayResize, MayTruncate, SameFiles, SameOpens, fresh_inode, inode_opened, journaled_of};
 
 use crate::error::FsError;
 use crate::file_system::{Descriptor, File, FileSystem};
 use crate::switches::Syncs;
+use crate::truncation::Truncation;
 use crate::writes::write_blob;
+use blob_base::Error;
 use blob_directory::edit::Kind;
 use blob_faulty::Config;
 use blob_journal::FileBlob;
 use rand_core::Rng;
+use std::alloc::Global;
 
 impl File {
     /// Returns a new file, which has one name and is not open.
-    pub(crate) fn new(blob: FileBlob) -> File
+    pub(crate) fn new(alloc: Global, blob: FileBlob) -> File
         ensures blob { result.blob ≡ blob }
+        ensures truncations { result.truncations.items ≡ [] }
         ensures there { result.is_gone ≡ false }
         ensures shown { result.shown ≡ None }
     {
@@ -32,6 +37,7 @@ impl File {
             grown: 0,
             is_changed: false,
             is_truncated: false,
+            truncations: Vec::new(alloc),
             shown: None,
             is_gone: false,
         }
@@ -51,18 +57,20 @@ impl File {
         now
     }
 
-    /// Shows a truncation if it returned Ok. Returns the size. There is capacity for it.
-    fn end_truncate(&mut self, is_ok: bool, length: u64) -> u64
+    /// Shows a truncation, by the number of its edit. Returns the size. There is capacity for it.
+    fn end_truncate(&mut self, length: u64, edit: u64) -> u64
         ensures { SameContent self.old self.new }
     {
-        if is_ok {
-            self.show_size(length);
-        }
+        self.is_changed = true;
+        self.grown = edit;
+        self.show_size(length);
         self.size()
     }
 
     /// Returns the size that calls see.
-    pub(crate) fn size(&self) -> u64 {
+    pub(crate) fn size(&self) -> u64
+        ensures { result ≡ size_read self.now }
+    {
         match &self.shown {
             None => self.blob.size(),
             Some(bytes) => bytes.len() as u64,
@@ -122,11 +130,11 @@ impl<R: Rng + Drop> FileSystem<R> {
         }
     }
 
-    /// Opens a file by its number and makes it empty. If that fails, the file isn't open, and its bytes are as the layer's
-    /// resize left them. The errors are those of `open_inode` and of `truncate`.
+    /// Opens a file by its number and makes it empty. If that fails, the file isn't open. The errors are those of `open_inode` and
+    /// of `truncate`.
     pub fn open_inode_truncated(&mut self, inode: u64) -> Result<Descriptor, FsError>
         ensures names { KeepsNames self.old self.new }
-        ensures told { KeepsTold self.old self.new }
+        ensures told { MayResize inode self.old self.new }
         ensures fixed { KeepsFixedBut inode self.old self.new }
     {
         self.begin_call()?;
@@ -222,6 +230,7 @@ impl<R: Rng + Drop> FileSystem<R> {
         self.store.sync_file(&mut file.blob)?;
         file.synced = file.blob.size();
         file.is_truncated = false;
+        file.truncations.clear();
         Ok(())
     }
 
@@ -230,7 +239,9 @@ impl<R: Rng + Drop> FileSystem<R> {
     /// # Errors
     ///
     /// `Stale`.
-    pub fn size(&self, file: Descriptor) -> Result<u64, FsError> {
+    pub fn size(&self, file: Descriptor) -> Result<u64, FsError>
+        ensures { IfOk result (λ size. HasSize self.now file size) }
+    {
         let inode = self.inode_of(file)?;
         match self.files.get(&inode) {
             None => Err(FsError::Stale),
@@ -296,7 +307,8 @@ impl<R: Rng + Drop> FileSystem<R> {
     ///
     /// # Errors
     ///
-    /// `Stale`; `NoSpace` beyond the limit of bytes; those of the layer's write, which may leave a part of it.
+    /// `Stale`; `NoSpace` beyond the limit of bytes; those of the layer's write, which may leave a part of it. While the file has a
+    /// truncation that no sync made durable, a write that fails leaves nothing.
     pub fn write(&mut self, file: Descriptor, offset: u64, bytes: &[u8]) -> Result<(), FsError>
         ensures names { KeepsNames self.old self.new }
         ensures told { KeepsTold self.old self.new }
@@ -308,8 +320,8 @@ impl<R: Rng + Drop> FileSystem<R> {
         let size = self.size(file)?;
         let end = offset.saturating_add(bytes.len() as u64);
         self.check_room(size, end)?;
+        let how = self.draw_write(inode)?;
         let grown = self.store.next_edit();
-        let how = self.options.failed_write;
         let Some(found) = self.files.get_mut(&inode) else {
             return Err(FsError::Stale);
         };
@@ -331,31 +343,49 @@ impl<R: Rng + Drop> FileSystem<R> {
         }
     }
 
-    /// Truncates a file to a length, or extends it by zeros, unsynced.
+    /// Truncates a file to a length, or extends it by zeros, unsynced. This is an edit: a crash keeps or loses it whole, by the rate
+    /// and in the order of edits, and a sync of the file settles it. If the file has this length already, nothing changes.
     ///
     /// # Errors
     ///
-    /// `Stale`; `NoSpace` beyond the limit of bytes; those of the layer's resize, which may leave a part of it.
+    /// `Stale`; `NoSpace` beyond the limit of bytes; those of the journal; `Memory`. The bytes are unchanged. After `Memory` the edit
+    /// may be recorded, without an effect on bytes or names. `Injected` by the failure rate of the layer's resizes: the bytes are
+    /// unchanged or, by the partial rate, the file is truncated to a length above the requested one.
     pub fn truncate(&mut self, file: Descriptor, length: u64) -> Result<(), FsError>
         ensures names { KeepsNames self.old self.new }
-        ensures told { KeepsTold self.old self.new }
+        ensures told { MayTruncate file self.old self.new }
+        ensures noted { OnOk result (NotesTruncation file length self.old self.new) }
         ensures fixed { KeepsSpared file (λ at. at < length) self.old self.new }
     {
         self.begin_call()?;
         let inode = self.inode_of(file)?;
         let size = self.size(file)?;
         self.check_room(size, length)?;
-        let grown = self.store.next_edit();
+        let (reached, is_failed) = self.draw_truncation(inode, size, length)?;
+        if length == size && !is_failed {
+            return Ok(());
+        }
+        let rate = self.options.edit_rate;
         let Some(found) = self.files.get_mut(&inode) else {
             return Err(FsError::Stale);
         };
-        found.reserve_shown(length)?;
-        found.is_changed = true;
-        found.grown = grown;
-        let resized = self.store.resize_file(&mut found.blob, length);
-        let now = found.end_truncate(resized.is_ok(), length);
+        found.reserve_shown(reached)?;
+        found.truncations.reserve(1)?;
+        let edit = self.store.record_truncation(inode, rate)?;
+        let next_write = self.store.next_write();
+        self.store.set_config(Config::default());
+        self.store.resize_file(&mut found.blob, reached)?;
+        found.truncations.push_reserved(Truncation {
+            edit,
+            length: reached,
+            next_write,
+        });
+        let now = found.end_truncate(reached, edit);
         self.count(size, now);
-        Ok(resized?)
+        if is_failed {
+            return Err(Error::Injected.into());
+        }
+        Ok(())
     }
 
     /// Notes that an open truncated a file.
@@ -372,7 +402,7 @@ impl<R: Rng + Drop> FileSystem<R> {
     /// Truncates a file that an open made empty.
     pub(crate) fn clear(&mut self, file: Descriptor) -> Result<(), FsError>
         ensures names { KeepsNames self.old self.new }
-        ensures told { KeepsTold self.old self.new }
+        ensures told { MayTruncate file self.old self.new }
         ensures fixed { KeepsSpared file (λ at. at < 0) self.old self.new }
     {
         self.truncate(file, 0)?;

@@ -5,10 +5,8 @@ ghost use Rattle.blob_fs.specs.Files.{durable_of, file_of, found_size, journaled
 ghost use Rattle.blob_journal.specs.Settling.{unsettled_of};
 
 use crate::error::FsError;
-use crate::file_system::{FileSystem, Store};
-use blob_base::Durable;
+use crate::file_system::FileSystem;
 use blob_directory::unsettled::Unsettled;
-use blob_faulty::entry::Entry;
 use rand_core::Rng;
 
 impl<R: Rng + Drop> FileSystem<R> {
@@ -51,24 +49,5 @@ impl<R: Rng + Drop> FileSystem<R> {
         ensures { result ≡ found_size self.now inode }
     {
         self.file(inode).map_or(0, |file| file.found)
-    }
-
-    /// Returns how many truncations and extensions of a file a crash will apply that no sync made durable.
-    pub fn kept_truncations_of(&self, inode: u64) -> usize {
-        let Some(file) = self.file(inode) else {
-            return 0;
-        };
-        let number = self.store.number_of_file(&file.blob);
-        let mut count = 0usize;
-        for list in self.store.store().pending() {
-            if Store::<R>::number_of(&list.origin) == number {
-                for entry in &list.entries {
-                    if let Entry::Resize(_) = entry {
-                        count = count.saturating_add(1);
-                    }
-                }
-            }
-        }
-        count
     }
 }

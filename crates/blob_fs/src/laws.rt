@@ -7,7 +7,8 @@ pub fn synced_files<R>()
     ensures found { SyncedIsFound R }
 {}
 
-/// A byte that is fixed stays so through a list of calls none of which reaches it. A crash after them leaves it (`FindsFixed`).
+/// A byte that is fixed stays so through a list of calls none of which reaches it. A crash after them leaves it (`FindsFixed`),
+/// and fixes what it finds (`FixesFound`).
 pub fn fixed_bytes<R>()
     ensures { UnreachedStaysFixed R }
 {}

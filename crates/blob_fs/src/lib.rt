@@ -4,6 +4,7 @@
 pub mod access;
 mod base;
 pub mod crash;
+mod draws;
 mod drops;
 pub mod error;
 pub mod file_system;
@@ -19,6 +20,8 @@ pub mod renames;
 pub mod run;
 pub mod switches;
 pub mod syncs;
+mod truncation;
+mod truncations;
 mod unlinked;
 pub mod whole;
 mod writes;

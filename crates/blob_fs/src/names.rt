@@ -87,7 +87,7 @@ impl<R: Rng + Drop> FileSystem<R> {
         ensures told { KeepsTold self.old self.new }
         ensures fixed { KeepsFixedBut inode self.old self.new }
     {
-        self.files.insert(inode, File::new(blob))?;
+        self.files.insert(inode, File::new(self.alloc, blob))?;
         Ok(())
     }
 

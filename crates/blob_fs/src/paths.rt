@@ -4,7 +4,7 @@ ghost use Rattle.blob_directory.specs.Names.{directory_at, entry};
 ghost use Rattle.blob_directory.specs.Paths.{IsPlace, LeadsTo};
 ghost use Rattle.blob_fs.specs.declared.switches.Syncs.TheVariants.{Honest};
 ghost use Rattle.blob_fs.specs.Calls.{Leaves};
-ghost use Rattle.blob_fs.specs.Files.{KeepsNames, KeepsTold, SettlesSome, names_of, syncs_of};
+ghost use Rattle.blob_fs.specs.Files.{KeepsNames, KeepsTold, MayResizeSome, SettlesSome, names_of, syncs_of};
 ghost use Rattle.blob_fs.specs.Paths.{CreatesAt, FreesAt, IsBound, LinksAt, Lists, MakesDirectoryAt, RenamesPath, SyncsPath};
 
 use crate::error::FsError;
@@ -94,7 +94,7 @@ impl<R: Rng + Drop> FileSystem<R> {
     /// `truncate`.
     pub fn open_truncated(&mut self, path: &[u8]) -> Result<Descriptor, FsError>
         ensures names { KeepsNames self.old self.new }
-        ensures told { KeepsTold self.old self.new }
+        ensures told { MayResizeSome self.old self.new }
     {
         self.begin_call()?;
         let found = self.find(path)?;

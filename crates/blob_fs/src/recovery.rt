@@ -2,23 +2,27 @@
 ghost use Rattle.std.specs.Prelude.{◌≡◌, Some, IfOk, OnOk, OnErr, length, min};
 ghost use Rattle.std.specs.BTreeMap.{Updates, get};
 ghost use Rattle.std.specs.Ordering.{nat_cmp};
-ghost use Rattle.blob_fs.specs.Bytes.{ChangesOnly, CutsFile, CutsTo, HasNoOrphan, HasOnlyLinked, KeepsBlobsOf, OpensLeft, RecoversBytes, Reopens, ReopensAll, kept_length as length_kept};
-ghost use Rattle.blob_fs.specs.Open.{AllOpen};
-ghost use Rattle.blob_fs.specs.Files.{FindsAgain, FindsNames, FindsTold, GivesNames, GivesTold, KeepsNames, KeepsTold, RepresentsFiles, journaled_of};
+ghost use Rattle.blob_fs.specs.Bytes.{ChangesOnly, CutsFile, CutsFrom, CutsTo, HasNoOrphan, HasOnlyLinked, KeepsBlobsOf, OpensLeft, RecoversBytes, Reopens, ReopensAll, Rewrites, Truncates, kept_length as length_kept};
+ghost use Rattle.blob_fs.specs.Truncations.{lost_of};
+ghost use Rattle.blob_fs.specs.Fixed.{AllFixed, AreWhole, FixesFound, IsWhole};
+ghost use Rattle.blob_fs.specs.Open.{AllOpen, MayChange};
+ghost use Rattle.blob_fs.specs.Files.{FindsAgain, FindsNames, FindsTold, GivesNames, GivesTold, KeepsNames, KeepsTold, RepresentsFiles, fresh_inode, journaled_of, keeps_of};
 ghost use Rattle.blob_journal.specs.Blobs.{ChangesFile, SameFilesBut};
 ghost use Rattle.blob_journal.specs.Currents.{KeepsFiles};
 ghost use Rattle.blob_journal.specs.Fixed.{KeepsHandles, KeepsOpenBut};
-ghost use Rattle.blob_journal.specs.Journals.{GivesNames as gives_names, KeepsFilesOf, store_of};
+ghost use Rattle.blob_journal.specs.Journals.{GivesNames as gives_names, KeepsFile, KeepsFilesOf, store_of};
+ghost use Rattle.blob_journal.specs.Settling.{FindsEdits};
 ghost use Rattle.blob_journal.specs.Keeping.{KeepsTable, KeepsTold as keeps_told};
 
 use crate::error::FsError;
 use crate::file_system::{File, FileSystem};
+use crate::truncation::Kept;
+use crate::truncations::{Loss, are_same, cut_start, lost_edits, truncate_all};
 use blob_base::Error;
 use blob_directory::tree::Tree;
 use blob_journal::laws::blobs;
 use blob_journal::{FileBlob, Journaled};
 use rand_core::Rng;
-use std::alloc::Global;
 use std::collections::BTreeMap;
 
 /// Returns the length of the found bytes before the first one beyond the synced size that differs from the live bytes.
@@ -53,6 +57,7 @@ fn cut_to<R: Rng + Drop>(
     ensures cut { OnOk result (CutsTo length store.old blob.old store.new blob.new) }
     ensures others { OnOk result (ChangesFile store.old blob.old store.new) }
     ensures handles { KeepsHandles store.old store.new }
+    ensures still { OnOk result (MayChange store.old blob.old store.new blob.new) }
 {
     blobs::<R>();
     store.resize_file(blob, length)?;
@@ -60,58 +65,160 @@ fn cut_to<R: Rng + Drop>(
     Ok(())
 }
 
-/// Truncates a file after a crash at its first lost byte beyond the synced size.
-fn cut<R: Rng + Drop>(
+/// Makes these the bytes of a file, durably.
+fn rewrite<R: Rng + Drop>(
     store: &mut Journaled<R>,
     blob: &mut FileBlob,
-    old: &File,
+    bytes: &[u8],
 ) -> Result<(), Error>
     ensures names { KeepsTable store.old store.new }
     ensures told { keeps_told store.old store.new }
     ensures files { KeepsFilesOf blob.old store.old store.new }
-    ensures cut { OnOk result (CutsFile old.now store.old blob.old store.new blob.new) }
+    ensures given { KeepsFile blob.old store.old blob.new store.new }
+    ensures rewritten { OnOk result (Rewrites bytes.now store.old blob.old store.new blob.new) }
     ensures others { OnOk result (ChangesOnly store.old blob.old store.new) }
     ensures handles { KeepsHandles store.old store.new }
+    ensures still { OnOk result (MayChange store.old blob.old store.new blob.new) }
 {
     blobs::<R>();
-    let size = blob.size();
-    if size <= old.synced {
+    store.resize_file(blob, 0)?;
+    store.write_file(blob, 0, bytes)?;
+    store.sync_file(blob)?;
+    Ok(())
+}
+
+/// Applies the truncations of a file that a crash kept, durably.
+fn truncate_left<R: Rng + Drop>(
+    store: &mut Journaled<R>,
+    blob: &mut FileBlob,
+    inode: u64,
+    old: &File,
+    kept: &Kept,
+    loss: &Loss,
+) -> Result<(), Error>
+    ensures names { KeepsTable store.old store.new }
+    ensures told { keeps_told store.old store.new }
+    ensures files { KeepsFilesOf blob.old store.old store.new }
+    ensures given { KeepsFile blob.old store.old blob.new store.new }
+    ensures truncated { OnOk result (Truncates kept.now loss.now inode old.now store.old blob.old store.new blob.new) }
+    ensures others { OnOk result (ChangesOnly store.old blob.old store.new) }
+    ensures handles { KeepsHandles store.old store.new }
+    ensures still { OnOk result (MayChange store.old blob.old store.new blob.new) }
+{
+    blobs::<R>();
+    let truncations = old.truncations.as_slice();
+    if truncations.is_empty() {
         return Ok(());
     }
     let found = store.read_whole(blob)?;
-    let live = store.read_whole(&old.blob)?;
-    let length = kept_length(&found, &live, old.synced as usize) as u64;
+    let bytes = truncate_all(kept, loss, inode, truncations, &found)?;
+    if are_same(&found, &bytes) {
+        return Ok(());
+    }
+    rewrite(store, blob, &bytes)
+}
+
+/// Truncates a file after a crash at its first byte beyond a size that isn't the live one.
+fn cut_from<R: Rng + Drop>(
+    store: &mut Journaled<R>,
+    blob: &mut FileBlob,
+    live: &FileBlob,
+    start: u64,
+) -> Result<(), Error>
+    ensures names { KeepsTable store.old store.new }
+    ensures told { keeps_told store.old store.new }
+    ensures files { KeepsFilesOf blob.old store.old store.new }
+    ensures cut { OnOk result (CutsFrom start live.now store.old blob.old store.new blob.new) }
+    ensures others { OnOk result (ChangesOnly store.old blob.old store.new) }
+    ensures handles { KeepsHandles store.old store.new }
+    ensures still { OnOk result (MayChange store.old blob.old store.new blob.new) }
+{
+    blobs::<R>();
+    let size = blob.size();
+    if size <= start {
+        return Ok(());
+    }
+    let found = store.read_whole(blob)?;
+    let seen = store.read_whole(live)?;
+    let length = kept_length(&found, &seen, start as usize) as u64;
     if length >= size {
         return Ok(());
     }
     cut_to(store, blob, length)
 }
 
-/// Opens the blob of a file after a crash, and truncates it if the profile does and the file was there. Returns it with the size
-/// that was found.
-fn open_left<R: Rng + Drop>(
+/// Cuts a file after a crash, if the profile does.
+fn cut<R: Rng + Drop>(
+    store: &mut Journaled<R>,
+    blob: &mut FileBlob,
+    old: &File,
+    loss: &Loss,
+) -> Result<(), Error>
+    ensures names { KeepsTable store.old store.new }
+    ensures told { keeps_told store.old store.new }
+    ensures files { KeepsFilesOf blob.old store.old store.new }
+    ensures cut { OnOk result (CutsFile loss.now old.now store.old blob.old store.new blob.new) }
+    ensures others { OnOk result (ChangesOnly store.old blob.old store.new) }
+    ensures handles { KeepsHandles store.old store.new }
+    ensures still { OnOk result (MayChange store.old blob.old store.new blob.new) }
+{
+    blobs::<R>();
+    if !loss.cuts {
+        return Ok(());
+    }
+    let start = cut_start(loss, old.synced, &old.truncations);
+    cut_from(store, blob, &old.blob, start)
+}
+
+/// Opens the blob of a file after a crash. If the file was there, its kept truncations are applied, and it is cut if the profile
+/// does. Returns it with the size that was found: after the truncations, before the cut.
+fn open_cut<R: Rng + Drop>(
     store: &mut Journaled<R>,
     inode: u64,
     old: &BTreeMap<u64, File>,
-    cuts: bool,
+    kept: &Kept,
+    loss: &Loss,
 ) -> Result<(FileBlob, u64), Error>
     ensures names { KeepsTable store.old store.new }
     ensures told { keeps_told store.old store.new }
     ensures files { KeepsFiles (store_of store.old) (store_of store.new) }
-    ensures left { IfOk result (λ r. OpensLeft store.old inode (get nat_cmp old.now inode) cuts store.new r.0 r.1) }
+    ensures left { IfOk result (λ r. OpensLeft store.old inode old.now kept.now loss.now store.new r.0 r.1) }
     ensures others { OnOk result (SameFilesBut inode store.old store.new) }
     ensures handles { KeepsHandles store.old store.new }
+    ensures still { OnOk result (KeepsOpenBut inode store.old store.new) }
 {
     blobs::<R>();
     let mut blob = store.open_file(inode)?;
-    let found = blob.size();
-    if !cuts {
-        return Ok((blob, found));
-    }
     let Some(was) = old.get(&inode) else {
+        let found = blob.size();
         return Ok((blob, found));
     };
-    cut(store, &mut blob, was)?;
+    truncate_left(store, &mut blob, inode, was, kept, loss)?;
+    let found = blob.size();
+    cut(store, &mut blob, was, loss)?;
+    Ok((blob, found))
+}
+
+/// The same, with its bytes made durable: no crash changes any of them until a call reaches it.
+fn open_left<R: Rng + Drop>(
+    store: &mut Journaled<R>,
+    inode: u64,
+    old: &BTreeMap<u64, File>,
+    kept: &Kept,
+    loss: &Loss,
+) -> Result<(FileBlob, u64), Error>
+    ensures names { KeepsTable store.old store.new }
+    ensures told { keeps_told store.old store.new }
+    ensures files { KeepsFiles (store_of store.old) (store_of store.new) }
+    ensures left { IfOk result (λ r. OpensLeft store.old inode old.now kept.now loss.now store.new r.0 r.1) }
+    ensures others { OnOk result (SameFilesBut inode store.old store.new) }
+    ensures handles { KeepsHandles store.old store.new }
+    ensures still { OnOk result (KeepsOpenBut inode store.old store.new) }
+    ensures fixes { IfOk result (λ r. AllFixed store.new r.0) }
+{
+    blobs::<R>();
+    let (mut blob, found) = open_cut(store, inode, old, kept, loss)?;
+    store.sync_file(&mut blob)?;
     Ok((blob, found))
 }
 
@@ -121,18 +228,21 @@ fn reopen<R: Rng + Drop>(
     inode: u64,
     old: &BTreeMap<u64, File>,
     links: u32,
-    cuts: bool,
+    kept: &Kept,
+    loss: &Loss,
 ) -> Result<File, Error>
     ensures names { KeepsTable store.old store.new }
     ensures told { keeps_told store.old store.new }
     ensures files { KeepsFiles (store_of store.old) (store_of store.new) }
-    ensures left { IfOk result (λ file. Reopens store.old inode (get nat_cmp old.now inode) cuts store.new file) }
+    ensures left { IfOk result (λ file. Reopens store.old inode old.now kept.now loss.now store.new file) }
     ensures others { OnOk result (SameFilesBut inode store.old store.new) }
     ensures handles { KeepsHandles store.old store.new }
+    ensures still { OnOk result (KeepsOpenBut inode store.old store.new) }
+    ensures whole { IfOk result (IsWhole store.new) }
 {
-    let (blob, found) = open_left(store, inode, old, cuts)?;
+    let (blob, found) = open_left(store, inode, old, kept, loss)?;
     let synced = blob.size();
-    let mut file = File::new(blob);
+    let mut file = File::new(loss.alloc, blob);
     file.links = links;
     file.synced = synced;
     file.found = found;
@@ -149,24 +259,25 @@ fn put(files: &mut BTreeMap<u64, File>, inode: u64, file: File) -> Result<(), Fs
 
 /// Opens each file that has a name.
 fn reopen_all<R: Rng + Drop>(
-    alloc: Global,
     store: &mut Journaled<R>,
     old: &BTreeMap<u64, File>,
     tree: &Tree,
-    cuts: bool,
+    kept: &Kept,
+    loss: &Loss,
 ) -> Result<BTreeMap<u64, File>, FsError>
     ensures names { KeepsTable store.old store.new }
     ensures told { keeps_told store.old store.new }
     ensures files { KeepsFiles (store_of store.old) (store_of store.new) }
-    ensures left { IfOk result (λ files. ReopensAll store.old old.now tree.now cuts store.new files) }
+    ensures left { IfOk result (λ files. ReopensAll store.old old.now tree.now kept.now loss.now store.new files) }
     ensures linked { IfOk result (HasOnlyLinked tree.now) }
     ensures opened { IfOk result (AllOpen store.new) }
     ensures handles { KeepsHandles store.old store.new }
+    ensures whole { IfOk result (AreWhole store.new) }
 {
     blobs::<R>();
-    let mut files = BTreeMap::new(alloc);
+    let mut files = BTreeMap::new(loss.alloc);
     for (inode, links) in tree.links.iter() {
-        let file = reopen(store, *inode, old, *links, cuts)?;
+        let file = reopen(store, *inode, old, *links, kept, loss)?;
         put(&mut files, *inode, file)?;
     }
     Ok(files)
@@ -194,6 +305,7 @@ fn remove_unnamed<R: Rng + Drop>(
     ensures gives { gives_names store.old → gives_names store.new }
     ensures kept { KeepsBlobsOf files.now store.old store.new }
     ensures opened { AllOpen store.old files.now → AllOpen store.new files.now }
+    ensures whole { AllOpen store.old files.now → AreWhole store.old files.now → AreWhole store.new files.now }
 {
     blobs::<R>();
     for (inode, _) in old {
@@ -204,8 +316,9 @@ fn remove_unnamed<R: Rng + Drop>(
 }
 
 impl<R: Rng + Drop> FileSystem<R> {
-    /// Recovers after a crash of the layer. Returns of each unsettled edit whether it was kept.
-    pub(crate) fn recover(&mut self) -> Result<Vec<bool>, FsError>
+    /// Recovers after a crash of the layer that kept these writes. Takes the numbers of the unsettled edits, and returns of each
+    /// whether it was kept.
+    pub(crate) fn recover(&mut self, kept: &Kept, numbers: &[u64]) -> Result<Vec<bool>, FsError>
         ensures found { OnOk result (FindsNames self.old self.new) }
         ensures gives { OnOk result (RepresentsFiles self.old → GivesNames self.new) }
         ensures again { OnOk result (FindsAgain self.old self.new) }
@@ -213,14 +326,21 @@ impl<R: Rng + Drop> FileSystem<R> {
         ensures kept { OnOk result (FindsTold self.old self.new) }
         ensures told { OnOk result (GivesTold self.new) }
         ensures untold { OnErr result (KeepsTold self.old self.new) }
-        ensures bytes { OnOk result (RecoversBytes self.old self.new) }
+        ensures bytes { IfOk result (λ e. RecoversBytes kept.now (lost_of numbers.now e.items) self.old self.new) }
+        ensures edits { IfOk result (λ e. FindsEdits (journaled_of self.old) (keeps_of self.old) e.items) }
         ensures orphans { OnOk result (HasNoOrphan self.new) }
         ensures opened { OnOk result (AllOpen (journaled_of self.new) self.new.files) }
+        ensures fixes { OnOk result (FixesFound self.old self.new) }
     {
         blobs::<R>();
         let (tree, edits) = self.store.find_names(self.options.profile.keeps)?;
-        let cuts = self.options.profile.cuts;
-        let files = reopen_all(self.alloc, &mut self.store, &self.files, &tree, cuts)?;
+        let lost = lost_edits(self.alloc, numbers, &edits)?;
+        let loss = Loss {
+            alloc: self.alloc,
+            lost,
+            cuts: self.options.profile.cuts,
+        };
+        let files = reopen_all(&mut self.store, &self.files, &tree, kept, &loss)?;
         let directories = self.store.renew(tree)?;
         self.begin_life(directories, files);
         Ok(edits)
@@ -235,6 +355,8 @@ impl<R: Rng + Drop> FileSystem<R> {
         ensures settled { GivesTold self.old → GivesTold self.new }
         ensures files { self.new.files ≡ files }
         ensures kept { KeepsBlobsOf files (journaled_of self.old) (journaled_of self.new) }
+        ensures whole { AreWhole (journaled_of self.old) files → AreWhole (journaled_of self.new) files }
+        ensures numbers { fresh_inode self.new ≡ fresh_inode self.old }
     {
         remove_unnamed(&mut self.store, &self.files, &files);
         self.used = used_by(&files);

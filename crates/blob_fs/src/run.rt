@@ -152,13 +152,14 @@ impl<R: Rng + Drop> FileSystem<R> {
     ///
     /// The names that are found are those of all edits that were settled, before or by the calls, and of some of the others, as
     /// the profile keeps them, in the order of issue, each whole. Each file that they reach has the bytes that the layer's crash
-    /// leaves of it, cut as the profile says. Each byte that was fixed before the crash is among them.
+    /// leaves of it, with its kept truncations, cut as the profile says. Each byte that was fixed before the crash is among them.
+    /// All that are found are fixed: a second crash leaves them too.
     ///
     /// # Errors
     ///
     /// Those of `run` and of `crash`.
     pub fn run_and_crash(&mut self, calls: &[Call]) -> Result<(Vec<bool>, Crash), FsError>
-        ensures kept { IfOk result (λ r. RunsAndCrashes self.old calls.now r.0.items r.1.rows self.new) }
+        ensures kept { IfOk result (λ r. RunsAndCrashes self.old calls.now r.0.items r.1 self.new) }
         ensures settled { OnOk result (GivesTold self.new) }
     {
         let oks = self.run(calls)?;

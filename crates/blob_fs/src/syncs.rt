@@ -81,6 +81,7 @@ impl<R: Rng + Drop> FileSystem<R> {
         file.synced = file.blob.size();
         file.is_changed = false;
         file.is_truncated = false;
+        file.truncations.clear();
         Ok(synced)
     }
 

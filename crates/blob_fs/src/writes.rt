@@ -13,7 +13,11 @@ use blob_journal::{FileBlob, Journaled};
 use rand_core::Rng;
 
 /// Returns the faults with this rate of failures of writes. A failed one keeps by this rate, in this mode.
-fn with_writes(faults: &Config, failure_rate: Probability, writes: WriteConfig) -> Config {
+pub(crate) fn with_writes(
+    faults: &Config,
+    failure_rate: Probability,
+    writes: WriteConfig,
+) -> Config {
     copy_of(faults).write(WriteConfig {
         failure_rate,
         ..writes

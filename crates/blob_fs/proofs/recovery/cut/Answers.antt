@@ -1,61 +1,43 @@
-use Rattle.std.proofs.Common.{◌≡◌, ◌≤◌, ℕ, List, length, take, arith, subst, sym, ◌∙◌}
+use Rattle.std.proofs.Common.{◌≡◌, Bool, List, ap, false, refl, rules, subst, sym, true, ◌∙◌, ℕ}
 use Rattle.blob_journal.specs.Blobs.{HasDurable, bytes_of}
-use Rattle.blob_fs.specs.Bytes.{kept_length}
-use Rattle.blob_fs.proofs.Cutting.{kept_is, on_map, uncut}
+use Rattle.blob_fs.specs.declared.truncation.Truncation.{Truncation}
+use Rattle.blob_fs.specs.Bytes.{cut_bytes}
+use Rattle.blob_fs.specs.Truncations.{cut_start}
+use Rattle.blob_fs.proofs.Cutting.{on_map}
+use Rattle.blob_fs.proofs.Fixed.{still_self}
+use Rattle.blob_fs.proofs.Fixing.{may_keep}
 use Rattle.blob_fs.proofs.recovery.cut.Goals as goal
 
-pub returns-clause-files : goal.returns-clause-files
-returns-clause-files g c = λ h r. c.cut_to.ensures.files (c.in_ok-live.ensures.given c.args.blob.now (c.in_ok-found.ensures.given c.args.blob.now h)) (c.in_ok-live.ensures.files (c.in_ok-found.ensures.files r))
-
-pub returns-then-length-size-clause-cut : goal.returns-then-length-size-clause-cut
-returns-then-length-size-clause-cut g c = λ inode found h.
-    let blob = c.args.blob.now in
+pub returns-then-not-loss-clause-cut : goal.returns-then-not-loss-clause-cut
+returns-then-not-loss-clause-cut g c = λ inode found h.
+    let loss = c.args.loss.now in
     let old = c.args.old.now in
-    let one = c.blobs.ensures.stays c.args.store.now c.read_whole.new.self inode blob found (c.in_ok-found.ensures.same inode) h in
-    let two = c.blobs.ensures.stays c.read_whole.new.self c.read_whole-2.new.self inode blob found (c.in_ok-live.ensures.same inode) one in
-    let size : c.size-size.result ≡ length found = c.size-size.ensures ∙ h.seen.size in
-    let kept : c.kept_length-length.result ≡ kept_length old.synced (bytes_of old.blob) found =
-    kept_is old.synced c.deref.result.now c.deref-2.result.now found (bytes_of old.blob) c.kept_length-length.result c.kept_length-length.ensures
-    (c.deref.ensures.value ∙ c.in_ok-found.ensures.bytes ∙ c.blobs.ensures.reads blob found h.seen) (c.deref-2.ensures.value ∙ c.in_ok-live.ensures.bytes) (omega (arith, size, c.if-size-old.false)) in
-    let long : length found ≤ kept_length old.synced (bytes_of old.blob) found = omega (arith, kept, size, c.if-length-size.true) in
-    subst (λ (l : List ℕ). HasDurable c.read_whole-2.new.self inode blob l) (sym (uncut old.synced (bytes_of old.blob) found long)) two
+    let no : loss.cuts ≡ false = search rules in
+    let whole : found ≡ cut_bytes loss.cuts (cut_start loss.lost.items old.synced old.truncations.items) (bytes_of old.blob) found =
+    sym (ap (λ (b : Bool). cut_bytes b (cut_start loss.lost.items old.synced old.truncations.items) (bytes_of old.blob) found) no) in
+    subst (λ (l : List ℕ). HasDurable c.args.store.now inode c.args.blob.now l) whole h
 
-pub returns-then-length-size-clause-others : goal.returns-then-length-size-clause-others
-returns-then-length-size-clause-others g c = λ inode bytes below h other there apart.
-    c.blobs.ensures.twice c.args.store.now c.read_whole.new.self c.read_whole-2.new.self other (c.in_ok-found.ensures.same other) (c.in_ok-live.ensures.same other)
+pub returns-then-not-loss-clause-others : goal.returns-then-not-loss-clause-others
+returns-then-not-loss-clause-others g c = λ inode bytes below h other there apart. record { file = refl; durable = λ o x y. refl }
+
+pub returns-then-not-loss-clause-handles : goal.returns-then-not-loss-clause-handles
+returns-then-not-loss-clause-handles g c = λ inode file h. h
 
 pub returns-clause-cut : goal.returns-clause-cut
-returns-clause-cut g c = on_map c.cut_to.result c.cut_to.ensures.cut (λ cuts inode found h.
-    let blob = c.args.blob.now in
+returns-clause-cut g c = on_map c.cut_from.result c.cut_from.ensures.cut (λ cuts inode found h.
+    let loss = c.args.loss.now in
     let old = c.args.old.now in
-    let one = c.blobs.ensures.stays c.args.store.now c.read_whole.new.self inode blob found (c.in_ok-found.ensures.same inode) h in
-    let two = c.blobs.ensures.stays c.read_whole.new.self c.read_whole-2.new.self inode blob found (c.in_ok-live.ensures.same inode) one in
-    let size : c.size-size.result ≡ length found = c.size-size.ensures ∙ h.seen.size in
-    let kept : c.kept_length-length.result ≡ kept_length old.synced (bytes_of old.blob) found =
-    kept_is old.synced c.deref.result.now c.deref-2.result.now found (bytes_of old.blob) c.kept_length-length.result c.kept_length-length.ensures
-    (c.deref.ensures.value ∙ c.in_ok-found.ensures.bytes ∙ c.blobs.ensures.reads blob found h.seen) (c.deref-2.ensures.value ∙ c.in_ok-live.ensures.bytes) (omega (arith, size, c.if-size-old.false)) in
-    subst (λ (n : ℕ). HasDurable c.cut_to.new.store inode c.cut_to.new.blob (take n found)) kept (cuts inode found (omega (arith, size, c.if-length-size.false)) two))
+    let bytes = bytes_of old.blob in
+    let start = cut_start loss.lost.items old.synced old.truncations.items in
+    let yes : true ≡ loss.cuts = search rules in
+    let from : c.cut_start-start.result ≡ start =
+    c.cut_start-start.ensures ∙ ap (λ (ts : List Truncation). cut_start loss.lost.items old.synced ts) c.deref.ensures.value in
+    let same : cut_bytes true c.cut_start-start.result bytes found ≡ cut_bytes loss.cuts start bytes found =
+    ap (λ (n : ℕ). cut_bytes true n bytes found) from ∙ ap (λ (b : Bool). cut_bytes b start bytes found) yes in
+    subst (λ (l : List ℕ). HasDurable c.cut_from.new.store inode c.cut_from.new.blob l) same (cuts inode found h))
 
-pub returns-clause-others : goal.returns-clause-others
-returns-clause-others g c = on_map c.cut_to.result c.cut_to.ensures.others (λ others inode bytes below h other there apart.
-    let blob = c.args.blob.now in
-    let one = c.blobs.ensures.stays c.args.store.now c.read_whole.new.self inode blob bytes (c.in_ok-found.ensures.same inode) h in
-    let two = c.blobs.ensures.stays c.read_whole.new.self c.read_whole-2.new.self inode blob bytes (c.in_ok-live.ensures.same inode) one in
-    c.blobs.ensures.twice c.args.store.now c.read_whole-2.new.self c.cut_to.new.store other
-    (c.blobs.ensures.twice c.args.store.now c.read_whole.new.self c.read_whole-2.new.self other (c.in_ok-found.ensures.same other) (c.in_ok-live.ensures.same other))
-    (others inode bytes below two.is other there apart))
+pub returns-then-not-loss-clause-still : goal.returns-then-not-loss-clause-still
+returns-then-not-loss-clause-still g c = may_keep c.args.store.now c.args.store.now c.args.blob.now (still_self c.args.store.now)
 
-pub returns-then-size-old-clause-handles : goal.returns-then-size-old-clause-handles
-returns-then-size-old-clause-handles g c = λ inode file h. h
-
-pub returns-in_err-found-clause-handles : goal.returns-in_err-found-clause-handles
-returns-in_err-found-clause-handles g c = c.read_whole.ensures.still.still
-
-pub returns-in_err-live-clause-handles : goal.returns-in_err-live-clause-handles
-returns-in_err-live-clause-handles g c = λ inode file h. c.read_whole-2.ensures.still.still inode file (c.read_whole.ensures.still.still inode file h)
-
-pub returns-then-length-size-clause-handles : goal.returns-then-length-size-clause-handles
-returns-then-length-size-clause-handles g c = λ inode file h. c.read_whole-2.ensures.still.still inode file (c.read_whole.ensures.still.still inode file h)
-
-pub returns-clause-handles : goal.returns-clause-handles
-returns-clause-handles g c = λ inode file h. c.cut_to.ensures.handles inode file (c.read_whole-2.ensures.still.still inode file (c.read_whole.ensures.still.still inode file h))
+pub returns-clause-still : goal.returns-clause-still
+returns-clause-still g c = c.cut_from.ensures.still

@@ -1,5 +1,6 @@
 use Rattle.std.proofs.Common.{◌≡◌, List, ℕ, ap, length, subst, sym, take, ◌∙◌}
 use Rattle.blob_journal.specs.Blobs.{HasDurable, IsOpen, bytes_of}
+use Rattle.blob_fs.proofs.Fixing.{may_twice}
 use Rattle.blob_fs.proofs.recovery.cut_to.Goals as goal
 
 pub returns-in_err-resize_file-clause-files : goal.returns-in_err-resize_file-clause-files
@@ -34,3 +35,6 @@ returns-in_err-sync_file-clause-handles g c = λ inode file h. c.sync_file.ensur
 
 pub returns-clause-handles : goal.returns-clause-handles
 returns-clause-handles g c = λ inode file h. c.sync_file.ensures.handles inode file (c.resize_file.ensures.handles inode file h)
+
+pub returns-clause-still : goal.returns-clause-still
+returns-clause-still g c = may_twice _ _ c.args.store.now c.resize_file.new.self c.sync_file.new.self c.args.blob.now c.resize_file.new.file c.sync_file.new.file c.resize_file.ensures.still c.sync_file.ensures.still

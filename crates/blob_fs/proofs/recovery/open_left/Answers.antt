@@ -1,47 +1,47 @@
-use Rattle.std.proofs.Common.{◌≡◌, Bool, Option, Some, true, arith, rules, subst, sym, ◌∙◌}
-use Rattle.std.specs.BTreeMap.{get}
-use Rattle.std.specs.Ordering.{nat_cmp}
+use Rattle.std.proofs.Common.{ℕ, List, arith, subst}
 use Rattle.blob_journal.specs.Blobs.{HasDurable}
-use Rattle.blob_fs.specs.declared.file_system.File.{File}
-use Rattle.blob_fs.specs.Bytes.{left_of}
+use Rattle.blob_journal.specs.Fixed.{IsOpen}
+use Rattle.blob_fs.proofs.Fixing.{all_fixed, but_twice}
 use Rattle.blob_fs.proofs.recovery.open_left.Goals as goal
 
-pub returns-in_err-cut-clause-files : goal.returns-in_err-cut-clause-files
-returns-in_err-cut-clause-files g c = λ r. c.cut.ensures.files c.in_ok-blob.ensures.given (c.in_ok-blob.ensures.files r)
+pub returns-in_err-sync_file-clause-files : goal.returns-in_err-sync_file-clause-files
+returns-in_err-sync_file-clause-files g c = λ r. c.sync_file.ensures.files (c.open_cut.ensures.files r)
 
 pub returns-clause-files : goal.returns-clause-files
-returns-clause-files g c = λ r. c.cut.ensures.files c.in_ok-blob.ensures.given (c.in_ok-blob.ensures.files r)
+returns-clause-files g c = λ r. c.sync_file.ensures.files (c.open_cut.ensures.files r)
 
 pub returns-clause-left : goal.returns-clause-left
 returns-clause-left g c =
-    let o = c.in_ok-blob.ensures.opened in
-    let inode = c.args.inode in
-    let was : File = c.in-Some.was.now in
-    let there : get nat_cmp c.args.old.now inode ≡ Some was = search rules in
-    let yes : c.args.cuts ≡ true = search rules in
-    let left : HasDurable c.cut.new.store inode c.cut.new.blob (left_of true (Some was) o.bytes) = c.in_ok-cut.ensures.cut inode o.bytes o.has in
+    let d = c.in_ok-blob.ensures.left in
+    let blob = c.in_ok-blob.blob in
+    let own : IsOpen c.open_cut.new.store c.args.inode blob = c.blobs.ensures.is_open c.open_cut.new.store c.args.inode blob _ d.has in
     record {
-      found = o.bytes;
-      is = o.found;
-      has = subst (λ (x : Option File). HasDurable c.cut.new.store inode c.cut.new.blob (left_of c.args.cuts x o.bytes)) (sym there)
-          (subst (λ (b : Bool). HasDurable c.cut.new.store inode c.cut.new.blob (left_of b (Some was) o.bytes)) (sym yes) left);
-      size = c.size-found.ensures ∙ o.has.seen.size;
+      bytes = d.bytes;
+      is = d.is;
+      has = subst (λ (l : List ℕ). HasDurable c.sync_file.new.self c.args.inode c.sync_file.new.file l) (c.blobs.ensures.reads blob _ d.has.seen) (c.in_ok-sync_file.ensures.synced c.args.inode own);
+      size = d.size;
     }
 
 pub returns-clause-others : goal.returns-clause-others
 returns-clause-others g c = λ other below apart.
-    let o = c.in_ok-blob.ensures.opened in
-    c.blobs.ensures.twice c.args.store.now c.open_file.new.self c.cut.new.store other (c.in_ok-blob.ensures.others other below apart)
-    (c.in_ok-cut.ensures.others c.args.inode o.bytes (omega arith) o.has other below apart)
+    let d = c.in_ok-blob.ensures.left in
+    c.blobs.ensures.twice c.args.store.now c.open_cut.new.store c.sync_file.new.self other (c.in_ok-blob.ensures.others other below apart)
+    (c.in_ok-sync_file.ensures.others c.args.inode _ (omega arith) d.has.is other below apart)
 
-pub returns-in_err-blob-clause-handles : goal.returns-in_err-blob-clause-handles
-returns-in_err-blob-clause-handles g c = c.open_file.ensures.still.still
-
-pub returns-then-not-cuts-clause-handles : goal.returns-then-not-cuts-clause-handles
-returns-then-not-cuts-clause-handles g c = c.open_file.ensures.still.still
-
-pub returns-in_err-cut-clause-handles : goal.returns-in_err-cut-clause-handles
-returns-in_err-cut-clause-handles g c = λ inode file h. c.cut.ensures.handles inode file (c.open_file.ensures.still.still inode file h)
+pub returns-in_err-sync_file-clause-handles : goal.returns-in_err-sync_file-clause-handles
+returns-in_err-sync_file-clause-handles g c = λ inode file h. c.sync_file.ensures.handles inode file (c.open_cut.ensures.handles inode file h)
 
 pub returns-clause-handles : goal.returns-clause-handles
-returns-clause-handles g c = λ inode file h. c.cut.ensures.handles inode file (c.open_file.ensures.still.still inode file h)
+returns-clause-handles g c = λ inode file h. c.sync_file.ensures.handles inode file (c.open_cut.ensures.handles inode file h)
+
+pub returns-clause-still : goal.returns-clause-still
+returns-clause-still g c =
+    let blob = c.in_ok-blob.blob in
+    let own : IsOpen c.open_cut.new.store c.args.inode blob = c.blobs.ensures.is_open c.open_cut.new.store c.args.inode blob _ c.in_ok-blob.ensures.left.has in
+    but_twice c.args.inode c.args.store.now c.open_cut.new.store c.sync_file.new.self c.in_ok-blob.ensures.still (c.sync_file.ensures.still.others c.args.inode (omega arith) own)
+
+pub returns-clause-fixes : goal.returns-clause-fixes
+returns-clause-fixes g c =
+    let blob = c.in_ok-blob.blob in
+    let own : IsOpen c.open_cut.new.store c.args.inode blob = c.blobs.ensures.is_open c.open_cut.new.store c.args.inode blob _ c.in_ok-blob.ensures.left.has in
+    all_fixed c.blobs.ensures.reads c.open_cut.new.store c.sync_file.new.self c.args.inode blob c.sync_file.new.file own c.in_ok-sync_file.ensures.synced c.in_ok-sync_file.ensures.fixes

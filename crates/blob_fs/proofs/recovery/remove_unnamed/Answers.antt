@@ -2,6 +2,7 @@ use Rattle.std.proofs.Common.{◌≡◌, false, is_some, ap, sym, rules, ◌∙�
 use Rattle.std.proofs.lemmas.Bool.{false≢true}
 use Rattle.std.specs.BTreeMap.{get}
 use Rattle.std.specs.Ordering.{nat_cmp}
+use Rattle.blob_fs.proofs.Fixing.{whole_beside}
 use Rattle.blob_fs.proofs.recovery.remove_unnamed.Goals as goal
 
 pub loop-inode-preserved-then-not-contains_key : goal.loop-inode-preserved-then-not-contains_key
@@ -16,5 +17,7 @@ loop-inode-preserved-then-not-contains_key g c =
       opened = λ h i f below at. c.remove_blob.ensures.still.still i f.blob below
           (λ e. false≢true (sym no ∙ c.contains_key.ensures ∙ ap (λ k. is_some (get nat_cmp c.args.files.now k)) (sym e) ∙ ap is_some at))
           (c.loop-inode.invariant.opened h i f below at);
+      whole = λ h w. whole_beside c.loop-inode.store c.remove_blob.new.store c.args.files.now _ (sym c.contains_key.ensures ∙ no) c.remove_blob.ensures.still (c.loop-inode.invariant.opened h)
+          (c.loop-inode.invariant.whole h w);
       told = c.remove_blob.ensures.told ∙ c.loop-inode.invariant.told;
     }

@@ -1,7 +1,9 @@
 use Rattle.std.proofs.Common.{◌≡◌, ◌∷◌, ℕ, [], List, subst, ◌∙◌}
 use Rattle.std.specs.Map.Iter.{deref_pair}
 use Rattle.std.proofs.lemmas.Map.Iter.{rest_all, rest_more}
-use Rattle.blob_fs.proofs.Recovering.{AreLinked, Ascend, Stands, all_open, ascend_rest, ends, linked_first, linked_rest, only_more, same_now, takes}
+use Rattle.blob_journal.specs.Fixed.{IsOpen}
+use Rattle.blob_fs.proofs.Fixing.{open_more, whole_more}
+use Rattle.blob_fs.proofs.Recovering.{AreLinked, Ascend, Stands, ascend_rest, ends, linked_first, linked_rest, only_more, takes}
 use Rattle.blob_fs.proofs.recovery.reopen_all.Goals as goal
 
 pub loop-inode-preserved : goal.loop-inode-preserved
@@ -16,34 +18,34 @@ loop-inode-preserved g c =
     let laws = c.blobs.ensures in
     let is : c.loop-inode.inode-iterator ≡ (k, links) ∷ rest = rest_more deref_pair c.loop-inode.inode-iterator rest c.next.result (c.in-Some.inode, c.in-Some.links) c.in-Some.is c.next.ensures.steps in
     let counted : AreLinked tree ((k, links) ∷ rest) = subst (AreLinked tree) is i.counted in
+    let file = c.in_ok-file.file in
+    let own : IsOpen c.reopen.new.store k file.blob = laws.is_open c.reopen.new.store k file.blob _ c.in_ok-file.ensures.left.left.has in
     record {
       names = c.reopen.ensures.names ∙ i.names;
       files = λ r. c.reopen.ensures.files (i.files r);
       ascend = ascend_rest c.loop-inode.inode-iterator rest (k, links) is i.ascend;
       counted = linked_rest tree k links rest counted;
-      left = takes j old tree c.args.cuts laws.current laws.stays laws.twice k links rest c.loop-inode.store c.reopen.new.store c.loop-inode.files c.put.new.files c.in_ok-file.file
+      left = takes j old tree c.args.kept.now c.args.loss.now laws.current laws.stays laws.twice k links rest c.loop-inode.store c.reopen.new.store c.loop-inode.files c.put.new.files c.in_ok-file.file
           (subst Ascend is i.ascend) c.in_ok-put.ensures.0 c.in_ok-file.ensures.others c.in_ok-file.ensures.left
-          (subst (λ (l : List (ℕ × ℕ)). Stands j old tree c.args.cuts l c.loop-inode.store c.loop-inode.files) is i.left);
+          (subst (λ (l : List (ℕ × ℕ)). Stands j old tree c.args.kept.now c.args.loss.now l c.loop-inode.store c.loop-inode.files) is i.left);
       told = c.reopen.ensures.told ∙ i.told;
       handles = λ inode file is. c.reopen.ensures.handles inode file (i.handles inode file is);
       linked = only_more tree c.loop-inode.files c.put.new.files k c.in_ok-file.file c.in_ok-put.ensures (linked_first tree k links rest counted) i.linked;
+      opened = open_more c.loop-inode.store c.reopen.new.store c.loop-inode.files c.put.new.files k file c.in_ok-put.ensures.0 c.in_ok-file.ensures.still i.opened own;
+      whole = whole_more c.loop-inode.store c.reopen.new.store c.loop-inode.files c.put.new.files k file c.in_ok-put.ensures.0 c.in_ok-file.ensures.still i.opened i.whole c.in_ok-file.ensures.whole;
     }
 
 pub returns-clause-left : goal.returns-clause-left
 returns-clause-left g c =
     let none : c.loop-inode.inode-iterator ≡ [] = rest_all deref_pair c.loop-inode.inode-iterator c.next.new.self c.next.result c.in-None.is c.next.ensures.steps in
-    ends c.args.store.now c.args.old.now c.args.tree.now c.args.cuts c.loop-inode.store c.loop-inode.files
-    (subst (λ (l : List (ℕ × ℕ)). Stands c.args.store.now c.args.old.now c.args.tree.now c.args.cuts l c.loop-inode.store c.loop-inode.files) none c.loop-inode.invariant.left)
+    ends c.args.store.now c.args.old.now c.args.tree.now c.args.kept.now c.args.loss.now c.loop-inode.store c.loop-inode.files
+    (subst (λ (l : List (ℕ × ℕ)). Stands c.args.store.now c.args.old.now c.args.tree.now c.args.kept.now c.args.loss.now l c.loop-inode.store c.loop-inode.files) none c.loop-inode.invariant.left)
 
 pub returns-clause-opened : goal.returns-clause-opened
-returns-clause-opened g c =
-    let none : c.loop-inode.inode-iterator ≡ [] = rest_all deref_pair c.loop-inode.inode-iterator c.next.new.self c.next.result c.in-None.is c.next.ensures.steps in
-    let j = c.args.store.now in
-    let store = c.loop-inode.store in
-    let files = c.loop-inode.files in
-    let all = ends j c.args.old.now c.args.tree.now c.args.cuts store files
-    (subst (λ (l : List (ℕ × ℕ)). Stands j c.args.old.now c.args.tree.now c.args.cuts l store files) none c.loop-inode.invariant.left) in
-    all_open c.blobs.ensures.stays j store store c.args.old.now c.args.tree.now c.args.cuts files all c.loop-inode.invariant.linked (same_now store files)
+returns-clause-opened g c = c.loop-inode.invariant.opened
+
+pub returns-clause-whole : goal.returns-clause-whole
+returns-clause-whole g c = c.loop-inode.invariant.whole
 
 pub returns-in_err-file-clause-handles : goal.returns-in_err-file-clause-handles
 returns-in_err-file-clause-handles g c = λ inode file h. c.reopen.ensures.handles inode file (c.loop-inode.invariant.handles inode file h)

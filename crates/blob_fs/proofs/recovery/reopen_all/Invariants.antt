@@ -4,6 +4,8 @@ use Rattle.blob_journal.specs.Fixed.{KeepsHandles}
 use Rattle.blob_journal.specs.Journals.{store_of}
 use Rattle.blob_journal.specs.Keeping.{table_in, told_in}
 use Rattle.blob_fs.specs.Bytes.{HasOnlyLinked}
+use Rattle.blob_fs.specs.Fixed.{AreWhole}
+use Rattle.blob_fs.specs.Open.{AllOpen}
 use Rattle.blob_fs.proofs.Recovering.{AreLinked, Ascend, Stands}
 use Rattle.blob_fs.proofs.recovery.reopen_all.Given as goal
 
@@ -13,8 +15,10 @@ invariant-loop-inode g l = record {
   files : KeepsFiles (store_of l.fn.store) (store_of l.store);
   ascend : Ascend l.inode-iterator;
   counted : AreLinked l.tree l.inode-iterator;
-  left : Stands l.fn.store l.old l.tree l.cuts l.inode-iterator l.store l.files;
+  left : Stands l.fn.store l.old l.tree l.kept l.loss l.inode-iterator l.store l.files;
   told : told_in l.store ≡ told_in l.fn.store;
   handles : KeepsHandles l.fn.store l.store;
   linked : HasOnlyLinked l.tree l.files;
+  opened : AllOpen l.store l.files;
+  whole : AreWhole l.store l.files;
 }

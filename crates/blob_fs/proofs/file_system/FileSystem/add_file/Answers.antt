@@ -1,7 +1,7 @@
 use Rattle.std.proofs.Common.{sym, subst}
 use Rattle.blob_journal.specs.declared.store.FileBlob.{FileBlob}
 use Rattle.blob_journal.specs.Fixed.{IsOpen}
-use Rattle.blob_fs.proofs.Fixed.{fixed_added, opened_inserted}
+use Rattle.blob_fs.proofs.Fixed.{opened_inserted}
 use Rattle.blob_fs.proofs.file_system.FileSystem.add_file.Goals as goal
 
 pub invariant_of-self : goal.invariant_of-self

@@ -1,6 +1,5 @@
-use Rattle.std.proofs.Common.{List, sym, subst, ap, ◌≡◌, ◌∙◌}
+use Rattle.std.proofs.Common.{List, sym, subst, ap, ◌∙◌}
 use Rattle.blob_directory.specs.declared.table.Table.{Table}
-use Rattle.blob_directory.specs.Names.{Same}
 use Rattle.blob_directory.specs.Sectors.{Found}
 use Rattle.blob_directory.specs.Settled.{AreSettled}
 use Rattle.blob_directory.specs.Tables.{bound}
@@ -18,3 +17,6 @@ returns-clause-settled g c = λ h.
 
 pub invariant_of-self : goal.invariant_of-self
 invariant_of-self g c = record { opened = ∣ c.remove_unnamed.ensures.opened c.requires.opened ∣₁ }
+
+pub returns-clause-whole : goal.returns-clause-whole
+returns-clause-whole g c = λ h. c.remove_unnamed.ensures.whole c.requires.opened h

@@ -84,7 +84,7 @@ returns-in-OpenTruncated-clause-does g c =
     let fs' : FileSystem g.row.R.Denot = c.open_inode_truncated.new.self in
     let r = c.open_inode_truncated.ensures in
     subst (λ (call : Call). Does call c.is_ok-in-OpenTruncated.result fs fs') (sym c.in-OpenTruncated.is)
-    (leaves fs fs' r.names r.told)
+    (r.names, r.told)
 
 pub returns-in-Close-clause-does : goal.returns-in-Close-clause-does
 returns-in-Close-clause-does g c =
@@ -112,7 +112,7 @@ returns-in-Truncate-clause-does g c =
     let fs' : FileSystem g.row.R.Denot = c.truncate.new.self in
     let r = c.truncate.ensures in
     subst (λ (call : Call). Does call c.is_ok-in-Truncate.result fs fs') (sym c.in-Truncate.is)
-    (leaves fs fs' r.names r.told)
+    (r.names, r.told)
 
 pub returns-in-Read-clause-does : goal.returns-in-Read-clause-does
 returns-in-Read-clause-does g c =

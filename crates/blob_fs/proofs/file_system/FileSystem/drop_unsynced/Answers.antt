@@ -1,7 +1,9 @@
-use Rattle.std.proofs.Common.{Some, arith, refl}
+use Rattle.std.proofs.Common.{◌<◌, List, Some, arith, refl, subst, sym}
+use Rattle.std.specs.Prelude.{All}
+use Rattle.blob_fs.specs.declared.truncation.Truncation.{Truncation}
 use Rattle.blob_journal.specs.Fixed.{KeepsOpen}
 use Rattle.blob_fs.specs.declared.file_system.File.{File}
-use Rattle.blob_fs.proofs.Fixed.{contents_same, contents_through, fixed_after, opened_after, sets_through, still_twice}
+use Rattle.blob_fs.proofs.Fixed.{all_none, contents_same, contents_through, fixed_after, opened_after, sets_through, still_twice}
 use Rattle.blob_fs.proofs.Syncing.{fixed_again, opened_again, reopens_after}
 use Rattle.blob_fs.proofs.file_system.FileSystem.drop_unsynced.Goals as goal
 
@@ -16,7 +18,7 @@ invariant_of-self-in-Break-1 g c =
     let file = c.in-Some.file.now in
     record {
       opened = opened_after fs.store c.shown_bytes.new.store fs.files (c.get_mut.follows.lender file)
-          (contents_through fs.files (c.get_mut.follows.lender file) c.args.inode file file c.in-Some.ensures.value (c.get_mut.follows.holds file) (record { blob = refl; synced = refl }))
+          (contents_through fs.files (c.get_mut.follows.lender file) c.args.inode file file c.in-Some.ensures.value (c.get_mut.follows.holds file) (record { blob = refl; synced = refl; truncations = refl }))
           (still_twice fs.store c.set_config.new.self c.shown_bytes.new.store c.set_config.ensures.still c.shown_bytes.ensures.still) fs.opened;
     }
 
@@ -25,7 +27,7 @@ returns-in_err-shown-clause-fixed g c =
     let fs = c.args.self.now in
     let file = c.in-Some.file.now in
     fixed_after fs _ (omega arith)
-    (contents_through fs.files (c.get_mut.follows.lender file) c.args.inode file file c.in-Some.ensures.value (c.get_mut.follows.holds file) (record { blob = refl; synced = refl }))
+    (contents_through fs.files (c.get_mut.follows.lender file) c.args.inode file file c.in-Some.ensures.value (c.get_mut.follows.holds file) (record { blob = refl; synced = refl; truncations = refl }))
     (still_twice fs.store c.set_config.new.self c.shown_bytes.new.store c.set_config.ensures.still c.shown_bytes.ensures.still)
 
 pub invariant_of-self-in-Break-branch-2 : goal.invariant_of-self-in-Break-branch-2
@@ -35,7 +37,7 @@ invariant_of-self-in-Break-branch-2 g c =
     let shown : KeepsOpen fs.store c.shown_bytes.new.store = still_twice fs.store c.set_config.new.self c.shown_bytes.new.store c.set_config.ensures.still c.shown_bytes.ensures.still in
     record {
       opened = opened_after fs.store c.reopen_file.new.self fs.files (c.get_mut.follows.lender file)
-          (contents_through fs.files (c.get_mut.follows.lender file) c.args.inode file file c.in-Some.ensures.value (c.get_mut.follows.holds file) (record { blob = refl; synced = refl }))
+          (contents_through fs.files (c.get_mut.follows.lender file) c.args.inode file file c.in-Some.ensures.value (c.get_mut.follows.holds file) (record { blob = refl; synced = refl; truncations = refl }))
           (still_twice fs.store c.shown_bytes.new.store c.reopen_file.new.self shown c.reopen_file.ensures.still) fs.opened;
     }
 
@@ -43,7 +45,7 @@ pub invariant_of-self-2 : goal.invariant_of-self-2
 invariant_of-self-2 g c =
     let fs = c.args.self.now in
     let file = c.in-Some.file.now in
-    let new : File = record file { blob = c.in_ok-file.field-0; shown = Some c.in_ok-shown.shown } in
+    let new : File = record file { blob = c.in_ok-file.field-0; shown = Some c.in_ok-shown.shown; truncations = c.clear.new.self } in
     let shown : KeepsOpen fs.store c.shown_bytes.new.store = still_twice fs.store c.set_config.new.self c.shown_bytes.new.store c.set_config.ensures.still c.shown_bytes.ensures.still in
     record {
       opened = opened_again fs.store c.reopen_file.new.self fs.files (c.get_mut.follows.lender new) c.args.inode new
@@ -57,10 +59,11 @@ pub returns-clause-fixed : goal.returns-clause-fixed
 returns-clause-fixed g c =
     let fs = c.args.self.now in
     let file = c.in-Some.file.now in
-    let new : File = record file { blob = c.in_ok-file.field-0; shown = Some c.in_ok-shown.shown } in
+    let new : File = record file { blob = c.in_ok-file.field-0; shown = Some c.in_ok-shown.shown; truncations = c.clear.new.self } in
     let shown : KeepsOpen fs.store c.shown_bytes.new.store = still_twice fs.store c.set_config.new.self c.shown_bytes.new.store c.set_config.ensures.still c.shown_bytes.ensures.still in
     fixed_again fs _ (omega arith) c.args.inode file new c.in-Some.ensures.value
-    (sets_through fs.files (c.get_mut.follows.lender new) c.args.inode file new c.in-Some.ensures.value (c.get_mut.follows.holds new)) refl
+    (sets_through fs.files (c.get_mut.follows.lender new) c.args.inode file new c.in-Some.ensures.value (c.get_mut.follows.holds new))
+    (λ at s. record { below = s.below; uncut = subst (λ (ts : List Truncation). All (λ t. at < t.length) ts) (sym c.clear.ensures.items) (all_none (λ t. at < t.length)) })
     (still_twice fs.store c.shown_bytes.new.store c.reopen_file.new.self shown c.reopen_file.ensures.still)
     (reopens_after fs.store c.shown_bytes.new.store c.reopen_file.new.self c.args.inode new.blob shown c.in_ok-file.ensures.reopened)
     fs.opened

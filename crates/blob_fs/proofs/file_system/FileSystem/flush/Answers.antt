@@ -1,8 +1,8 @@
-use Rattle.std.proofs.Common.{◌<◌, ◌≤◌, ◌^◌, ℕ, false, inr, refl, subst, sym, arith}
+use Rattle.std.proofs.Common.{◌<◌, ◌≤◌, ◌^◌, false, inr, arith}
 use Rattle.blob_journal.specs.Fixed.{ChangesOpen}
 use Rattle.blob_fs.specs.declared.file_system.File.{File}
 use Rattle.blob_fs.proofs.Fixed.{changes_after, contents_same, fixed_changed, opened_after, opened_changed, sets_through}
-use Rattle.blob_fs.proofs.Syncing.{seen_below}
+use Rattle.blob_fs.proofs.Syncing.{seen_below, synced_whole}
 use Rattle.blob_fs.proofs.file_system.FileSystem.flush.Goals as goal
 
 pub invariant_of-self-in_default : goal.invariant_of-self-in_default
@@ -37,13 +37,13 @@ returns-in_err-sync_file-clause-fixed g c =
     let small : c.args.inode < 2 ^ 64 = omega arith in
     λ inode at byte below h.
     fixed_changed fs _ more (λ at. Unit) c.args.inode was new small c.in-Some.ensures.value sets changes fs.opened
-    inode at byte below (inr tt) (λ long is. long) h
+    inode at byte below (inr tt) (λ s long is. record { below = long.below; uncut = long.uncut }) h
 
 pub invariant_of-self-2 : goal.invariant_of-self-2
 invariant_of-self-2 g c =
     let fs = c.args.self.now in
     let was = c.in-Some.file.now in
-    let new : File = record was { blob = c.sync_file.new.file; synced = c.size-file.result; is_truncated = false } in
+    let new : File = record was { blob = c.sync_file.new.file; synced = c.size-file.result; is_truncated = false; truncations = c.clear.new.self } in
     let changes : ChangesOpen (λ at. Unit) fs.store was.blob c.sync_file.new.self new.blob =
     changes_after (λ at. Unit) fs.store c.set_config.new.self c.sync_file.new.self was.blob new.blob c.set_config.ensures.still c.sync_file.ensures.still in
     let sets = sets_through fs.files (c.get_mut.follows.lender new) c.args.inode was new c.in-Some.ensures.value (c.get_mut.follows.holds new) in
@@ -55,7 +55,7 @@ pub returns-clause-fixed : goal.returns-clause-fixed
 returns-clause-fixed g c =
     let fs = c.args.self.now in
     let was = c.in-Some.file.now in
-    let new : File = record was { blob = c.sync_file.new.file; synced = c.size-file.result; is_truncated = false } in
+    let new : File = record was { blob = c.sync_file.new.file; synced = c.size-file.result; is_truncated = false; truncations = c.clear.new.self } in
     let changes : ChangesOpen (λ at. Unit) fs.store was.blob c.sync_file.new.self new.blob =
     changes_after (λ at. Unit) fs.store c.set_config.new.self c.sync_file.new.self was.blob new.blob c.set_config.ensures.still c.sync_file.ensures.still in
     let sets = sets_through fs.files (c.get_mut.follows.lender new) c.args.inode was new c.in-Some.ensures.value (c.get_mut.follows.holds new) in
@@ -63,4 +63,4 @@ returns-clause-fixed g c =
     let small : c.args.inode < 2 ^ 64 = omega arith in
     λ inode at byte below h.
     fixed_changed fs _ more (λ at. Unit) c.args.inode was new small c.in-Some.ensures.value sets changes fs.opened
-    inode at byte below (inr tt) (λ long is. subst (λ (n : ℕ). at < n) (sym c.size-file.ensures) (seen_below new.blob at byte is.seen)) h
+    inode at byte below (inr tt) (λ s long is. synced_whole at new c.size-file.ensures c.clear.ensures.items (seen_below new.blob at byte is.seen)) h

@@ -1,4 +1,4 @@
-use Rattle.std.proofs.Common.{◌≡◌, ℕ, arith, refl, true}
+use Rattle.std.proofs.Common.{arith, refl, true}
 use Rattle.blob_fs.specs.declared.file_system.File.{File}
 use Rattle.blob_fs.proofs.Fixed.{contents_same, contents_through, contents_twice, fixed_after, opened_none, opened_through, still_same}
 use Rattle.blob_fs.proofs.file_system.FileSystem.let_go.Goals as goal
@@ -8,24 +8,24 @@ invariant_of-self g c = record { opened = opened_none c.args.self.now.store c.ar
 
 pub invariant_of-self-then-file-gt0 : goal.invariant_of-self-then-file-gt0
 invariant_of-self-then-file-gt0 g c = record {
-  opened = opened_through c.args.self.now.store c.args.self.now.files (c.get_mut.follows.lender c.in-Some.file.now) c.args.inode c.in-Some.file.now c.in-Some.file.now c.in-Some.ensures.value (c.get_mut.follows.holds _) (record { blob = refl; synced = refl }) c.args.self.now.opened;
+  opened = opened_through c.args.self.now.store c.args.self.now.files (c.get_mut.follows.lender c.in-Some.file.now) c.args.inode c.in-Some.file.now c.in-Some.file.now c.in-Some.ensures.value (c.get_mut.follows.holds _) (record { blob = refl; synced = refl; truncations = refl }) c.args.self.now.opened;
 }
 
 pub invariant_of-self-then-file-gt0-2 : goal.invariant_of-self-then-file-gt0-2
 invariant_of-self-then-file-gt0-2 g c = record {
-  opened = opened_through c.args.self.now.store c.args.self.now.files (c.get_mut.follows.lender c.in-Some.file.now) c.args.inode c.in-Some.file.now c.in-Some.file.now c.in-Some.ensures.value (c.get_mut.follows.holds _) (record { blob = refl; synced = refl }) c.args.self.now.opened;
+  opened = opened_through c.args.self.now.store c.args.self.now.files (c.get_mut.follows.lender c.in-Some.file.now) c.args.inode c.in-Some.file.now c.in-Some.file.now c.in-Some.ensures.value (c.get_mut.follows.holds _) (record { blob = refl; synced = refl; truncations = refl }) c.args.self.now.opened;
 }
 
 pub invariant_of-self-then-file : goal.invariant_of-self-then-file
 invariant_of-self-then-file g c = record {
-  opened = opened_through c.args.self.now.store c.args.self.now.files (c.get_mut.follows.lender c.in-Some.file.now) c.args.inode c.in-Some.file.now c.in-Some.file.now c.in-Some.ensures.value (c.get_mut.follows.holds _) (record { blob = refl; synced = refl }) c.args.self.now.opened;
+  opened = opened_through c.args.self.now.store c.args.self.now.files (c.get_mut.follows.lender c.in-Some.file.now) c.args.inode c.in-Some.file.now c.in-Some.file.now c.in-Some.ensures.value (c.get_mut.follows.holds _) (record { blob = refl; synced = refl; truncations = refl }) c.args.self.now.opened;
 }
 
 pub invariant_of-self-2 : goal.invariant_of-self-2
 invariant_of-self-2 g c =
     let gone : File = record c.in-Some.file.now { is_gone = true } in
     record {
-      opened = opened_through c.args.self.now.store c.args.self.now.files (c.get_mut.follows.lender gone) c.args.inode c.in-Some.file.now gone c.in-Some.ensures.value (c.get_mut.follows.holds gone) (record { blob = refl; synced = refl }) c.args.self.now.opened;
+      opened = opened_through c.args.self.now.store c.args.self.now.files (c.get_mut.follows.lender gone) c.args.inode c.in-Some.file.now gone c.in-Some.ensures.value (c.get_mut.follows.holds gone) (record { blob = refl; synced = refl; truncations = refl }) c.args.self.now.opened;
     }
 
 pub returns-clause-fixed : goal.returns-clause-fixed
@@ -35,6 +35,6 @@ returns-clause-fixed g c =
     let next = c.count.ensures.number in
     fixed_after fs c.count.new.self (omega (arith, next))
     (contents_twice fs.files (c.get_mut.follows.lender gone) c.count.new.self.files
-    (contents_through fs.files (c.get_mut.follows.lender gone) c.args.inode c.in-Some.file.now gone c.in-Some.ensures.value (c.get_mut.follows.holds gone) (record { blob = refl; synced = refl }))
+    (contents_through fs.files (c.get_mut.follows.lender gone) c.args.inode c.in-Some.file.now gone c.in-Some.ensures.value (c.get_mut.follows.holds gone) (record { blob = refl; synced = refl; truncations = refl }))
     (contents_same (c.get_mut.follows.lender gone) c.count.new.self.files c.count.ensures.files.files))
     (still_same fs.store c.count.new.self.store c.count.ensures.store)

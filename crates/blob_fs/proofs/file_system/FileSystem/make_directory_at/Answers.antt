@@ -1,4 +1,4 @@
-use Rattle.std.proofs.Common.{◌<◌, arith}
+use Rattle.std.proofs.Common.{arith}
 use Rattle.blob_fs.proofs.file_system.FileSystem.make_directory_at.Goals as goal
 
 pub returns-in_err-insert-clause-fixed : goal.returns-in_err-insert-clause-fixed

@@ -10,12 +10,16 @@ use Rattle.blob_directory.specs.Trees.{has_link}
 use Rattle.std.proofs.Common.{ℕ}
 use Rattle.std.specs.BTreeMap.{BTreeMap, get}
 use Rattle.std.specs.Ordering.{nat_cmp}
-use Rattle.blob_fs.specs.Bytes.{HasOnlyLinked}
+use Rattle.std.proofs.Common.{Bool, List, Option}
+use Rattle.blob_journal.specs.Blobs.{current_file}
+use Rattle.blob_fs.specs.Bytes.{HasBytes, HasOnlyLinked, IsFound, IsLeft, bytes_found, bytes_left, file_in}
+use Rattle.blob_fs.specs.Truncations.{lost_of}
 use Rattle.blob_fs.specs.Open.{AllOpen}
 use Rattle.blob_fs.specs.declared.file_system.File.{File}
 use Rattle.blob_fs.proofs.Crashed.{found_is, opened_handles}
 use Rattle.blob_fs.proofs.Fixed.{opened_store}
 use Rattle.blob_fs.proofs.Recovering.{all_open, has_bytes, left_stays, no_orphan}
+use Rattle.blob_fs.proofs.Fixing.{fixes_found, whole_after}
 use Rattle.blob_fs.proofs.file_system.FileSystem.recover.Goals as goal
 
 pub returns-clause-found : goal.returns-clause-found
@@ -52,12 +56,17 @@ returns-clause-bytes g c = λ name inode below named.
     let d = c.in_ok-files.ensures.left inode below linked in
     let l = d.left in
     let same = c.blobs.ensures.twice opened renewed new.store inode (c.in_ok-directories.ensures.same inode) (c.begin_life.ensures.kept inode l.file below l.at) in
+    let found : IsFound (current_file fs.store inode) d.bytes = λ bytes is. d.is bytes (c.blobs.ensures.current fs.store searched inode (c.in_ok-tree.ensures.same inode) ∙ is) in
+    let kept = c.args.kept.now in
+    let lost : c.in_ok-lost.lost.items ≡ lost_of c.args.numbers.now c.in_ok-tree.edits.items = c.in_ok-lost.ensures ∙ ap (λ (l : List Bool). lost_of c.args.numbers.now l) c.deref.ensures.value in
+    let old : Option File = file_in fs inode in
+    let left : IsLeft new.store inode l.file _ _ = left_stays c.blobs.ensures.stays opened new.store inode l.file _ _ same l.left in
     record {
-      found = d.found;
-      is = λ bytes is. d.is bytes (c.blobs.ensures.current fs.store searched inode (c.in_ok-tree.ensures.same inode) ∙ is);
-      was = found_is c.blobs.ensures.durable fs.store inode d.found (λ bytes is. d.is bytes (c.blobs.ensures.current fs.store searched inode (c.in_ok-tree.ensures.same inode) ∙ is)) fs.files below fs.opened;
-      has = has_bytes c.blobs.ensures.found c.blobs.ensures.reads new inode d.found _ l.file (ap (λ (m : BTreeMap ℕ File). get nat_cmp m inode) c.begin_life.ensures.files ∙ l.at)
-          (left_stays c.blobs.ensures.stays opened new.store inode l.file d.found _ same l.left);
+      bytes = d.bytes;
+      is = found;
+      was = found_is c.blobs.ensures.durable fs.store inode d.bytes found fs.files below fs.opened;
+      has = subst (λ (n : List ℕ). HasBytes new inode (bytes_found fs kept n inode d.bytes) (bytes_left fs n inode (bytes_found fs kept n inode d.bytes))) lost
+          (has_bytes c.blobs.ensures.found c.blobs.ensures.reads new inode _ _ l.file (ap (λ (m : BTreeMap ℕ File). get nat_cmp m inode) c.begin_life.ensures.files ∙ l.at) left);
     }
 
 pub returns-clause-orphans : goal.returns-clause-orphans
@@ -74,15 +83,15 @@ returns-clause-opened g c =
     let new = c.begin_life.new.self in
     let files = c.in_ok-files.files in
     subst (AllOpen new.store) (sym c.begin_life.ensures.files)
-    (all_open c.blobs.ensures.stays c.find_names.new.self opened new.store c.args.self.now.files c.in_ok-tree.tree c.args.self.now.options.profile.cuts files
+    (all_open c.blobs.ensures.stays c.find_names.new.self opened new.store c.args.self.now.files c.in_ok-tree.tree c.args.kept.now _ files
     c.in_ok-files.ensures.left c.in_ok-files.ensures.linked
     (λ inode file below at. c.blobs.ensures.twice opened c.renew.new.self new.store inode (c.in_ok-directories.ensures.same inode) (c.begin_life.ensures.kept inode file below at)))
 
 pub invariant_of-self : goal.invariant_of-self
 invariant_of-self g c = record { opened = opened_store c.args.self.now.store c.find_names.new.self c.args.self.now.files c.find_names.ensures.still c.args.self.now.opened }
 
-pub invariant_of-self-in-Break-branch-2 : goal.invariant_of-self-in-Break-branch-2
-invariant_of-self-in-Break-branch-2 g c =
+pub invariant_of-self-in-Break-branch-3 : goal.invariant_of-self-in-Break-branch-3
+invariant_of-self-in-Break-branch-3 g c =
     let fs = c.args.self.now in
     record {
       opened = opened_handles c.find_names.new.self c.reopen_all.new.store fs.files c.reopen_all.ensures.handles
@@ -98,3 +107,14 @@ invariant_of-self-2 g c =
 
 pub begin_life-requires : goal.begin_life-requires
 begin_life-requires g c = record { opened = λ inode file below at. c.renew.ensures.still.still inode file.blob (c.in_ok-files.ensures.opened inode file below at) }
+
+pub invariant_of-self-in-Break-branch-2 : goal.invariant_of-self-in-Break-branch-2
+invariant_of-self-in-Break-branch-2 g c =
+    let fs = c.args.self.now in
+    record { opened = opened_store fs.store c.find_names.new.self fs.files c.find_names.ensures.still fs.opened }
+
+pub returns-clause-fixes : goal.returns-clause-fixes
+returns-clause-fixes g c =
+    let files = c.in_ok-files.files in
+    fixes_found c.args.self.now c.begin_life.new.self files c.begin_life.ensures.numbers c.begin_life.ensures.files
+    (c.begin_life.ensures.whole (whole_after c.reopen_all.new.store c.renew.new.self files c.renew.ensures.still c.in_ok-files.ensures.whole))

@@ -9,7 +9,7 @@ invariant_of-self g c =
     let was : File = c.in-Some.file.now in
     let now : File = record was { links = c.args.links } in
     record {
-      opened = opened_through fs.store fs.files (c.get_mut.follows.lender now) c.args.inode was now c.in-Some.ensures.value (c.get_mut.follows.holds now) (record { blob = refl; synced = refl }) fs.opened;
+      opened = opened_through fs.store fs.files (c.get_mut.follows.lender now) c.args.inode was now c.in-Some.ensures.value (c.get_mut.follows.holds now) (record { blob = refl; synced = refl; truncations = refl }) fs.opened;
     }
 
 pub invariant_of-self-in_default : goal.invariant_of-self-in_default

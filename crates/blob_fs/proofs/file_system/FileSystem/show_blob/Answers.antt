@@ -12,7 +12,7 @@ pub invariant_of-self-2 : goal.invariant_of-self-2
 invariant_of-self-2 g c =
     let new : File = record c.in-Some.file.now { shown = None } in
     record {
-      opened = opened_through c.args.self.now.store c.args.self.now.files (c.get_mut.follows.lender new) c.args.inode c.in-Some.file.now new c.in-Some.ensures.value (c.get_mut.follows.holds new) (record { blob = refl; synced = refl }) c.args.self.now.opened;
+      opened = opened_through c.args.self.now.store c.args.self.now.files (c.get_mut.follows.lender new) c.args.inode c.in-Some.file.now new c.in-Some.ensures.value (c.get_mut.follows.holds new) (record { blob = refl; synced = refl; truncations = refl }) c.args.self.now.opened;
     }
 
 pub returns-clause-fixed : goal.returns-clause-fixed
@@ -22,7 +22,7 @@ returns-clause-fixed g c =
     let next = c.count.ensures.number in
     fixed_after fs c.count.new.self (omega (arith, next))
     (contents_twice fs.files (c.get_mut.follows.lender new) c.count.new.self.files
-    (contents_through fs.files (c.get_mut.follows.lender new) c.args.inode c.in-Some.file.now new c.in-Some.ensures.value (c.get_mut.follows.holds new) (record { blob = refl; synced = refl }))
+    (contents_through fs.files (c.get_mut.follows.lender new) c.args.inode c.in-Some.file.now new c.in-Some.ensures.value (c.get_mut.follows.holds new) (record { blob = refl; synced = refl; truncations = refl }))
     (contents_same (c.get_mut.follows.lender new) c.count.new.self.files c.count.ensures.files.files))
     (still_same fs.store c.count.new.self.store c.count.ensures.store)
 

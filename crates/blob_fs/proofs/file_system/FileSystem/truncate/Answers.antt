@@ -1,10 +1,18 @@
-use Rattle.std.proofs.Common.{◌<◌, ◌≤◌, ◌^◌, ℕ, ap, sym, subst, refl, ◌∙◌, arith}
-use Rattle.blob_journal.specs.Fixed.{ChangesOpen}
+use Rattle.std.proofs.Common.{◌≡◌, ◌<◌, ◌≤◌, ◌^◌, ◌∷◌, [], ◌++◌, List, Some, ℕ, ap, inl, inr, sym, refl, ◌∙◌, arith}
+use Rattle.blob_journal.specs.Fixed.{ChangesOpen, KeepsOpen}
 use Rattle.std.specs.BTreeMap.{BTreeMap, get}
-use Rattle.std.specs.Ordering.{nat_cmp}
+use Rattle.std.proofs.lemmas.Bool.{cond-true}
+use Rattle.std.specs.Ordering.{is_eq, nat_cmp}
+use Rattle.blob_directory.specs.declared.unsettled.Unsettled.{Unsettled}
+use Rattle.blob_journal.specs.Settling.{unsettled_of}
+use Rattle.blob_fs.specs.Bytes.{file_in}
+use Rattle.blob_fs.specs.Noted.{truncations_in}
+use Rattle.blob_fs.proofs.Recovering.{key_self}
 use Rattle.blob_fs.specs.declared.file_system.File.{File}
+use Rattle.blob_fs.specs.declared.truncation.Truncation.{Truncation}
+use Rattle.blob_fs.specs.Fixed.{KeepsFixed}
 use Rattle.blob_fs.specs.Files.{descriptor_number}
-use Rattle.blob_fs.proofs.Fixed.{changes_again, contents_same, contents_through, fixed_after, keeps_spared, opened_changed, opened_none, opened_through, sets_through, still_self}
+use Rattle.blob_fs.proofs.Fixed.{changes_after, changes_again, changes_less, contents_same, contents_through, fixed_after, fixed_twice, keeps_spared, opened_after, opened_changed, opened_none, opened_through, sets_through, still_self, still_twice, synced_kept, synced_more}
 use Rattle.blob_fs.proofs.file_system.FileSystem.truncate.Goals as goal
 
 pub returns-in_err-begin_call-clause-fixed : goal.returns-in_err-begin_call-clause-fixed
@@ -19,71 +27,247 @@ returns-in_err-size-clause-fixed g c = λ inode at byte below spared f. c.begin_
 pub returns-in_err-check_room-clause-fixed : goal.returns-in_err-check_room-clause-fixed
 returns-in_err-check_room-clause-fixed g c = λ inode at byte below spared f. c.begin_call.ensures.fixed inode at byte below f
 
+pub returns-in_err-reached-clause-fixed : goal.returns-in_err-reached-clause-fixed
+returns-in_err-reached-clause-fixed g c = λ inode at byte below spared f. c.draw_truncation.ensures.drawn.fixed inode at byte below (c.begin_call.ensures.fixed inode at byte below f)
+
+pub returns-then-not-is_failed-clause-fixed : goal.returns-then-not-is_failed-clause-fixed
+returns-then-not-is_failed-clause-fixed g c =
+    let fs = c.args.self.now in
+    let one = c.draw_truncation.new.self in
+    let keeps : KeepsFixed fs one = fixed_twice fs c.begin_call.new.self one c.begin_call.ensures.fixed c.draw_truncation.ensures.drawn.fixed in
+    λ inode at byte below spared f. keeps inode at byte below f
+
 pub invariant_of-self : goal.invariant_of-self
 invariant_of-self g c =
-    let one = c.begin_call.new.self in
+    let one = c.draw_truncation.new.self in
     record { opened = opened_none one.store one.files c.get_mut.follows.lender-at-none c.get_mut.follows.holds-at-none one.opened }
 
 pub returns-in_default-clause-fixed : goal.returns-in_default-clause-fixed
 returns-in_default-clause-fixed g c =
-    let one = c.begin_call.new.self in
+    let fs = c.args.self.now in
+    let one = c.draw_truncation.new.self in
+    let keeps : KeepsFixed fs one = fixed_twice fs c.begin_call.new.self one c.begin_call.ensures.fixed c.draw_truncation.ensures.drawn.fixed in
     let more : one.next_inode ≤ one.next_inode = omega arith in
     λ inode at byte below spared f.
-    fixed_after one _ more (contents_same one.files c.get_mut.follows.lender-at-none c.get_mut.follows.holds-at-none) (still_self one.store) inode at byte below
-    (c.begin_call.ensures.fixed inode at byte below f)
+    fixed_after one _ more (contents_same one.files c.get_mut.follows.lender-at-none c.get_mut.follows.holds-at-none) (still_self one.store) inode at byte below (keeps inode at byte below f)
 
-pub invariant_of-self-in-Break-branch-5 : goal.invariant_of-self-in-Break-branch-5
-invariant_of-self-in-Break-branch-5 g c =
-    let one = c.begin_call.new.self in
+pub invariant_of-self-in-Break-branch-6 : goal.invariant_of-self-in-Break-branch-6
+invariant_of-self-in-Break-branch-6 g c =
+    let one = c.draw_truncation.new.self in
     let was = c.in-Some.found.now in
     let new : File = c.reserve_shown.new.self in
     record { opened = opened_through one.store one.files (c.get_mut.follows.lender new) c.in_ok-inode.inode was new c.in-Some.ensures.value (c.get_mut.follows.holds new) c.reserve_shown.ensures one.opened }
 
 pub returns-in_err-reserve_shown-clause-fixed : goal.returns-in_err-reserve_shown-clause-fixed
 returns-in_err-reserve_shown-clause-fixed g c =
-    let one = c.begin_call.new.self in
+    let fs = c.args.self.now in
+    let one = c.draw_truncation.new.self in
+    let keeps : KeepsFixed fs one = fixed_twice fs c.begin_call.new.self one c.begin_call.ensures.fixed c.draw_truncation.ensures.drawn.fixed in
+    let more : one.next_inode ≤ one.next_inode = omega arith in
     let was = c.in-Some.found.now in
     let new : File = c.reserve_shown.new.self in
-    let more : one.next_inode ≤ one.next_inode = omega arith in
     λ inode at byte below spared f.
-    fixed_after one _ more (contents_through one.files (c.get_mut.follows.lender new) c.in_ok-inode.inode was new c.in-Some.ensures.value (c.get_mut.follows.holds new) c.reserve_shown.ensures)
-    (still_self one.store) inode at byte below (c.begin_call.ensures.fixed inode at byte below f)
+    fixed_after one _ more
+    (contents_through one.files (c.get_mut.follows.lender new) c.in_ok-inode.inode was new c.in-Some.ensures.value (c.get_mut.follows.holds new) c.reserve_shown.ensures)
+    (still_self one.store) inode at byte below (keeps inode at byte below f)
+
+pub invariant_of-self-in-Break-branch-7 : goal.invariant_of-self-in-Break-branch-7
+invariant_of-self-in-Break-branch-7 g c =
+    let one = c.draw_truncation.new.self in
+    let was = c.in-Some.found.now in
+    let new : File = record c.reserve_shown.new.self { truncations = c.reserve.new.self } in
+    record {
+      opened = opened_through one.store one.files (c.get_mut.follows.lender new) c.in_ok-inode.inode was new c.in-Some.ensures.value (c.get_mut.follows.holds new)
+          (record { blob = c.reserve_shown.ensures.blob; synced = c.reserve_shown.ensures.synced; truncations = c.reserve.ensures.items ∙ c.reserve_shown.ensures.truncations }) one.opened;
+    }
+
+pub returns-in_err-reserve-clause-fixed : goal.returns-in_err-reserve-clause-fixed
+returns-in_err-reserve-clause-fixed g c =
+    let fs = c.args.self.now in
+    let one = c.draw_truncation.new.self in
+    let keeps : KeepsFixed fs one = fixed_twice fs c.begin_call.new.self one c.begin_call.ensures.fixed c.draw_truncation.ensures.drawn.fixed in
+    let more : one.next_inode ≤ one.next_inode = omega arith in
+    let was = c.in-Some.found.now in
+    let new : File = record c.reserve_shown.new.self { truncations = c.reserve.new.self } in
+    λ inode at byte below spared f.
+    fixed_after one _ more
+    (contents_through one.files (c.get_mut.follows.lender new) c.in_ok-inode.inode was new c.in-Some.ensures.value (c.get_mut.follows.holds new) (record { blob = c.reserve_shown.ensures.blob; synced = c.reserve_shown.ensures.synced; truncations = c.reserve.ensures.items ∙ c.reserve_shown.ensures.truncations }))
+    (still_self one.store) inode at byte below (keeps inode at byte below f)
+
+pub invariant_of-self-in-Break-branch-8 : goal.invariant_of-self-in-Break-branch-8
+invariant_of-self-in-Break-branch-8 g c =
+    let one = c.draw_truncation.new.self in
+    let was = c.in-Some.found.now in
+    let new : File = record c.reserve_shown.new.self { truncations = c.reserve.new.self } in
+    record {
+      opened = opened_after one.store c.record_truncation.new.self one.files (c.get_mut.follows.lender new)
+          (contents_through one.files (c.get_mut.follows.lender new) c.in_ok-inode.inode was new c.in-Some.ensures.value (c.get_mut.follows.holds new) (record { blob = c.reserve_shown.ensures.blob; synced = c.reserve_shown.ensures.synced; truncations = c.reserve.ensures.items ∙ c.reserve_shown.ensures.truncations })) c.record_truncation.ensures.still one.opened;
+    }
+
+pub returns-in_err-edit-clause-fixed : goal.returns-in_err-edit-clause-fixed
+returns-in_err-edit-clause-fixed g c =
+    let fs = c.args.self.now in
+    let one = c.draw_truncation.new.self in
+    let keeps : KeepsFixed fs one = fixed_twice fs c.begin_call.new.self one c.begin_call.ensures.fixed c.draw_truncation.ensures.drawn.fixed in
+    let more : one.next_inode ≤ one.next_inode = omega arith in
+    let was = c.in-Some.found.now in
+    let new : File = record c.reserve_shown.new.self { truncations = c.reserve.new.self } in
+    λ inode at byte below spared f.
+    fixed_after one _ more
+    (contents_through one.files (c.get_mut.follows.lender new) c.in_ok-inode.inode was new c.in-Some.ensures.value (c.get_mut.follows.holds new) (record { blob = c.reserve_shown.ensures.blob; synced = c.reserve_shown.ensures.synced; truncations = c.reserve.ensures.items ∙ c.reserve_shown.ensures.truncations }))
+    c.record_truncation.ensures.still inode at byte below (keeps inode at byte below f)
+
+pub invariant_of-self-in-Break-branch-9 : goal.invariant_of-self-in-Break-branch-9
+invariant_of-self-in-Break-branch-9 g c =
+    let one = c.draw_truncation.new.self in
+    let was = c.in-Some.found.now in
+    let new : File = record c.reserve_shown.new.self { blob = c.resize_file.new.file; truncations = c.reserve.new.self } in
+    let spares = λ (at : ℕ). at < c.args.length in
+    let still : KeepsOpen one.store c.set_config.new.self = still_twice one.store c.record_truncation.new.self c.set_config.new.self c.record_truncation.ensures.still c.set_config.ensures.still in
+    let sets = sets_through one.files (c.get_mut.follows.lender new) c.in_ok-inode.inode was new c.in-Some.ensures.value (c.get_mut.follows.holds new) in
+    let resized : ChangesOpen spares c.set_config.new.self c.reserve_shown.new.self.blob c.resize_file.new.self c.resize_file.new.file =
+    changes_less (λ at. at < c.in_ok-reached.reached) spares c.set_config.new.self c.resize_file.new.self c.reserve_shown.new.self.blob c.resize_file.new.file
+    (λ at low. omega (arith, low, c.in_ok-reached.ensures.reached)) c.resize_file.ensures.still in
+    let changes : ChangesOpen spares one.store was.blob c.resize_file.new.self new.blob =
+    changes_again spares one.store c.resize_file.new.self c.reserve_shown.new.self.blob c.resize_file.new.file was.blob new.blob c.reserve_shown.ensures.blob refl
+    (changes_after spares one.store c.set_config.new.self c.resize_file.new.self c.reserve_shown.new.self.blob c.resize_file.new.file still resized) in
+    record { opened = opened_changed spares one.store c.resize_file.new.self one.files (c.get_mut.follows.lender new) c.in_ok-inode.inode was new (omega arith) c.in-Some.ensures.value sets changes one.opened }
+
+pub returns-in_err-resize_file-clause-fixed : goal.returns-in_err-resize_file-clause-fixed
+returns-in_err-resize_file-clause-fixed g c =
+    let fs = c.args.self.now in
+    let one = c.draw_truncation.new.self in
+    let keeps : KeepsFixed fs one = fixed_twice fs c.begin_call.new.self one c.begin_call.ensures.fixed c.draw_truncation.ensures.drawn.fixed in
+    let was = c.in-Some.found.now in
+    let new : File = record c.reserve_shown.new.self { blob = c.resize_file.new.file; truncations = c.reserve.new.self } in
+    let spares = λ (at : ℕ). at < c.args.length in
+    let still : KeepsOpen one.store c.set_config.new.self = still_twice one.store c.record_truncation.new.self c.set_config.new.self c.record_truncation.ensures.still c.set_config.ensures.still in
+    let sets = sets_through one.files (c.get_mut.follows.lender new) c.in_ok-inode.inode was new c.in-Some.ensures.value (c.get_mut.follows.holds new) in
+    let resized : ChangesOpen spares c.set_config.new.self c.reserve_shown.new.self.blob c.resize_file.new.self c.resize_file.new.file =
+    changes_less (λ at. at < c.in_ok-reached.reached) spares c.set_config.new.self c.resize_file.new.self c.reserve_shown.new.self.blob c.resize_file.new.file
+    (λ at low. omega (arith, low, c.in_ok-reached.ensures.reached)) c.resize_file.ensures.still in
+    let changes : ChangesOpen spares one.store was.blob c.resize_file.new.self new.blob =
+    changes_again spares one.store c.resize_file.new.self c.reserve_shown.new.self.blob c.resize_file.new.file was.blob new.blob c.reserve_shown.ensures.blob refl
+    (changes_after spares one.store c.set_config.new.self c.resize_file.new.self c.reserve_shown.new.self.blob c.resize_file.new.file still resized) in
+    let opens = ap (λ (m : BTreeMap ℕ ℕ). get nat_cmp m (descriptor_number c.args.file)) (sym c.begin_call.ensures.files.opens) ∙ c.in_ok-inode.ensures in
+    let small : c.in_ok-inode.inode < 2 ^ 64 = omega arith in
+    keeps_spared fs one _ c.args.file spares c.resize_file.new.self (c.get_mut.follows.lender new) c.in_ok-inode.inode was new opens keeps refl refl refl small c.in-Some.ensures.value sets changes
+    (λ at low is. synced_kept at was new c.reserve_shown.ensures.synced (c.reserve.ensures.items ∙ c.reserve_shown.ensures.truncations) is) one.opened
 
 pub invariant_of-self-2 : goal.invariant_of-self-2
 invariant_of-self-2 g c =
-    let one = c.begin_call.new.self in
+    let one = c.draw_truncation.new.self in
     let was = c.in-Some.found.now in
     let new : File = c.end_truncate-now.new.self in
+    let spares = λ (at : ℕ). at < c.args.length in
+    let still : KeepsOpen one.store c.set_config.new.self = still_twice one.store c.record_truncation.new.self c.set_config.new.self c.record_truncation.ensures.still c.set_config.ensures.still in
     let sets = sets_through one.files (c.get_mut.follows.lender new) c.in_ok-inode.inode was new c.in-Some.ensures.value (c.get_mut.follows.holds new) in
-    let changes : ChangesOpen (λ at. at < c.args.length) one.store was.blob c.resize_file-resized.new.self new.blob =
-    changes_again (λ at. at < c.args.length) one.store c.resize_file-resized.new.self c.reserve_shown.new.self.blob c.resize_file-resized.new.file was.blob new.blob
-    c.reserve_shown.ensures.blob c.end_truncate-now.ensures.blob c.resize_file-resized.ensures.still in
-    record { opened = opened_changed (λ at. at < c.args.length) one.store c.resize_file-resized.new.self one.files (c.get_mut.follows.lender new) c.in_ok-inode.inode was new (omega arith) c.in-Some.ensures.value sets changes one.opened }
+    let resized : ChangesOpen spares c.set_config.new.self c.reserve_shown.new.self.blob c.resize_file.new.self c.resize_file.new.file =
+    changes_less (λ at. at < c.in_ok-reached.reached) spares c.set_config.new.self c.resize_file.new.self c.reserve_shown.new.self.blob c.resize_file.new.file
+    (λ at low. omega (arith, low, c.in_ok-reached.ensures.reached)) c.resize_file.ensures.still in
+    let changes : ChangesOpen spares one.store was.blob c.resize_file.new.self new.blob =
+    changes_again spares one.store c.resize_file.new.self c.reserve_shown.new.self.blob c.resize_file.new.file was.blob new.blob c.reserve_shown.ensures.blob c.end_truncate-now.ensures.blob
+    (changes_after spares one.store c.set_config.new.self c.resize_file.new.self c.reserve_shown.new.self.blob c.resize_file.new.file still resized) in
+    record { opened = opened_changed spares one.store c.resize_file.new.self one.files (c.get_mut.follows.lender new) c.in_ok-inode.inode was new (omega arith) c.in-Some.ensures.value sets changes one.opened }
 
-pub returns-in_err-resized-clause-fixed : goal.returns-in_err-resized-clause-fixed
-returns-in_err-resized-clause-fixed g c =
-    let one = c.begin_call.new.self in
+pub returns-then-is_failed-clause-fixed : goal.returns-then-is_failed-clause-fixed
+returns-then-is_failed-clause-fixed g c =
+    let fs = c.args.self.now in
+    let one = c.draw_truncation.new.self in
+    let keeps : KeepsFixed fs one = fixed_twice fs c.begin_call.new.self one c.begin_call.ensures.fixed c.draw_truncation.ensures.drawn.fixed in
     let was = c.in-Some.found.now in
     let new : File = c.end_truncate-now.new.self in
+    let spares = λ (at : ℕ). at < c.args.length in
+    let still : KeepsOpen one.store c.set_config.new.self = still_twice one.store c.record_truncation.new.self c.set_config.new.self c.record_truncation.ensures.still c.set_config.ensures.still in
     let sets = sets_through one.files (c.get_mut.follows.lender new) c.in_ok-inode.inode was new c.in-Some.ensures.value (c.get_mut.follows.holds new) in
-    let changes : ChangesOpen (λ at. at < c.args.length) one.store was.blob c.resize_file-resized.new.self new.blob =
-    changes_again (λ at. at < c.args.length) one.store c.resize_file-resized.new.self c.reserve_shown.new.self.blob c.resize_file-resized.new.file was.blob new.blob
-    c.reserve_shown.ensures.blob c.end_truncate-now.ensures.blob c.resize_file-resized.ensures.still in
+    let resized : ChangesOpen spares c.set_config.new.self c.reserve_shown.new.self.blob c.resize_file.new.self c.resize_file.new.file =
+    changes_less (λ at. at < c.in_ok-reached.reached) spares c.set_config.new.self c.resize_file.new.self c.reserve_shown.new.self.blob c.resize_file.new.file
+    (λ at low. omega (arith, low, c.in_ok-reached.ensures.reached)) c.resize_file.ensures.still in
+    let changes : ChangesOpen spares one.store was.blob c.resize_file.new.self new.blob =
+    changes_again spares one.store c.resize_file.new.self c.reserve_shown.new.self.blob c.resize_file.new.file was.blob new.blob c.reserve_shown.ensures.blob c.end_truncate-now.ensures.blob
+    (changes_after spares one.store c.set_config.new.self c.resize_file.new.self c.reserve_shown.new.self.blob c.resize_file.new.file still resized) in
     let opens = ap (λ (m : BTreeMap ℕ ℕ). get nat_cmp m (descriptor_number c.args.file)) (sym c.begin_call.ensures.files.opens) ∙ c.in_ok-inode.ensures in
     let small : c.in_ok-inode.inode < 2 ^ 64 = omega arith in
-    keeps_spared c.args.self.now one c.count.new.self c.args.file (λ at. at < c.args.length) c.resize_file-resized.new.self (c.get_mut.follows.lender new) c.in_ok-inode.inode was new opens c.begin_call.ensures.fixed
-    c.count.ensures.number c.count.ensures.files.files c.count.ensures.store small c.in-Some.ensures.value sets changes (c.end_truncate-now.ensures.synced ∙ c.reserve_shown.ensures.synced) one.opened
+    let t : Truncation = record { edit = c.in_ok-edit.edit; length = c.in_ok-reached.reached; next_write = c.next_write-next_write.result } in
+    let synced = c.end_truncate-now.ensures.synced ∙ c.reserve_shown.ensures.synced in
+    let noted = c.end_truncate-now.ensures.truncations ∙ c.push_reserved.ensures.items ∙ ap (λ (l : List Truncation). l ++ t ∷ []) (c.reserve.ensures.items ∙ c.reserve_shown.ensures.truncations) in
+    keeps_spared fs one c.count.new.self c.args.file spares c.resize_file.new.self (c.get_mut.follows.lender new) c.in_ok-inode.inode was new opens keeps
+    c.count.ensures.number c.count.ensures.files.files c.count.ensures.store small c.in-Some.ensures.value sets changes
+    (λ at low is. synced_more at was new t synced noted (omega (arith, low, c.in_ok-reached.ensures.reached)) is) one.opened
 
 pub returns-clause-fixed : goal.returns-clause-fixed
 returns-clause-fixed g c =
-    let one = c.begin_call.new.self in
+    let fs = c.args.self.now in
+    let one = c.draw_truncation.new.self in
+    let keeps : KeepsFixed fs one = fixed_twice fs c.begin_call.new.self one c.begin_call.ensures.fixed c.draw_truncation.ensures.drawn.fixed in
     let was = c.in-Some.found.now in
     let new : File = c.end_truncate-now.new.self in
+    let spares = λ (at : ℕ). at < c.args.length in
+    let still : KeepsOpen one.store c.set_config.new.self = still_twice one.store c.record_truncation.new.self c.set_config.new.self c.record_truncation.ensures.still c.set_config.ensures.still in
     let sets = sets_through one.files (c.get_mut.follows.lender new) c.in_ok-inode.inode was new c.in-Some.ensures.value (c.get_mut.follows.holds new) in
-    let changes : ChangesOpen (λ at. at < c.args.length) one.store was.blob c.resize_file-resized.new.self new.blob =
-    changes_again (λ at. at < c.args.length) one.store c.resize_file-resized.new.self c.reserve_shown.new.self.blob c.resize_file-resized.new.file was.blob new.blob
-    c.reserve_shown.ensures.blob c.end_truncate-now.ensures.blob c.resize_file-resized.ensures.still in
+    let resized : ChangesOpen spares c.set_config.new.self c.reserve_shown.new.self.blob c.resize_file.new.self c.resize_file.new.file =
+    changes_less (λ at. at < c.in_ok-reached.reached) spares c.set_config.new.self c.resize_file.new.self c.reserve_shown.new.self.blob c.resize_file.new.file
+    (λ at low. omega (arith, low, c.in_ok-reached.ensures.reached)) c.resize_file.ensures.still in
+    let changes : ChangesOpen spares one.store was.blob c.resize_file.new.self new.blob =
+    changes_again spares one.store c.resize_file.new.self c.reserve_shown.new.self.blob c.resize_file.new.file was.blob new.blob c.reserve_shown.ensures.blob c.end_truncate-now.ensures.blob
+    (changes_after spares one.store c.set_config.new.self c.resize_file.new.self c.reserve_shown.new.self.blob c.resize_file.new.file still resized) in
     let opens = ap (λ (m : BTreeMap ℕ ℕ). get nat_cmp m (descriptor_number c.args.file)) (sym c.begin_call.ensures.files.opens) ∙ c.in_ok-inode.ensures in
     let small : c.in_ok-inode.inode < 2 ^ 64 = omega arith in
-    keeps_spared c.args.self.now one c.count.new.self c.args.file (λ at. at < c.args.length) c.resize_file-resized.new.self (c.get_mut.follows.lender new) c.in_ok-inode.inode was new opens c.begin_call.ensures.fixed
-    c.count.ensures.number c.count.ensures.files.files c.count.ensures.store small c.in-Some.ensures.value sets changes (c.end_truncate-now.ensures.synced ∙ c.reserve_shown.ensures.synced) one.opened
+    let t : Truncation = record { edit = c.in_ok-edit.edit; length = c.in_ok-reached.reached; next_write = c.next_write-next_write.result } in
+    let synced = c.end_truncate-now.ensures.synced ∙ c.reserve_shown.ensures.synced in
+    let noted = c.end_truncate-now.ensures.truncations ∙ c.push_reserved.ensures.items ∙ ap (λ (l : List Truncation). l ++ t ∷ []) (c.reserve.ensures.items ∙ c.reserve_shown.ensures.truncations) in
+    keeps_spared fs one c.count.new.self c.args.file spares c.resize_file.new.self (c.get_mut.follows.lender new) c.in_ok-inode.inode was new opens keeps
+    c.count.ensures.number c.count.ensures.files.files c.count.ensures.store small c.in-Some.ensures.value sets changes
+    (λ at low is. synced_more at was new t synced noted (omega (arith, low, c.in_ok-reached.ensures.reached)) is) one.opened
+
+pub returns-then-not-is_failed-clause-noted : goal.returns-then-not-is_failed-clause-noted
+returns-then-not-is_failed-clause-noted g c =
+    let has = c.in_ok-size.ensures in
+    let same = c.begin_call.ensures.files in
+    record {
+      inode = has.inode;
+      was = has.was;
+      is = record {
+        opened = ap (λ (m : BTreeMap ℕ ℕ). get nat_cmp m (descriptor_number c.args.file)) (sym same.opens) ∙ has.is.opened;
+        there = ap (λ (m : BTreeMap ℕ File). get nat_cmp m has.inode) (sym same.files) ∙ has.is.there;
+      };
+      notes = inl (has.size ∙ sym c.if-length-size.true);
+    }
+
+pub returns-clause-noted : goal.returns-clause-noted
+returns-clause-noted g c =
+    let fs = c.args.self.now in
+    let one = c.draw_truncation.new.self in
+    let was = c.in-Some.found.now in
+    let new : File = c.end_truncate-now.new.self in
+    let inode = c.in_ok-inode.inode in
+    let drawn = c.draw_truncation.ensures.drawn in
+    let before = c.begin_call.ensures.files in
+    let sets = sets_through one.files (c.get_mut.follows.lender new) inode was new c.in-Some.ensures.value (c.get_mut.follows.holds new) in
+    let t : Truncation = record { edit = c.in_ok-edit.edit; length = c.in_ok-reached.reached; next_write = c.next_write-next_write.result } in
+    let noted = c.end_truncate-now.ensures.truncations ∙ c.push_reserved.ensures.items ∙ ap (λ (l : List Truncation). l ++ t ∷ []) (c.reserve.ensures.items ∙ c.reserve_shown.ensures.truncations) in
+    let added = c.in_ok-edit.ensures.noted in
+    let there : file_in fs inode ≡ Some was = ap (λ (m : BTreeMap ℕ File). get nat_cmp m inode) (sym (drawn.files.files ∙ before.files)) ∙ sym c.in-Some.ensures.value in
+    let now : file_in c.count.new.self inode ≡ Some new =
+    ap (λ (m : BTreeMap ℕ File). get nat_cmp m inode) c.count.ensures.files.files ∙ sets inode ∙ cond-true (is_eq (nat_cmp inode inode)) (Some new) (get nat_cmp one.files inode) (key_self inode) in
+    record {
+      inode = inode;
+      was = was;
+      is = record {
+        opened = ap (λ (m : BTreeMap ℕ ℕ). get nat_cmp m (descriptor_number c.args.file)) (sym before.opens) ∙ c.in_ok-inode.ensures;
+        there = there;
+      };
+      notes = inr (record {
+        truncation = t;
+        long = c.in_ok-reached.ensures.whole c.if-is_failed.false;
+        edit = record {
+          last = added.last;
+          is = ap (λ j. unsettled_of j) c.count.ensures.store ∙ c.resize_file.ensures.unsettled ∙ c.set_config.ensures.journal.unsettled ∙ added.is
+              ∙ ap (λ (us : List Unsettled). us ++ added.last ∷ []) (drawn.unsettled ∙ c.in_ok-begin_call.ensures.journal.unsettled);
+          edit = added.edit;
+          about = added.about;
+          number = added.number;
+        };
+        noted = ap truncations_in now ∙ noted ∙ ap (λ (l : List Truncation). l ++ t ∷ []) (sym (ap truncations_in there));
+      });
+    }

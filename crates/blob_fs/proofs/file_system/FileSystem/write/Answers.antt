@@ -1,4 +1,4 @@
-use Rattle.std.proofs.Common.{◌<◌, ◌≤◌, ◌^◌, List, Option, Some, ℕ, ap, length, refl, sym, subst, ◌∙◌, arith}
+use Rattle.std.proofs.Common.{◌<◌, ◌≤◌, ◌^◌, ℕ, ap, length, sym, subst, ◌∙◌, arith}
 use Rattle.std.proofs.Math.Logic.{∥∥₁_elim}
 use Rattle.std.specs.BTreeMap.{BTreeMap, get}
 use Rattle.std.specs.Coded.{Coded-set, coded_list, coded_option, coded_ℕ}
@@ -15,7 +15,7 @@ use Rattle.blob_fs.specs.declared.file_system.File.{File}
 use Rattle.blob_fs.specs.declared.file_system.Options.{Options}
 use Rattle.blob_fs.specs.Files.{descriptor_number}
 use Rattle.blob_fs.proofs.Calls.{was_ok}
-use Rattle.blob_fs.proofs.Fixed.{changes_again, contents_same, contents_through, fixed_after, keeps_spared, opened_changed, opened_none, opened_through, sets_through, still_self}
+use Rattle.blob_fs.proofs.Fixed.{changes_again, contents_same, contents_through, fixed_after, fixed_twice, keeps_spared, opened_changed, opened_none, opened_through, sets_through, still_self, synced_kept}
 use Rattle.blob_fs.proofs.file_system.FileSystem.write.Goals as goal
 
 pub returns-in_err-begin_call-clause-fixed : goal.returns-in_err-begin_call-clause-fixed
@@ -30,39 +30,42 @@ returns-in_err-size-clause-fixed g c = λ inode at byte below spared f. c.begin_
 pub returns-in_err-check_room-clause-fixed : goal.returns-in_err-check_room-clause-fixed
 returns-in_err-check_room-clause-fixed g c = λ inode at byte below spared f. c.begin_call.ensures.fixed inode at byte below f
 
+pub returns-in_err-how-clause-fixed : goal.returns-in_err-how-clause-fixed
+returns-in_err-how-clause-fixed g c = λ inode at byte below spared f. c.draw_write.ensures.drawn.fixed inode at byte below (c.begin_call.ensures.fixed inode at byte below f)
+
 pub invariant_of-self : goal.invariant_of-self
 invariant_of-self g c =
-    let one = c.begin_call.new.self in
+    let one = c.draw_write.new.self in
     record { opened = opened_none one.store one.files c.get_mut.follows.lender-at-none c.get_mut.follows.holds-at-none one.opened }
 
 pub returns-in_default-clause-fixed : goal.returns-in_default-clause-fixed
 returns-in_default-clause-fixed g c =
-    let one = c.begin_call.new.self in
+    let one = c.draw_write.new.self in
     let more : one.next_inode ≤ one.next_inode = omega arith in
     λ inode at byte below spared f.
     fixed_after one _ more (contents_same one.files c.get_mut.follows.lender-at-none c.get_mut.follows.holds-at-none) (still_self one.store) inode at byte below
-    (c.begin_call.ensures.fixed inode at byte below f)
+    (c.draw_write.ensures.drawn.fixed inode at byte below (c.begin_call.ensures.fixed inode at byte below f))
 
-pub invariant_of-self-in-Break-branch-5 : goal.invariant_of-self-in-Break-branch-5
-invariant_of-self-in-Break-branch-5 g c =
-    let one = c.begin_call.new.self in
+pub invariant_of-self-in-Break-branch-6 : goal.invariant_of-self-in-Break-branch-6
+invariant_of-self-in-Break-branch-6 g c =
+    let one = c.draw_write.new.self in
     let was = c.in-Some.found.now in
     let new : File = c.reserve_shown.new.self in
     record { opened = opened_through one.store one.files (c.get_mut.follows.lender new) c.in_ok-inode.inode was new c.in-Some.ensures.value (c.get_mut.follows.holds new) c.reserve_shown.ensures one.opened }
 
 pub returns-in_err-reserve_shown-clause-fixed : goal.returns-in_err-reserve_shown-clause-fixed
 returns-in_err-reserve_shown-clause-fixed g c =
-    let one = c.begin_call.new.self in
+    let one = c.draw_write.new.self in
     let was = c.in-Some.found.now in
     let new : File = c.reserve_shown.new.self in
     let more : one.next_inode ≤ one.next_inode = omega arith in
     λ inode at byte below spared f.
     fixed_after one _ more (contents_through one.files (c.get_mut.follows.lender new) c.in_ok-inode.inode was new c.in-Some.ensures.value (c.get_mut.follows.holds new) c.reserve_shown.ensures)
-    (still_self one.store) inode at byte below (c.begin_call.ensures.fixed inode at byte below f)
+    (still_self one.store) inode at byte below (c.draw_write.ensures.drawn.fixed inode at byte below (c.begin_call.ensures.fixed inode at byte below f))
 
 pub invariant_of-self-2 : goal.invariant_of-self-2
 invariant_of-self-2 g c =
-    let one = c.begin_call.new.self in
+    let one = c.draw_write.new.self in
     let was = c.in-Some.found.now in
     let new : File = c.end_write-now.new.self in
     let spares = IsBeside c.args.offset (length c.args.bytes.now) in
@@ -75,20 +78,21 @@ invariant_of-self-2 g c =
 pub returns-in-Ok-clause-recorded : goal.returns-in-Ok-clause-recorded
 returns-in-Ok-clause-recorded g c = λ by_mode.
     let fs = c.args.self.now in
-    let one = c.begin_call.new.self in
+    let one = c.draw_write.new.self in
     let same = c.begin_call.ensures.files in
+    let drawn = c.draw_write.ensures.drawn.files in
     let crashes = c.in_ok-begin_call.ensures.crashes in
     let inode = c.in_ok-inode.inode in
     let found : File = c.in-Some.found.now in
     let small : inode < 2 ^ 64 = omega arith in
-    let how = ap (λ (o : Options). o.failed_write) same.options ∙ by_mode in
+    let how = c.in_ok-how.ensures.how (ap (λ (o : Options). o.failed_write) same.options ∙ by_mode) in
     was_ok c.write_blob-written.result _ c.in-Ok.is c.write_blob-written.ensures.recorded (λ recorded.
     let written = recorded how in
     record {
       inode = inode;
       opened = ap (λ (m : BTreeMap ℕ ℕ). get nat_cmp m (descriptor_number c.args.file)) (sym same.opens) ∙ c.in_ok-inode.ensures;
       old = found;
-      there = ap (λ (m : BTreeMap ℕ File). get nat_cmp m inode) (sym same.files) ∙ sym c.in-Some.ensures.value;
+      there = ap (λ (m : BTreeMap ℕ File). get nat_cmp m inode) (sym (drawn.files ∙ same.files)) ∙ sym c.in-Some.ensures.value;
       entries = written.entries;
       is = written.is;
       left = λ kept.
@@ -96,12 +100,12 @@ returns-in-Ok-clause-recorded g c = λ by_mode.
           ∙ ∥∥₁_elim one.opened (Coded-set (coded_option (coded_list coded_ℕ)) _ _) (λ each.
           written.left inode kept
           (subst (λ (b : FileBlob). IsCurrent one.store inode b) (sym c.reserve_shown.ensures.blob) (each inode found small (sym c.in-Some.ensures.value)).is.current))
-          ∙ ap (option_map (λ x. replay_log x written.entries (chosen_by (table_of kept)))) (crashes.left inode kept);
+          ∙ ap (option_map (λ x. replay_log x written.entries (chosen_by (table_of kept)))) (c.draw_write.ensures.drawn.crashes.left inode kept ∙ crashes.left inode kept);
     })
 
 pub returns-in-Ok-clause-fixed : goal.returns-in-Ok-clause-fixed
 returns-in-Ok-clause-fixed g c =
-    let one = c.begin_call.new.self in
+    let one = c.draw_write.new.self in
     let was = c.in-Some.found.now in
     let new : File = c.end_write-now.new.self in
     let spares = IsBeside c.args.offset (length c.args.bytes.now) in
@@ -111,12 +115,13 @@ returns-in-Ok-clause-fixed g c =
     c.reserve_shown.ensures.blob c.end_write-now.ensures.blob c.write_blob-written.ensures.still in
     let opens = ap (λ (m : BTreeMap ℕ ℕ). get nat_cmp m (descriptor_number c.args.file)) (sym c.begin_call.ensures.files.opens) ∙ c.in_ok-inode.ensures in
     let small : c.in_ok-inode.inode < 2 ^ 64 = omega arith in
-    keeps_spared c.args.self.now one c.count.new.self c.args.file spares c.write_blob-written.new.store (c.get_mut.follows.lender new) c.in_ok-inode.inode was new opens c.begin_call.ensures.fixed
-    c.count.ensures.number c.count.ensures.files.files c.count.ensures.store small c.in-Some.ensures.value sets changes (c.end_write-now.ensures.synced ∙ c.reserve_shown.ensures.synced) one.opened
+    keeps_spared c.args.self.now one c.count.new.self c.args.file spares c.write_blob-written.new.store (c.get_mut.follows.lender new) c.in_ok-inode.inode was new opens (fixed_twice c.args.self.now c.begin_call.new.self one c.begin_call.ensures.fixed c.draw_write.ensures.drawn.fixed)
+    c.count.ensures.number c.count.ensures.files.files c.count.ensures.store small c.in-Some.ensures.value sets changes
+    (λ at s. synced_kept at was new (c.end_write-now.ensures.synced ∙ c.reserve_shown.ensures.synced) (c.end_write-now.ensures.truncations ∙ c.reserve_shown.ensures.truncations)) one.opened
 
 pub returns-in-Err-clause-fixed : goal.returns-in-Err-clause-fixed
 returns-in-Err-clause-fixed g c =
-    let one = c.begin_call.new.self in
+    let one = c.draw_write.new.self in
     let was = c.in-Some.found.now in
     let new : File = c.end_write-now.new.self in
     let spares = IsBeside c.args.offset (length c.args.bytes.now) in
@@ -126,5 +131,6 @@ returns-in-Err-clause-fixed g c =
     c.reserve_shown.ensures.blob c.end_write-now.ensures.blob c.write_blob-written.ensures.still in
     let opens = ap (λ (m : BTreeMap ℕ ℕ). get nat_cmp m (descriptor_number c.args.file)) (sym c.begin_call.ensures.files.opens) ∙ c.in_ok-inode.ensures in
     let small : c.in_ok-inode.inode < 2 ^ 64 = omega arith in
-    keeps_spared c.args.self.now one c.count.new.self c.args.file spares c.write_blob-written.new.store (c.get_mut.follows.lender new) c.in_ok-inode.inode was new opens c.begin_call.ensures.fixed
-    c.count.ensures.number c.count.ensures.files.files c.count.ensures.store small c.in-Some.ensures.value sets changes (c.end_write-now.ensures.synced ∙ c.reserve_shown.ensures.synced) one.opened
+    keeps_spared c.args.self.now one c.count.new.self c.args.file spares c.write_blob-written.new.store (c.get_mut.follows.lender new) c.in_ok-inode.inode was new opens (fixed_twice c.args.self.now c.begin_call.new.self one c.begin_call.ensures.fixed c.draw_write.ensures.drawn.fixed)
+    c.count.ensures.number c.count.ensures.files.files c.count.ensures.store small c.in-Some.ensures.value sets changes
+    (λ at s. synced_kept at was new (c.end_write-now.ensures.synced ∙ c.reserve_shown.ensures.synced) (c.end_write-now.ensures.truncations ∙ c.reserve_shown.ensures.truncations)) one.opened

@@ -1,0 +1,11 @@
+use Rattle.blob_fs.proofs.Drawing.{only_self, only_twice}
+use Rattle.blob_fs.proofs.file_system.FileSystem.draw_between.Goals as goal
+
+pub loop-init : goal.loop-init
+loop-init g c = only_self c.args.self.now
+
+pub loop-preserved : goal.loop-preserved
+loop-preserved g c = only_twice c.args.self.now c.loop.self c.draws.new.self c.loop.invariant c.draws.ensures
+
+pub returns-in_err-is_low-clause-drawn : goal.returns-in_err-is_low-clause-drawn
+returns-in_err-is_low-clause-drawn g c = only_twice c.args.self.now c.loop.self c.draws.new.self c.loop.invariant c.draws.ensures

@@ -1,0 +1,77 @@
+use Rattle.std.proofs.Common.{◌≡◌, ◌≤◌, ℕ, List, length, take, arith, subst, sym, ◌∙◌}
+use Rattle.blob_journal.specs.Blobs.{HasDurable, bytes_of}
+use Rattle.blob_fs.specs.Bytes.{kept_length}
+use Rattle.blob_fs.proofs.Cutting.{kept_is, on_map, uncut}
+use Rattle.blob_fs.proofs.Fixed.{changes_after, still_self, still_twice}
+use Rattle.blob_fs.proofs.Fixing.{may_keep}
+use Rattle.blob_fs.proofs.recovery.cut_from.Goals as goal
+
+pub returns-clause-files : goal.returns-clause-files
+returns-clause-files g c = λ h r. c.cut_to.ensures.files (c.in_ok-seen.ensures.given c.args.blob.now (c.in_ok-found.ensures.given c.args.blob.now h)) (c.in_ok-seen.ensures.files (c.in_ok-found.ensures.files r))
+
+pub returns-then-length-size-clause-cut : goal.returns-then-length-size-clause-cut
+returns-then-length-size-clause-cut g c = λ inode found h.
+    let blob = c.args.blob.now in
+    let start = c.args.start in
+    let live = c.args.live.now in
+    let one = c.blobs.ensures.stays c.args.store.now c.read_whole.new.self inode blob found (c.in_ok-found.ensures.same inode) h in
+    let two = c.blobs.ensures.stays c.read_whole.new.self c.read_whole-2.new.self inode blob found (c.in_ok-seen.ensures.same inode) one in
+    let size : c.size-size.result ≡ length found = c.size-size.ensures ∙ h.seen.size in
+    let kept : c.kept_length-length.result ≡ kept_length start (bytes_of live) found =
+    kept_is start c.deref.result.now c.deref-2.result.now found (bytes_of live) c.kept_length-length.result c.kept_length-length.ensures
+    (c.deref.ensures.value ∙ c.in_ok-found.ensures.bytes ∙ c.blobs.ensures.reads blob found h.seen) (c.deref-2.ensures.value ∙ c.in_ok-seen.ensures.bytes) (omega (arith, size, c.if-size-start.false)) in
+    let long : length found ≤ kept_length start (bytes_of live) found = omega (arith, kept, size, c.if-length-size.true) in
+    subst (λ (l : List ℕ). HasDurable c.read_whole-2.new.self inode blob l) (sym (uncut start (bytes_of live) found long)) two
+
+pub returns-then-length-size-clause-others : goal.returns-then-length-size-clause-others
+returns-then-length-size-clause-others g c = λ inode bytes below h other there apart.
+    c.blobs.ensures.twice c.args.store.now c.read_whole.new.self c.read_whole-2.new.self other (c.in_ok-found.ensures.same other) (c.in_ok-seen.ensures.same other)
+
+pub returns-clause-cut : goal.returns-clause-cut
+returns-clause-cut g c = on_map c.cut_to.result c.cut_to.ensures.cut (λ cuts inode found h.
+    let blob = c.args.blob.now in
+    let start = c.args.start in
+    let live = c.args.live.now in
+    let one = c.blobs.ensures.stays c.args.store.now c.read_whole.new.self inode blob found (c.in_ok-found.ensures.same inode) h in
+    let two = c.blobs.ensures.stays c.read_whole.new.self c.read_whole-2.new.self inode blob found (c.in_ok-seen.ensures.same inode) one in
+    let size : c.size-size.result ≡ length found = c.size-size.ensures ∙ h.seen.size in
+    let kept : c.kept_length-length.result ≡ kept_length start (bytes_of live) found =
+    kept_is start c.deref.result.now c.deref-2.result.now found (bytes_of live) c.kept_length-length.result c.kept_length-length.ensures
+    (c.deref.ensures.value ∙ c.in_ok-found.ensures.bytes ∙ c.blobs.ensures.reads blob found h.seen) (c.deref-2.ensures.value ∙ c.in_ok-seen.ensures.bytes) (omega (arith, size, c.if-size-start.false)) in
+    subst (λ (n : ℕ). HasDurable c.cut_to.new.store inode c.cut_to.new.blob (take n found)) kept (cuts inode found (omega (arith, size, c.if-length-size.false)) two))
+
+pub returns-clause-others : goal.returns-clause-others
+returns-clause-others g c = on_map c.cut_to.result c.cut_to.ensures.others (λ others inode bytes below h other there apart.
+    let blob = c.args.blob.now in
+    let one = c.blobs.ensures.stays c.args.store.now c.read_whole.new.self inode blob bytes (c.in_ok-found.ensures.same inode) h in
+    let two = c.blobs.ensures.stays c.read_whole.new.self c.read_whole-2.new.self inode blob bytes (c.in_ok-seen.ensures.same inode) one in
+    c.blobs.ensures.twice c.args.store.now c.read_whole-2.new.self c.cut_to.new.store other
+    (c.blobs.ensures.twice c.args.store.now c.read_whole.new.self c.read_whole-2.new.self other (c.in_ok-found.ensures.same other) (c.in_ok-seen.ensures.same other))
+    (others inode bytes below two.is other there apart))
+
+pub returns-then-size-start-clause-handles : goal.returns-then-size-start-clause-handles
+returns-then-size-start-clause-handles g c = λ inode file h. h
+
+pub returns-in_err-found-clause-handles : goal.returns-in_err-found-clause-handles
+returns-in_err-found-clause-handles g c = c.read_whole.ensures.still.still
+
+pub returns-in_err-seen-clause-handles : goal.returns-in_err-seen-clause-handles
+returns-in_err-seen-clause-handles g c = λ inode file h. c.read_whole-2.ensures.still.still inode file (c.read_whole.ensures.still.still inode file h)
+
+pub returns-then-length-size-clause-handles : goal.returns-then-length-size-clause-handles
+returns-then-length-size-clause-handles g c = λ inode file h. c.read_whole-2.ensures.still.still inode file (c.read_whole.ensures.still.still inode file h)
+
+pub returns-clause-handles : goal.returns-clause-handles
+returns-clause-handles g c = λ inode file h. c.cut_to.ensures.handles inode file (c.read_whole-2.ensures.still.still inode file (c.read_whole.ensures.still.still inode file h))
+
+pub returns-then-size-start-clause-still : goal.returns-then-size-start-clause-still
+returns-then-size-start-clause-still g c = may_keep c.args.store.now c.args.store.now c.args.blob.now (still_self c.args.store.now)
+
+pub returns-then-length-size-clause-still : goal.returns-then-length-size-clause-still
+returns-then-length-size-clause-still g c = may_keep c.args.store.now c.read_whole-2.new.self c.args.blob.now
+    (still_twice c.args.store.now c.read_whole.new.self c.read_whole-2.new.self c.read_whole.ensures.still c.read_whole-2.ensures.still)
+
+pub returns-clause-still : goal.returns-clause-still
+returns-clause-still g c = on_map c.cut_to.result c.cut_to.ensures.still (λ changes.
+    changes_after (λ at. ⊥) c.args.store.now c.read_whole-2.new.self c.cut_to.new.store c.args.blob.now c.cut_to.new.blob
+    (still_twice c.args.store.now c.read_whole.new.self c.read_whole-2.new.self c.read_whole.ensures.still c.read_whole-2.ensures.still) changes)

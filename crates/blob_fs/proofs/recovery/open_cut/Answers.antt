@@ -1,0 +1,94 @@
+use Rattle.std.proofs.Common.{◌≡◌, None, Option, Some, ap, arith, length, rules, subst, sym, ◌∙◌}
+use Rattle.std.specs.BTreeMap.{get}
+use Rattle.std.specs.Ordering.{nat_cmp}
+use Rattle.blob_journal.specs.Blobs.{HasDurable}
+use Rattle.blob_fs.specs.declared.file_system.File.{File}
+use Rattle.blob_fs.specs.Bytes.{found_after, left_after}
+use Rattle.blob_fs.proofs.Fixing.{but_keeps, but_twice}
+use Rattle.blob_fs.proofs.recovery.open_cut.Goals as goal
+
+pub returns-in_err-truncate_left-clause-files : goal.returns-in_err-truncate_left-clause-files
+returns-in_err-truncate_left-clause-files g c = λ r. c.truncate_left.ensures.files c.in_ok-blob.ensures.given (c.in_ok-blob.ensures.files r)
+
+pub returns-in_err-cut-clause-files : goal.returns-in_err-cut-clause-files
+returns-in_err-cut-clause-files g c = λ r.
+    c.cut.ensures.files (c.truncate_left.ensures.given c.in_ok-blob.ensures.given) (c.truncate_left.ensures.files c.in_ok-blob.ensures.given (c.in_ok-blob.ensures.files r))
+
+pub returns-clause-files : goal.returns-clause-files
+returns-clause-files g c = λ r.
+    c.cut.ensures.files (c.truncate_left.ensures.given c.in_ok-blob.ensures.given) (c.truncate_left.ensures.files c.in_ok-blob.ensures.given (c.in_ok-blob.ensures.files r))
+
+pub returns-in_default-clause-left : goal.returns-in_default-clause-left
+returns-in_default-clause-left g c =
+    let o = c.in_ok-blob.ensures.opened in
+    let inode = c.args.inode in
+    let kept = c.args.kept.now in
+    let loss = c.args.loss.now in
+    let none : get nat_cmp c.args.old.now inode ≡ None = search rules in
+    let left : (x : Option File) → x ≡ None → HasDurable c.open_file.new.self inode c.in_ok-blob.blob (left_after kept loss inode x o.bytes) =
+    λ x e. subst (λ (y : Option File). HasDurable c.open_file.new.self inode c.in_ok-blob.blob (left_after kept loss inode y o.bytes)) (sym e) o.has in
+    record {
+      bytes = o.bytes;
+      is = o.found;
+      has = left (get nat_cmp c.args.old.now inode) none;
+      size = c.size-found.ensures ∙ o.has.seen.size
+          ∙ ap (λ (y : Option File). length (found_after kept loss inode y o.bytes)) (sym none);
+    }
+
+pub returns-clause-left : goal.returns-clause-left
+returns-clause-left g c =
+    let o = c.in_ok-blob.ensures.opened in
+    let inode = c.args.inode in
+    let kept = c.args.kept.now in
+    let loss = c.args.loss.now in
+    let was : File = c.in-Some.was.now in
+    let there : get nat_cmp c.args.old.now inode ≡ Some was = search rules in
+    let found = found_after kept loss inode (Some was) o.bytes in
+    let truncated : HasDurable c.truncate_left.new.store inode c.truncate_left.new.blob found = c.in_ok-truncate_left.ensures.truncated o.bytes o.has in
+    let left : HasDurable c.cut.new.store inode c.cut.new.blob (left_after kept loss inode (Some was) o.bytes) = c.in_ok-cut.ensures.cut inode found truncated in
+    record {
+      bytes = o.bytes;
+      is = o.found;
+      has = subst (λ (x : Option File). HasDurable c.cut.new.store inode c.cut.new.blob (left_after kept loss inode x o.bytes)) (sym there) left;
+      size = c.size-found-2.ensures ∙ truncated.seen.size ∙ ap (λ (x : Option File). length (found_after kept loss inode x o.bytes)) (sym there);
+    }
+
+pub returns-clause-others : goal.returns-clause-others
+returns-clause-others g c = λ other below apart.
+    let o = c.in_ok-blob.ensures.opened in
+    let inode = c.args.inode in
+    let found = found_after c.args.kept.now c.args.loss.now inode (Some c.in-Some.was.now) o.bytes in
+    let truncated : HasDurable c.truncate_left.new.store inode c.truncate_left.new.blob found = c.in_ok-truncate_left.ensures.truncated o.bytes o.has in
+    c.blobs.ensures.twice c.args.store.now c.truncate_left.new.store c.cut.new.store other
+    (c.blobs.ensures.twice c.args.store.now c.open_file.new.self c.truncate_left.new.store other (c.in_ok-blob.ensures.others other below apart)
+    (c.in_ok-truncate_left.ensures.others inode o.bytes (omega arith) o.has other below apart))
+    (c.in_ok-cut.ensures.others inode found (omega arith) truncated other below apart)
+
+pub returns-in_err-blob-clause-handles : goal.returns-in_err-blob-clause-handles
+returns-in_err-blob-clause-handles g c = c.open_file.ensures.still.still
+
+pub returns-in_default-clause-handles : goal.returns-in_default-clause-handles
+returns-in_default-clause-handles g c = c.open_file.ensures.still.still
+
+pub returns-in_err-truncate_left-clause-handles : goal.returns-in_err-truncate_left-clause-handles
+returns-in_err-truncate_left-clause-handles g c = λ inode file h. c.truncate_left.ensures.handles inode file (c.open_file.ensures.still.still inode file h)
+
+pub returns-in_err-cut-clause-handles : goal.returns-in_err-cut-clause-handles
+returns-in_err-cut-clause-handles g c = λ inode file h. c.cut.ensures.handles inode file (c.truncate_left.ensures.handles inode file (c.open_file.ensures.still.still inode file h))
+
+pub returns-clause-handles : goal.returns-clause-handles
+returns-clause-handles g c = λ inode file h. c.cut.ensures.handles inode file (c.truncate_left.ensures.handles inode file (c.open_file.ensures.still.still inode file h))
+
+pub returns-in_default-clause-still : goal.returns-in_default-clause-still
+returns-in_default-clause-still g c = but_keeps c.args.inode c.args.store.now c.open_file.new.self c.open_file.ensures.still
+
+pub returns-clause-still : goal.returns-clause-still
+returns-clause-still g c =
+    let inode = c.args.inode in
+    let j = c.args.store.now in
+    let reopened = c.open_file.new.self in
+    let truncated = c.truncate_left.new.store in
+    let own = c.in_ok-blob.ensures.reopened.still in
+    let one = c.in_ok-truncate_left.ensures.still in
+    let first = but_twice inode j reopened truncated (but_keeps inode j reopened c.open_file.ensures.still) (one.others inode (omega arith) own) in
+    but_twice inode j truncated c.cut.new.store first (c.in_ok-cut.ensures.still.others inode (omega arith) (one.still inode own))

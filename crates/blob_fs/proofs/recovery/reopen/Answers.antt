@@ -1,0 +1,13 @@
+use Rattle.std.proofs.Common.{ap, subst, sym, ◌∙◌}
+use Rattle.blob_faulty.specs.Wrapper.{size_of}
+use Rattle.blob_journal.specs.declared.store.FileBlob.{FileBlob}
+use Rattle.blob_fs.specs.Fixed.{AllFixed}
+use Rattle.blob_fs.proofs.Fixing.{is_whole}
+use Rattle.blob_fs.proofs.recovery.reopen.Goals as goal
+
+pub returns-clause-whole : goal.returns-clause-whole
+returns-clause-whole g c =
+    let store = c.open_left.new.store in
+    let same = sym c.new-file.ensures.blob in
+    is_whole store _ (subst (λ (b : FileBlob). AllFixed store b) same c.in_ok-blob.ensures.fixes) (c.size-synced.ensures ∙ ap (λ (b : FileBlob). size_of b.blob) same)
+    c.new-file.ensures.truncations c.new-file.ensures.shown

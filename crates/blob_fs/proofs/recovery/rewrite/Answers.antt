@@ -1,0 +1,50 @@
+use Rattle.std.proofs.Common.{◌≡◌, List, ℕ, ap, length, subst, sym, ◌∙◌}
+use Rattle.blob_journal.specs.Blobs.{HasDurable, IsOpen, bytes_of}
+use Rattle.blob_fs.proofs.Truncating.{written_whole}
+use Rattle.blob_fs.proofs.Fixing.{may_twice}
+use Rattle.blob_fs.proofs.recovery.rewrite.Goals as goal
+
+pub returns-in_err-resize_file-clause-files : goal.returns-in_err-resize_file-clause-files
+returns-in_err-resize_file-clause-files g c = λ h r. c.resize_file.ensures.files h r
+
+pub returns-in_err-write_file-clause-files : goal.returns-in_err-write_file-clause-files
+returns-in_err-write_file-clause-files g c = λ h r. c.write_file.ensures.files (c.resize_file.ensures.given h) (c.resize_file.ensures.files h r)
+
+pub returns-in_err-sync_file-clause-files : goal.returns-in_err-sync_file-clause-files
+returns-in_err-sync_file-clause-files g c = λ h r. c.sync_file.ensures.files (c.write_file.ensures.files (c.resize_file.ensures.given h) (c.resize_file.ensures.files h r))
+
+pub returns-clause-files : goal.returns-clause-files
+returns-clause-files g c = λ h r. c.sync_file.ensures.files (c.write_file.ensures.files (c.resize_file.ensures.given h) (c.resize_file.ensures.files h r))
+
+pub returns-clause-rewritten : goal.returns-clause-rewritten
+returns-clause-rewritten g c = λ inode bytes h.
+    let r = c.in_ok-resize_file.ensures.resized inode bytes h.is in
+    let empty = r.1 bytes h.seen in
+    let w = c.in_ok-write_file.ensures.written inode bytes r.0 in
+    let full = w.1 _ empty in
+    let file = c.write_file.new.file in
+    let still : IsOpen c.write_file.new.self inode file = record { durable = bytes; is = w.0; tracked = full.size ∙ ap (λ (l : List ℕ). length l) (sym full.live) } in
+    let new : bytes_of file ≡ c.args.bytes.now = c.blobs.ensures.reads file _ full ∙ written_whole bytes c.args.bytes.now in
+    subst (λ (l : List ℕ). HasDurable c.sync_file.new.self inode c.sync_file.new.file l) new (c.in_ok-sync_file.ensures.synced inode still)
+
+pub returns-clause-others : goal.returns-clause-others
+returns-clause-others g c = λ inode bytes below h other there apart.
+    let r = c.in_ok-resize_file.ensures.resized inode bytes h.is in
+    let w = c.in_ok-write_file.ensures.written inode bytes r.0 in
+    c.blobs.ensures.twice c.args.store.now c.write_file.new.self c.sync_file.new.self other
+    (c.blobs.ensures.twice c.args.store.now c.resize_file.new.self c.write_file.new.self other (c.in_ok-resize_file.ensures.same other) (c.in_ok-write_file.ensures.same other))
+    (c.in_ok-sync_file.ensures.others inode bytes below w.0 other there apart)
+
+pub returns-in_err-write_file-clause-handles : goal.returns-in_err-write_file-clause-handles
+returns-in_err-write_file-clause-handles g c = λ inode file h. c.write_file.ensures.handles inode file (c.resize_file.ensures.handles inode file h)
+
+pub returns-in_err-sync_file-clause-handles : goal.returns-in_err-sync_file-clause-handles
+returns-in_err-sync_file-clause-handles g c = λ inode file h. c.sync_file.ensures.handles inode file (c.write_file.ensures.handles inode file (c.resize_file.ensures.handles inode file h))
+
+pub returns-clause-handles : goal.returns-clause-handles
+returns-clause-handles g c = λ inode file h. c.sync_file.ensures.handles inode file (c.write_file.ensures.handles inode file (c.resize_file.ensures.handles inode file h))
+
+pub returns-clause-still : goal.returns-clause-still
+returns-clause-still g c =
+    let written = may_twice _ _ c.args.store.now c.resize_file.new.self c.write_file.new.self c.args.blob.now c.resize_file.new.file c.write_file.new.file c.resize_file.ensures.still c.write_file.ensures.still in
+    may_twice _ _ c.args.store.now c.write_file.new.self c.sync_file.new.self c.args.blob.now c.write_file.new.file c.sync_file.new.file written c.sync_file.ensures.still

@@ -1,0 +1,50 @@
+-- Sizes that calls see, and what a truncation that returned Ok leaves of its file and its edit.
+use Rattle.std.specs.Prelude.{◌≡◌, ◌⊎◌, ℕ, List, [], ◌∷◌, ◌++◌, length, Option, None, Some}
+use Rattle.blob_faulty.specs.Wrapper.{size_of}
+use Rattle.blob_directory.specs.Names.{resizes}
+use Rattle.blob_directory.specs.Syncs.{of_truncation}
+use Rattle.blob_journal.specs.Settling.{AddsUnsettled}
+use Rattle.blob_fs.specs.declared.file_system.Descriptor.{Descriptor}
+use Rattle.blob_fs.specs.declared.file_system.File.{File}
+use Rattle.blob_fs.specs.declared.file_system.FileSystem.{FileSystem}
+use Rattle.blob_fs.specs.declared.truncation.Truncation.{Truncation}
+use Rattle.blob_fs.specs.Bytes.{file_in}
+use Rattle.blob_fs.specs.Files.{inode_opened, journaled_of}
+
+-- the size that calls see: that of the blob, or of the bytes that a failed sync shows in its place
+abbrev pub size_read : File → ℕ
+size_read file = elim file.shown [ None ↦ size_of file.blob.blob | Some bytes ↦ length bytes.items ]
+
+-- a descriptor's file
+pub record IsFile {R : Type 0} (fs : FileSystem R) (file : Descriptor) (inode : ℕ) (was : File) : Type 0 where
+  pub opened : inode_opened fs file ≡ Some inode
+  pub there : file_in fs inode ≡ Some was
+
+-- it has this size
+pub record HasSize {R : Type 0} (fs : FileSystem R) (file : Descriptor) (n : ℕ) : Type 0 where
+  pub inode : ℕ
+  pub was : File
+  pub is : IsFile fs file inode was
+  pub size : size_read was ≡ n
+
+-- its truncations that no sync made durable
+abbrev pub truncations_in : Option File → List Truncation
+truncations_in None = []
+truncations_in (Some file) = file.truncations.items
+
+abbrev pub truncations_of : {R : Type 0} → FileSystem R → ℕ → List Truncation
+truncations_of fs inode = truncations_in (file_in fs inode)
+
+-- one more, of this length, by an edit that nothing has settled
+pub record Notes {R : Type 0} (inode length : ℕ) (fs fs' : FileSystem R) : Type 0 where
+  pub truncation : Truncation
+  pub long : truncation.length ≡ length
+  pub edit : AddsUnsettled (resizes inode) (of_truncation inode) truncation.edit (journaled_of fs) (journaled_of fs')
+  pub noted : truncations_of fs' inode ≡ truncations_of fs inode ++ truncation ∷ []
+
+-- A truncation that returned Ok: the file had this length, or its edit was recorded, and the file notes the edit's number and the length.
+pub record NotesTruncation {R : Type 0} (file : Descriptor) (length : ℕ) (fs fs' : FileSystem R) : Type 0 where
+  pub inode : ℕ
+  pub was : File
+  pub is : IsFile fs file inode was
+  pub notes : (size_read was ≡ length) ⊎ Notes inode length fs fs'
