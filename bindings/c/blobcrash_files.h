@@ -1,12 +1,12 @@
 /*
- * Files with names, directories, renames and their syncs, over the storage layer: a crash keeps only some of the bytes, and of the
- * changes of names, that no sync made durable. docs/FILES.md says what a crash may leave.
+ * Files with names, directories, renames and their syncs, over the storage layer: a crash keeps only some of the bytes, of the
+ * changes of names and of the truncations that no sync made durable. docs/FILES.md says what a crash may leave.
  *
  * The duties of a caller are those of blobcrash.h, with `struct blobcrash_files` in place of a session.
  *
  * A path is names, each after a slash, from the root on: bytes, without a final zero. An inode is a file or a directory, by its number; the
  * root has the number 1. A descriptor is a number too, from 0 on; no number is used again, and after a crash all are stale. An edit is
- * a change of names that one call made.
+ * a change of names, or a truncation, that one call made.
  */
 #ifndef BLOBCRASH_FILES_H
 #define BLOBCRASH_FILES_H

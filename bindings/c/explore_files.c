@@ -223,7 +223,7 @@ static const char *two_names(struct run *run) {
 }
 
 static void scripts(void) {
-    static const char *const expected = "words 0 0 max\n"
+    static const char *const expected = "words 0 0 max 0\n"
                                         "profile xfs\n"
                                         "config write 0 1 1 2 sectors 512\n"
                                         "create /a\\x20b is 0\n"
@@ -232,10 +232,11 @@ static void scripts(void) {
                                         "open /a\\x20b is NotFound\n"
                                         "truncate 0 0\n"
                                         "crash\n"
-                                        "# of the unsettled edits it keeps 10\n"
+                                        "# of the unsettled edits it keeps 100\n"
                                         "# of write 0 it keeps bytes 0 to 1023 of 1024\n"
                                         "# of write 1 it keeps bytes 0 to 0 of 1\n"
                                         "# of write 2 it keeps none of 1024\n"
+                                        "# of write 3 it keeps bytes 0 to 1023 of 1024\n"
                                         "find /c is NotFound\n";
     struct run run = {.forgets = NOTHING};
     char *text = NULL;

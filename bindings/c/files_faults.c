@@ -49,7 +49,7 @@ static void lying_syncs(void) {
           ends(BLOBCRASH_F_SYNC_DIRECTORY, "/b") == BLOBCRASH_F_NOT_FOUND);
     CHECK(is(by(BLOBCRASH_F_CRASH, 0), 0, 1, 0) && lists("/", ""));
     CHECK(is(on(BLOBCRASH_F_CREATE, "/a"), 0, 1, 0) && write_at(1, 0, "old") == BLOBCRASH_DONE && is(by(BLOBCRASH_F_SETTLE, 0), 0, 0, 0));
-    CHECK(is(on(BLOBCRASH_F_OPEN_TRUNCATED, "/a"), 0, 2, 0) && is(by(BLOBCRASH_F_CLOSE, 2), 0, 0, 0) && is(by(BLOBCRASH_F_CRASH, 0), 0, 0, 0));
+    CHECK(is(on(BLOBCRASH_F_OPEN_TRUNCATED, "/a"), 0, 2, 0) && is(by(BLOBCRASH_F_CLOSE, 2), 0, 0, 0) && is(by(BLOBCRASH_F_CRASH, 0), 0, 1, 0));
     CHECK(is(on(BLOBCRASH_F_OPEN, "/a"), 0, 3, 0) && reads(3, 0, "old"));
 }
 

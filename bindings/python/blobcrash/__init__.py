@@ -60,7 +60,7 @@ from .file_follow import ExploredFiles
 from .file_library import FilesLibrary
 from .file_system import Files, FileStatus
 from .files import BlobFile
-from .follow import ExploredStore, NotDeterministic, Unexplorable
+from .follow import ExploredStore, NotDeterministic
 from .foreign import TOP, library
 from .judging import acknowledgement, judge
 from .layers import Library, Program, Reply, explain, program, run
@@ -125,7 +125,6 @@ __all__ = [
     "Store",
     "TOP",
     "TooLong",
-    "Unexplorable",
     "WriteFailed",
     "WrongThread",
     "acknowledgement",

@@ -28,7 +28,7 @@ from .file_calls import FileCall
 from .file_follow import ExploredFiles
 from .file_library import files_way
 from .file_settings import file_setting_tokens, files_of, refuse_of_stores
-from .follow import ExploredStore, MoreWords, NotDeterministic, Run, refuse_sizes
+from .follow import ExploredStore, MoreWords, NotDeterministic, Run
 from .grammar import MAX, image_line, number, setting_tokens
 from .layers import Library, line_of
 from .met import Met
@@ -140,8 +140,7 @@ def explore(
 
     Raises `Failed`, with a script, for the first run in which the body raises; `report` is a file for a page that shows it. `TooLong`,
     with the script so far, for a run with more calls or draws. `NotDeterministic` if the body makes other calls along the same path.
-    `Unexplorable` for a partial resize of files. `LostWork` if workers are lost. `ValueError` or `TypeError` for an invalid argument, before the
-    body is called. `TypeError` too for a body that hasn't run when it returns: a generator or a coroutine.
+    `LostWork` if workers are lost. `ValueError` or `TypeError` for an invalid argument, before the body is called. `TypeError` too for a body that hasn't run when it returns: a generator or a coroutine.
     """
     check_body(body)
     if getattr(_running, "is_on", False):
@@ -160,7 +159,7 @@ def explore(
         if profile is None:
             setting_tokens(setting)
         else:
-            refuse_sizes(file_setting_tokens(setting))
+            file_setting_tokens(setting)
     for image in tree.images:
         image_line(*image)
     if seed is None and not hasattr(by, "words_left"):

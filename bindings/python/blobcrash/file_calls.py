@@ -58,8 +58,8 @@ class Kept(NamedTuple):
     """What a crash kept.
 
     `writes` are the unsynced writes that it drew for, each with its number and a text of a digit for each of its bytes: `1` if the byte
-    was kept. An edit of names is one of them, of 1,024 bytes. `edits` says of each edit that nothing had settled, in order, whether it was
-    kept. `places` has for each of `writes` the inode of its file, or `None` for an edit, and its offset.
+    was kept. An edit, that is a change of names or a truncation, is one of them, of 1,024 bytes. `edits` says of each edit that nothing had
+    settled, in order, whether it was kept. `places` has for each of `writes` the inode of its file, or `None` for an edit, and its offset.
     """
 
     writes: List[Tuple[int, str]]

@@ -8,8 +8,7 @@ from .bounds import BoundedFiles
 from .file_calls import FileCall
 from .file_library import files_way
 from .file_power import FileSupply
-from .file_settings import file_setting_tokens
-from .follow import OnPath, Run, refuse_sizes
+from .follow import OnPath, Run
 
 
 class _FollowedFiles:
@@ -43,7 +42,3 @@ class ExploredFiles(OnPath, BoundedFiles):
 
         words = run.words if run.seed is None else ()
         super().__init__(run.seed, profile=profile, words=words, settings=settings, by=way)
-
-    def _setting_line(self, setting: str) -> str:
-        refuse_sizes(file_setting_tokens(setting))
-        return super()._setting_line(setting)

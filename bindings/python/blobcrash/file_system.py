@@ -31,7 +31,8 @@ class FileStatus(NamedTuple):
 
 
 class Files:
-    """A file system of its own, in memory. A crash keeps only some of the bytes and of the changes of names that nothing made durable.
+    """A file system of its own, in memory. A crash keeps only some of the bytes, changes of names and truncations that nothing made
+    durable.
 
     `seed`, a number below 2^64, decides what fails and what a crash keeps. `words` are the first words of the generator, in place of the
     seed's; after the last one it goes on with the seed, or without one with zeros, for which every draw is true. `profile` is `ext4`,
@@ -253,9 +254,10 @@ class Files:
                 pass
 
     def configure(self, setting: str) -> None:
-        """Makes a setting: a rate as of `Store.configure`, of calls on files; `keep N D`, how often a crash keeps an edit of names that
-        nothing settled, 1/2 at first; `space BYTES FILES`, how many bytes and files there may be; or a switch, of which the first is set at
-        first: `failed_sync keeps` or `drops`, `syncs honest` or `lie`, `failed_write mode` or `prefix` (docs/FILES.md).
+        """Makes a setting: a rate as of `Store.configure`, of calls on files; `keep N D`, how often a crash keeps an edit that nothing
+        settled, a change of names or a truncation, 1/2 at first; `space BYTES FILES`, how many bytes and files there may be; or a switch, of
+        which the first is set at first: `failed_sync keeps` or `drops`, `syncs honest` or `lie`, `failed_write mode` or `prefix`
+        (docs/FILES.md).
 
         Raises `BadLine` if it is none, and `NeedsSeed` if it needs random draws and there is neither a seed nor a word.
         """

@@ -25,21 +25,8 @@ class NotDeterministic(RuntimeError):
         )
 
 
-class Unexplorable(ValueError):
-    """A setting of which not every outcome can be explored."""
-
-
 class MoreWords(BaseException):
     """A run took all words that it was given. It has to be made again, with more."""
-
-
-def refuse_sizes(tokens: List[str]) -> None:
-    """Raises `Unexplorable` if a setting lets a failing resize of a file stop at a size that is drawn."""
-    if tokens[:2] == ["config", "resize"] and int(tokens[4]) > 0:
-        raise Unexplorable(
-            f"`{' '.join(tokens[1:])}` can't be explored: a failing resize would stop at a drawn size, and the two outcomes of each word "
-            "don't reach all sizes. Set its partial rate to 0, `resize N D 0 1`, or test it with seeds"
-        )
 
 
 class Run:

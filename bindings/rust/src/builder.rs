@@ -197,14 +197,6 @@ impl Builder {
         Ok(())
     }
 
-    /// Checks that no setting draws the size of a failing resize.
-    pub(crate) fn check_explorable(&self) -> Result<(), Error> {
-        self.config.check_explorable()?;
-        self.lines
-            .iter()
-            .try_for_each(|line| Config::check_explorable_line(line))
-    }
-
     /// Returns the builder of an explored run, with as many words after those of its path.
     pub(crate) fn with_choices(
         &self,

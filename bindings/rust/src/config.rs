@@ -1,5 +1,4 @@
 use crate::Error;
-use crate::script::tokens;
 
 /// A probability as a fraction of whole numbers, from 0 to 1.
 ///
@@ -123,9 +122,10 @@ pub struct WriteConfig {
 /// ```
 #[derive(Clone, Copy, Debug, PartialEq, Eq)]
 pub struct ResizeConfig {
-    /// How often a resize fails. A second draw with the same rate decides whether one that wasn't synced survives a crash.
+    /// How often a resize, or a truncation of a file, fails. A second draw with the same rate decides whether a resize that wasn't synced
+    /// survives a crash; a truncation of a file has none.
     pub failure_rate: Probability,
-    /// How often a failed resize leaves a size between.
+    /// How often a failed resize leaves a size between. That of a file does so only if it shortens the file.
     pub partial_rate: Probability,
 }
 
@@ -175,21 +175,12 @@ pub struct Config {
     pub write_rate: Option<WriteConfig>,
     /// How often a sync fails, also a started one and that of a SYNC write.
     pub sync_rate: Option<Probability>,
-    /// How resizes fail, and how often an unsynced one survives a crash: never, if this isn't set.
+    /// How resizes fail, and how often an unsynced one survives a crash: never, if this isn't set. Of files how often truncations fail.
     pub resize_rate: Option<ResizeConfig>,
     /// How often a removal fails.
     pub remove_rate: Option<Probability>,
     /// How often a scan fails.
     pub scan_rate: Option<Probability>,
-}
-
-/// Why a partial resize of a file can't be explored.
-fn drawn_sizes() -> Error {
-    Error::Argument(
-        "a partial resize of a file can't be explored: it stops at a drawn size, and the two outcomes of each word don't reach all sizes. \
-         Set its rate to 0, or test it with seeds"
-            .to_owned(),
-    )
 }
 
 impl Config {
@@ -289,24 +280,6 @@ impl Config {
                 mode: PartialWriteMode::Sectors(0),
                 ..
             }) => Err(Error::Argument("a sector has at least one byte".to_owned())),
-            _ => Ok(()),
-        }
-    }
-
-    /// Checks that no size of a failing resize is drawn.
-    pub(crate) fn check_explorable(&self) -> Result<(), Error> {
-        match self.resize_rate {
-            Some(resizes) if !resizes.partial_rate.is_zero() => Err(drawn_sizes()),
-            _ => Ok(()),
-        }
-    }
-
-    /// Refuses a line that sets a partial rate of resizes.
-    pub(crate) fn check_explorable_line(line: &str) -> Result<(), Error> {
-        match tokens(line)[..] {
-            ["config", "resize", _, _, rate, _] if rate.bytes().any(|digit| digit != b'0') => {
-                Err(drawn_sizes())
-            }
             _ => Ok(()),
         }
     }

@@ -65,7 +65,7 @@ pub enum ExploreError<E> {
     },
     /// The body made other choices than before on the same path.
     NotDeterministic,
-    /// A store, or files, can't be opened or not be explored: the builder has a seed or words, or one of files a partial resize.
+    /// A store, or files, can't be opened or not be explored: the builder has a seed or words.
     Store(Error),
 }
 
@@ -202,8 +202,7 @@ impl<B: Explorable> Exploration<B> {
     /// - `Failed` for the first run in which the body returns an error.
     /// - `TooLong` for a run with too many calls or draws.
     /// - `NotDeterministic`.
-    /// - `Store` with `Argument` if the builder has a seed or words, or one of files a partial resize; or with what [`Builder::open`]
-    ///   returns.
+    /// - `Store` with `Argument` if the builder has a seed or words; or with what [`Builder::open`] returns.
     ///
     /// ```
     /// # use blobcrash::{ExploreError, Exploration, Store};

@@ -250,7 +250,7 @@ impl Store {
     /// Replaces the whole configuration.
     ///
     /// Errors, with the earlier configuration in place:
-    /// - `Argument` if a sector has no bytes, or for a partial resize in an explored run.
+    /// - `Argument` if a sector has no bytes.
     /// - `NeedsSeed` if a rate needs random draws and the store has neither a seed nor a word.
     /// - `OutOfMemory`.
     ///

@@ -99,7 +99,7 @@ fn what_the_profiles_leave() {
 }
 
 /// In ext4 a close makes the bytes of a file durable that an open truncated. A look at its size doesn't: it closes nothing. The truncation
-/// itself is never kept, since resizes have no rate.
+/// is kept or lost, and so is each of the two sectors that are written after it.
 #[test]
 fn a_file_that_is_written_in_place() {
     fn old(files: &Files) -> io::Result<()> {
@@ -113,9 +113,15 @@ fn a_file_that_is_written_in_place() {
         files.crash()?;
         Ok(())
     };
-    let any: &[&str] = &["AA", "AB", "BA", "BB"];
-    check("closed", [old, closed], &["/f"], [&["BB"], any, any, any]);
-    check("open", [old, opened], &["/f"], [any; 4]);
+    let whole: &[&str] = &["AA", "AB", "BA", "BB", "B", ""];
+    let holes: &[&str] = &["AA", "AB", "BA", "BB", "B", "0B", ""];
+    check(
+        "closed",
+        [old, closed],
+        &["/f"],
+        [&["BB"], holes, holes, holes],
+    );
+    check("open", [old, opened], &["/f"], [whole, holes, holes, holes]);
 }
 
 #[test]
@@ -142,21 +148,31 @@ fn a_failure_has_its_words_and_calls() {
     assert_eq!(script, expected);
 }
 
+/// A truncation of four bytes that fails changes nothing, or stops at each length between.
+#[test]
+fn partial_truncations_stop_at_each_length() {
+    let partial = ResizeConfig {
+        failure_rate: half(),
+        partial_rate: half(),
+    };
+    let builder = Files::builder().config(Config::default().resize(partial));
+    let visited = explore(&builder, u64::MAX, |files| {
+        let file = files.create("/f")?;
+        file.write_all_at(b"abcd", 0)?;
+        let is_done = file.set_len(0).is_ok();
+        Ok::<_, io::Error>((is_done, file.metadata()?.len()))
+    });
+    let outcomes: BTreeSet<_> = visited.unwrap().outcomes.into_keys().collect();
+    let expected = [(true, 0), (false, 1), (false, 2), (false, 3), (false, 4)];
+    assert_eq!(outcomes, BTreeSet::from(expected));
+}
+
 type Body = fn(&Run<Files>) -> Result<(), Error>;
 
 #[test]
 fn what_can_not_be_explored() {
     let never = |_: &Run<Files>| -> Result<(), Error> { panic!("the body is called") };
-    let partial = ResizeConfig {
-        failure_rate: half(),
-        partial_rate: half(),
-    };
-    let refused: [Builder; 4] = [
-        Files::builder().seed(7),
-        Files::builder().words(&[0]),
-        Files::builder().config(Config::default().resize(partial)),
-        Files::builder().lines(&["config resize 1 2 1 2"]),
-    ];
+    let refused: [Builder; 2] = [Files::builder().seed(7), Files::builder().words(&[0])];
     for builder in refused {
         let found = explore(&builder, 1, never);
         assert!(
@@ -164,16 +180,6 @@ fn what_can_not_be_explored() {
             "{found:?}"
         );
     }
-    let found = explore(&Files::builder(), 1, |run| {
-        run.configure(Config::default().resize(partial))
-    });
-    assert!(matches!(
-        found,
-        Err(ExploreError::Failed {
-            error: Error::Argument(_),
-            ..
-        })
-    ));
     // A body that retries for ever: without power, and with a stale file.
     let bodies: [Body; 4] = [
         |run| {

@@ -146,7 +146,7 @@ impl Builder {
         self
     }
 
-    /// Sets how often a crash keeps a change of names that nothing made durable: 1/2 if it isn't set.
+    /// Sets how often a crash keeps a change of names or a truncation that nothing made durable: 1/2 if it isn't set.
     ///
     /// ```
     /// # use blobcrash::{Probability, files::Files};
@@ -346,7 +346,6 @@ impl Explorable for Builder {
 
     fn explored(&self, mut choices: Choices, words: usize) -> Result<Files, Error> {
         let mut builder = self.clone();
-        self.base.check_explorable()?;
         builder.base = self.base.with_choices(&mut choices, words)?;
         builder.made(Limits::of_choices(choices))
     }

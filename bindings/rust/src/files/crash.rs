@@ -21,7 +21,7 @@ pub struct Crash {
     /// For each pending write of the layer with draws, its number and, byte by byte, whether it was kept. An unsettled edit is such a
     /// write too, of one sector of the journal.
     pub writes: Selections,
-    /// For each change of names that nothing had made durable, in order, whether it was kept.
+    /// For each change of names and each truncation that nothing had made durable, in order, whether it was kept.
     pub edits: Vec<bool>,
     /// For each of `writes`, where it was.
     pub places: Vec<Place>,
@@ -175,7 +175,7 @@ impl Files {
     /// Replaces the configuration: which calls fail, and what a crash keeps of writes that follow.
     ///
     /// Errors, with the earlier configuration in place:
-    /// - `Argument` if a sector has no bytes, or for a partial resize in an explored run.
+    /// - `Argument` if a sector has no bytes.
     /// - `NeedsSeed` if a rate needs random draws and there is neither a seed nor a word.
     /// - `OutOfMemory`.
     ///
@@ -192,9 +192,6 @@ impl Files {
     pub fn configure(&self, config: Config) -> Result<(), Error> {
         config.check()?;
         let mut state = self.lock();
-        if state.limits.choices.is_some() {
-            config.check_explorable()?;
-        }
         if !self.shared.has_draws && config.needs_draws() {
             return Err(Error::NeedsSeed);
         }

@@ -65,8 +65,8 @@ impl File {
 
     /// Truncates the file to a length, or extends it by zeros. The length is durable when the file is synced.
     ///
-    /// Errors: `Argument` if the file isn't open for writing; `NoSpace` beyond a limit of bytes; `OffsetOverflow`; `Injected`, with a
-    /// length between the two.
+    /// Errors: `Argument` if the file isn't open for writing; `NoSpace` beyond a limit of bytes; `OffsetOverflow`; `Injected`, which
+    /// may leave a length between the two if the file gets shorter.
     ///
     /// ```
     /// # fn main() -> Result<(), blobcrash::Error> {
