@@ -8,14 +8,19 @@
 #include <fcntl.h>
 #include <stdlib.h>
 
+/* Whether the layer may keep one edit more. A truncation to another size is one. */
+static bool has_room(void) { return node_counts.changes < node_limits.changes; }
+
 int call_truncate(struct node *node, uint64_t length) {
     if (!is_file(node)) return EINVAL;
-    int error = node->size == length ? 0 : node_open(node);
-    if (!error && node->size != length) error = layer_truncate(node->descriptor, length);
+    bool is_edit = node->size != length;
+    int error = is_edit ? has_room() ? node_open(node) : ENOSPC : 0;
+    if (!error && is_edit) error = layer_truncate(node->descriptor, length);
     if (error) {
         node_measure(node);
         return error;
     }
+    node_counts.changes += is_edit;
     node_resized(node, length);
     node_written(node);
     return 0;
@@ -24,13 +29,15 @@ int call_truncate(struct node *node, uint64_t length) {
 /* Truncates a file as an open does. */
 static int open_truncated(struct node *node) {
     if (node->is_truncated) return call_truncate(node, 0);
-    int error = node_close(node);
+    bool is_edit = node->size > 0;
+    int error = is_edit && !has_room() ? ENOSPC : node_close(node);
     if (!error) error = layer_open_truncated(node->inode, &node->descriptor);
     if (error) {
         node_measure(node);
         return error;
     }
     node->is_open = node->is_truncated = true;
+    node_counts.changes += is_edit;
     node_resized(node, 0);
     node_written(node);
     return 0;

@@ -34,8 +34,9 @@ static void report_node(const struct node *node, void *count) {
 static void report(void) {
     uint64_t count = 0;
     nodes_visit(report_node, &count);
-    fprintf(log_file, "unsynced: %" PRIu64 " files, %" PRIu64 " bytes, %" PRIu64 " changes of names since the last crash\n", count,
-            node_counts.unsynced, node_counts.changes);
+    fprintf(log_file,
+            "unsynced: %" PRIu64 " files, %" PRIu64 " bytes, %" PRIu64 " changes of names and truncations since the last crash\n",
+            count, node_counts.unsynced, node_counts.changes);
 }
 
 /* Makes a command. Returns the process that is to report it, as command_run. */

@@ -41,14 +41,14 @@ struct node_counts {
     uint64_t bytes;    /* those that count against the limit of the layer */
     uint64_t files;    /* files and directories that the layer counts */
     uint64_t unsynced; /* bytes written since the last sync of their files */
-    uint64_t changes;  /* of names, since the last crash */
+    uint64_t changes;  /* of names, and truncations, since the last crash */
 };
 
 /* What bounds the memory. */
 struct node_limits {
     uint64_t bytes;   /* of all files; of all unsynced writes */
     uint64_t files;   /* files and directories */
-    uint64_t changes; /* of names between two crashes: the layer keeps each until then */
+    uint64_t changes; /* of names, and truncations, between two crashes: the layer keeps each until then */
 };
 
 extern struct node_counts node_counts;

@@ -33,12 +33,6 @@ int blobcrash_vfs_start(const char *preamble);
  */
 int blobcrash_vfs_set(const char *setting);
 
-/*
- * Repeats a truncation that fails by injection until it succeeds, from now on, or no longer: then with a rate of failing truncations
- * unsynced ones may survive a crash, and none fails. Returns SQLITE_OK; SQLITE_MISUSE as blobcrash_vfs_set.
- */
-int blobcrash_vfs_repeat_truncations(bool repeats);
-
 /* Adds a comment to the record that BLOBCRASH_RECORD asks for (disk.h), if there is one. Returns SQLITE_OK; SQLITE_MISUSE as blobcrash_vfs_set. */
 int blobcrash_vfs_note(const char *text);
 

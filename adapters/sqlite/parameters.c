@@ -27,7 +27,7 @@ struct settings {
 
 /* What a URI asks for. */
 struct request {
-    bool has_seed, has_power_off, repeats_truncations;
+    bool has_seed, has_power_off;
     uint64_t seed, power_off;
     struct device device;
     struct settings settings;
@@ -65,8 +65,6 @@ static bool read_rate(const char *text, char *rate) {
     sqlite3_snprintf(RATE_SIZE, rate, "%llu %llu", (unsigned long long)over, (unsigned long long)under);
     return true;
 }
-
-static bool read_word(const char *text, const char *word, bool *answer) { return *answer = strcmp(text, word) == 0; }
 
 /* Reads what a crash keeps of a write: a word, or sectors and their size. */
 static bool read_tear(const char *text, char *tear) {
@@ -135,7 +133,6 @@ static bool read_parameter(const char *key, const char *value, struct request *r
     if (strcmp(key, "partial") == 0) return read_rate(value, request->settings.partial);
     if (strcmp(key, "sector") == 0) return read_sector(value, &request->device.sector_size);
     if (strcmp(key, "device") == 0) return read_device(value, &request->device.characteristics);
-    if (strcmp(key, "resizes") == 0) return read_word(value, "survive", &request->repeats_truncations);
     for (int i = 0; i < SWITCHES; i++) {
         if (strcmp(key, switches[i].name) == 0) return read_switch(i, value, request);
     }
@@ -219,7 +216,6 @@ static int configure(const struct request *request) {
         sqlite3_snprintf(sizeof line, line, "%s %s", switches[i].setting, request->switches[i]);
         code = blobcrash_vfs_set(line);
     }
-    if (!code && request->repeats_truncations) code = blobcrash_vfs_repeat_truncations(true);
     return code;
 }
 

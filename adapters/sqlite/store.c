@@ -9,8 +9,7 @@
 #include <stdio.h>
 #include <string.h>
 
-/* Of a call that is repeated while a fault is injected. */
-enum { MOST_TRIES = 1000, MESSAGE_SIZE = 512 };
+enum { MESSAGE_SIZE = 512 };
 
 /* A variable of the thread that started the file system; NULL if none is started. */
 static _Atomic(const char *) owner;
@@ -18,7 +17,7 @@ static _Thread_local char this_thread, message[MESSAGE_SIZE];
 
 static struct {
     struct disk disk;
-    bool has_seed, repeats_truncations;
+    bool has_seed;
     uint64_t seed;
     /* Of the files that are open, and were opened since the last crash. */
     struct node *nodes;
@@ -189,12 +188,7 @@ int store_write(const struct open_file *file, const void *bytes, int len, sqlite
 int store_truncate(const struct open_file *file, sqlite3_int64 size) {
     if (!is_ours()) return SQLITE_IOERR_TRUNCATE;
     disk_trace("truncate %s to %lld", file->name, (long long)size);
-    for (int tries = 1;; tries++) {
-        uint32_t status = disk_call(&store.disk, BLOBCRASH_F_TRUNCATE, file->descriptor, (uint64_t)size, NULL).status;
-        if (!store.repeats_truncations || tries == MOST_TRIES || status != BLOBCRASH_E_INJECTED) {
-            return code_of(status, SQLITE_IOERR_TRUNCATE);
-        }
-    }
+    return code_of(disk_call(&store.disk, BLOBCRASH_F_TRUNCATE, file->descriptor, (uint64_t)size, NULL).status, SQLITE_IOERR_TRUNCATE);
 }
 
 int store_size(const struct open_file *file, sqlite3_int64 *size) {
@@ -268,12 +262,6 @@ int blobcrash_vfs_note(const char *text) {
     if (!is_ours()) return refuse_thread();
     if (strpbrk(text, "\r\n")) return store_refuse(SQLITE_MISUSE, "more than one line");
     disk_note(&store.disk, text);
-    return SQLITE_OK;
-}
-
-int blobcrash_vfs_repeat_truncations(bool repeats) {
-    if (!is_ours()) return refuse_thread();
-    store.repeats_truncations = repeats;
     return SQLITE_OK;
 }
 

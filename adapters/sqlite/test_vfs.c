@@ -102,9 +102,6 @@ static void test_each_fault_has_its_code(void) {
     CHECK(blobcrash_vfs_set("config open 1 1") == SQLITE_OK && open_file("/b", &other) == SQLITE_CANTOPEN);
     shut(&other);
     CHECK(blobcrash_vfs_faults() == 5);
-    CHECK(blobcrash_vfs_repeat_truncations(true) == SQLITE_OK && blobcrash_vfs_set("config resize 1 2 0 1") == SQLITE_OK);
-    for (int i = 0; i < 20; i++) CHECK(file.file->pMethods->xTruncate(file.file, i) == SQLITE_OK);
-    CHECK(blobcrash_vfs_faults() > 5);
     shut(&file);
 }
 
@@ -210,7 +207,6 @@ static void test_a_start_and_an_end_need_closed_files(void) {
     CHECK(blobcrash_vfs_end() == SQLITE_OK && blobcrash_vfs_end() == SQLITE_OK);
     CHECK(blobcrash_vfs_set("config sync 0 1") == SQLITE_MISUSE && blobcrash_vfs_crash(NULL) == SQLITE_MISUSE);
     CHECK(blobcrash_vfs_power_off_after(1) == SQLITE_MISUSE && blobcrash_vfs_settle() == SQLITE_MISUSE);
-    CHECK(blobcrash_vfs_repeat_truncations(true) == SQLITE_MISUSE);
     CHECK(start());
     CHECK(blobcrash_vfs_set("config sync 2 1") == SQLITE_MISUSE && blobcrash_vfs_set("config sync 0 1\nsettle") == SQLITE_MISUSE);
     CHECK(blobcrash_vfs_set("settle") == SQLITE_MISUSE && blobcrash_vfs_set("") == SQLITE_MISUSE);

@@ -186,7 +186,7 @@ static void explore_transaction(struct exploration *exploration) {
 }
 
 static bool parse(const char *name, struct mode *mode) {
-    if (!mode_parse(name, mode) || mode->has_faults || mode->has_resizes || mode->has_two_files || mode->has_two_connections) return false;
+    if (!mode_parse(name, mode) || mode->has_faults || mode->has_two_files || mode->has_two_connections) return false;
     if (strcmp(mode->disk.tear, "mix") == 0) mode->disk.tear = "whole";
     return strcmp(mode->disk.tear, "whole") == 0 || strncmp(mode->disk.tear, "sectors", 7) == 0;
 }

@@ -210,8 +210,6 @@ static void set_faults(struct life *life) {
     tell(life, "%s", line);
     set(life, line);
     if (mode->disk.lies) set(life, "syncs lie");
-    if (mode->has_resizes) set(life, "config resize 1 2 0 1");
-    if (blobcrash_vfs_repeat_truncations(mode->has_resizes) != SQLITE_OK) fail(life, "truncations");
     if (!mode->has_faults) return;
     for (size_t i = 0; i < sizeof faults / sizeof *faults; i++) set(life, faults[i]);
     set(life, mode->has_partial_resize ? "config resize 1 12 1 2" : "config resize 1 12 0 1");

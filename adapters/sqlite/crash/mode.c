@@ -35,10 +35,6 @@ const char *const mode_names[] = {
     "truncate-full-savepoints",
     "persist-full-savepoints",
     "wal-full-savepoints",
-    "delete-extra-resizes",
-    "truncate-full-resizes",
-    "persist-full-resizes",
-    "wal-full-resizes",
     "delete-extra-attach",
     "truncate-full-attach",
     "persist-full-attach",
@@ -84,7 +80,6 @@ static bool set_option(struct mode *mode, const char *word) {
     if (strcmp(word, "exclusive") == 0) return mode->is_exclusive = true;
     if (strcmp(word, "faults") == 0) return mode->has_faults = true;
     if (strcmp(word, "partial") == 0) return mode->has_faults = mode->has_partial_resize = true;
-    if (strcmp(word, "resizes") == 0) return mode->has_resizes = true;
     if (strcmp(word, "sequential") == 0) return mode->characteristics = SQLITE_IOCAP_SEQUENTIAL, true;
     return words_read(&mode->disk, word);
 }

@@ -22,13 +22,12 @@ struct mode {
     bool is_exclusive;        /* locking_mode=EXCLUSIVE. */
     bool has_faults;          /* Calls fail. */
     bool has_partial_resize;  /* And a truncation that fails may be done in part. */
-    bool has_resizes;         /* An unsynced truncation may survive. */
     int characteristics;      /* Of the device, as it reports them to SQLite; 0 for the default. */
 };
 
 /*
  * Reads a name: a journal mode (delete, truncate, persist, memory, wal), a value of synchronous (off, normal, full,
- * extra), and then any of the words of words.h and of savepoints, attach, two, exclusive, faults, partial, resizes, sequential.
+ * extra), and then any of the words of words.h and of savepoints, attach, two, exclusive, faults, partial, sequential.
  *
  * Returns false if it is no name.
  */
