@@ -125,7 +125,7 @@ def check(program, seed, profile):
             check_edits(script, reply, remarks, profile)
             check_writes(script, reply, remarks)
             check_sizes(remarks, sizes(explained[at - 1][0]), sizes(explained[at + 1][0]))
-        elif remarks and not remarks[0].startswith("truncated"):
+        elif remarks:
             check_settled(script, lines[at], remarks)
 
 

@@ -305,7 +305,8 @@ def test_a_close_counts_as_a_change():
         files.crash_after(2)
         assert raises(PowerLoss, put, files, "/f", b"new").is_first
         files.restart()
-        assert get(files, "/f") == b"old"
+        # The edit of the truncation is kept, and the write is lost.
+        assert get(files, "/f") == b""
         files.crash_after(3)
         put(files, "/f", b"new")
         files.restart()

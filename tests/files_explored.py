@@ -11,7 +11,7 @@ sys.path.insert(0, os.path.join(TOP, "bindings", "python"))
 
 from passing import raises, run_tests
 
-from blobcrash import BadLine, Failed, Files, NotDeterministic, PowerLoss, TooLong, Unexplorable, explore, seeds, shrink
+from blobcrash import BadLine, Failed, Files, Injected, NotDeterministic, PowerLoss, TooLong, explore, seeds, shrink
 from files import get, put
 
 HALF = ["write 0 1 1 2 sectors 4"]
@@ -57,6 +57,21 @@ def test_each_outcome():
         assert set(explore(appended, files=files, settings=HALF).outcomes) == APPENDED | {b"aaaa\0\0\0\0cccc"}
     for files, name in (("xfs", "ExploredFiles"), (None, "ExploredStore"), (False, "ExploredStore")):
         assert explore(lambda store: type(store).__name__, files=files).outcomes == {name: 1}
+
+
+def cut(files):
+    """Truncates a file of four bytes. Returns whether that was done, and the size."""
+    put(files, "/f", b"abcd")
+    try:
+        files.truncate("/f", 0)
+    except Injected:
+        return False, files.stat("/f").size
+    return True, files.stat("/f").size
+
+
+def test_each_length_of_a_partial_truncation():
+    found = explore(cut, files=True, settings=["resize 1 2 1 2"]).outcomes
+    assert set(found) == {(True, 0), (False, 1), (False, 2), (False, 3), (False, 4)}, found
 
 
 def test_choices_and_paths():
@@ -135,7 +150,6 @@ def test_bodies_that_go_wrong():
     raises(TypeError, explore, torn, files=1)
     raises(TypeError, explore, torn, files=True, images=[("p", b"b", b"")])
     raises(TypeError, explore, torn, files=True, allow_stale=True)
-    raises(Unexplorable, explore, torn, files=True, settings=["resize 1 2 1 2"])
     raises(BadLine, explore, torn, files=True, settings=["keep 2 1"])
 
 

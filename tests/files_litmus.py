@@ -8,7 +8,7 @@ import sys
 TOP = os.path.dirname(os.path.dirname(os.path.abspath(__file__)))
 sys.path.insert(0, os.path.join(TOP, "bindings", "python"))
 
-from blobcrash import Injected, explore
+from blobcrash import explore
 
 from files_steps import Steps, parted
 
@@ -44,15 +44,25 @@ write B to f, o = X, fsync o | f = AA | f | AA BA | AA BA | AA
 truncate f to A, o = X, fsync o | f = AA | f | A | A | AA
 truncate f to AA00, o = X, fsync o | f = AA | f | AA00 | AA00 | AA00
 write B to f, fsync f, append BB to f | f = AA | f | BA | BA | BA
+truncate f to A, create g | f = AA | f, g | AA/none | AA/none | AA/none
+truncate f to A, create g, o = X, fsync o | f = AA | f, g | A/empty | A/empty | AA/none
+create g, truncate f to A, o = X, fsync o | f = AA | f, g | A/empty | A/empty | AA/none
+truncate f to A, rename f g, o = X, fsync o | f = AA | f, g | none/A | none/A | AA/none
+truncate f to A, fsync f, append B to f | f = AA | f | A | A | A
+truncate f to A, fsync / | f = AA | f | | AA | AA
+truncate f to A, append BB to f, o = X, fsync o | f = AA | f | A ABB | A A0B ABB | AA
+append B to f, truncate f to AA, o = X, fsync o | f = AA | f | AA | AA | AA
 """
 
 # What was seen and no crash of the profile leaves: an append of which only the end had been written back, a rewrite after O_TRUNC whose
 # close made nothing durable, and an overwrite in the tick of the kernel's clock in which the file changed before. It leaves the file's
-# times as they are, so that ext4 commits nothing at its sync.
+# times as they are, so that ext4 commits nothing at its sync. Nor does it at the sync of a directory in which nothing has changed.
 OUTSIDE = """
 append BB to f, o = X, fsync o | f = AA | f | AA0B | |
 rewrite f BB | f = AA | f | AA | |
 write A to g, fsync g, create f, write B to g, fsync g | g = AA | f | none | |
+truncate f to A, fsync / | f = AA | f | AA | |
+truncate f to A, append BB to f, o = X, fsync o | f = AA | f | A0B | |
 """
 
 
@@ -64,24 +74,20 @@ class Litmus:
 
     def __call__(self, files):
         steps = Steps(files, SECTOR)
-        # Nothing is drawn before the program. Its own truncations are the ones that may survive.
+        # Nothing is drawn before the program.
         files.configure("keep 1 1")
         for text in self.before:
             steps.make(text)
         files.settle()
         files.configure("keep 1 2")
-        try:
-            for text in self.program:
-                steps.make(text)
-        except Injected:
-            return None
+        for text in self.program:
+            steps.make(text)
         files.restart()
         return "/".join(steps.look(path) for path in self.looks_at)
 
     def outcomes(self, profile):
         """The outcomes in a profile, each of them found."""
-        resizes = ["resize 1 2 0 1"] if any(text.startswith(("truncate", "rewrite")) for text in self.program) else []
-        explored = explore(self, files=profile, settings=SETTINGS + resizes)
+        explored = explore(self, files=profile, settings=SETTINGS)
         assert explored.complete
         return set(explored.outcomes), explored.runs
 
@@ -120,7 +126,7 @@ def compare_page(count):
     """Compares the page's table."""
     most = 0
     rows = page_rows()
-    count.tell(len(rows) == 22 and all(len(row) == 7 for row in rows), f"the page's table has 22 rows of 7 cells: {len(rows)}")
+    count.tell(len(rows) == 28 and all(len(row) == 7 for row in rows), f"the page's table has 28 rows of 7 cells: {len(rows)}")
     for program, before, looks_at, *cells in rows:
         ext4 = set(cells[0].split())
         for profile, cell in zip(PROFILES, cells):
@@ -149,10 +155,7 @@ def cut_and_append(files):
     Steps(files, SECTOR).put("f", "xb", "A" * 8)
     files.settle()
     with files.open("f", "r+b") as file:
-        try:
-            file.truncate(100)
-        except Injected:
-            return None
+        file.truncate(100)
         file.seek(100)
         file.write(b"C" * 100)
     files.restart()
@@ -166,7 +169,7 @@ def compare_block(count):
     old = ends + b"A" * (8 * SECTOR - 200)
     wanted = {ends, ends[:100], old, b"A" * (8 * SECTOR)}
     for profile in PROFILES:
-        found = set(explore(cut_and_append, files=profile, settings=[*SETTINGS, "resize 1 2 0 1"]).outcomes)
+        found = set(explore(cut_and_append, files=profile, settings=SETTINGS).outcomes)
         count.tell(found == wanted, f"a truncation and an append in a block ({profile}): {[len(content) for content in found]}")
 
 

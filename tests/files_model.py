@@ -13,7 +13,7 @@ from blobcrash.file_calls import Found, Kept, refusal_of
 from blobcrash.foreign_files import IS_DIRECTORY, IS_FILE, REFUSALS
 
 STATUSES = {refusal.name: status for status, refusal in REFUSALS.items()}
-NEVER, ALWAYS = (0, 1), (1, 1)
+NEVER = (0, 1)
 
 
 class Profile(NamedTuple):
@@ -33,8 +33,23 @@ PROFILES = {
 }
 
 
+class Write(NamedTuple):
+    """An unsynced write, and how often a crash keeps one of its sectors."""
+
+    offset: int
+    data: bytes
+    rate: tuple
+
+
+class Truncation(NamedTuple):
+    """An unsynced truncation or extension to a length, and the number of its edit."""
+
+    length: int
+    edit: int
+
+
 class File:
-    """A file: what it has, what is durable, and what a crash draws for."""
+    """A file: what it has, what is durable, and the writes and truncations since, in order."""
 
     def __init__(self):
         self.live, self.durable, self.pending = b"", b"", []
@@ -71,7 +86,7 @@ class Model(Names):
     def __init__(self, preamble):
         super().__init__()
         self.words, self.taken = [], 0
-        self.resizes, self.retention, self.sector, self.sync_rate = None, NEVER, 1, NEVER
+        self.resizes, self.partial, self.retention, self.sector, self.sync_rate = NEVER, NEVER, NEVER, 1, NEVER
         self.drops = self.lies = False
         for line in preamble.decode().split("\n"):
             self.set(line.split())
@@ -89,7 +104,7 @@ class Model(Names):
         elif tokens[:1] == ["keep"]:
             self.keep = (int(tokens[1]), int(tokens[2]))
         elif tokens[:2] == ["config", "resize"]:
-            self.resizes = (int(tokens[2]), int(tokens[3]))
+            self.resizes, self.partial = (int(tokens[2]), int(tokens[3])), (int(tokens[4]), int(tokens[5]))
         elif tokens[:2] == ["config", "sync"]:
             self.sync_rate = (int(tokens[2]), int(tokens[3]))
         elif tokens[:1] == ["failed_sync"]:
@@ -163,9 +178,13 @@ class Model(Names):
 
     def open_truncated(self, asked):
         found = self.open(asked)
-        file = self.files[self.opened[found.number]]
-        self.resize(file, 0)
-        file.is_truncated = True
+        inode = self.opened[found.number]
+        try:
+            self.resize(inode, 0)
+        except Refused:
+            self.close(found)
+            raise
+        self.files[inode].is_truncated = True
         return found
 
     def find(self, asked):
@@ -199,22 +218,37 @@ class Model(Names):
         if len(file.seen()) > before:
             file.grown = self.next_edit
         if asked.path and self.retention[0]:
-            file.pending.append((asked.first, asked.path, self.retention))
+            file.pending.append(Write(asked.first, asked.path, self.retention))
 
     def truncate(self, asked):
-        self.resize(self.files[self.inode_of(asked)], asked.first)
+        self.resize(self.inode_of(asked), asked.first)
 
-    def resize(self, file, length):
-        """Resizes a file. Whether that survives is drawn by the call."""
-        file.is_changed, file.grown = True, self.next_edit
-        if self.resizes is not None:
-            if self.draw(self.resizes):
+    def resize(self, inode, length):
+        """Truncates or extends a file: an edit in its own number, if the size changes. One that fails may be done in part."""
+        file = self.files[inode]
+        fails = self.draw(self.resizes)
+        if fails:
+            if not self.draw(self.partial) or len(file.seen()) - length <= 1:
                 raise Refused("Injected")
-            if self.draw(self.resizes):
-                file.pending.append((length, None, ALWAYS))
+            length = self.draw_between(length, len(file.seen()))
+        if length == len(file.seen()):
+            return
+        file.is_changed = True
+        file.pending.append(Truncation(length, self.next_edit))
+        self.bind([], [inode], [inode])
         file.live = resized(file.live, length)
         if file.shown is not None:
             file.shown = resized(file.shown, length)
+        if fails:
+            raise Refused("Injected")
+
+    def draw_between(self, low, high):
+        """Draws a number between two, by halves."""
+        numbers = range(low + 1, high)
+        while len(numbers) > 1:
+            half = len(numbers) // 2
+            numbers = numbers[:half] if self.draw((1, 2)) else numbers[half:]
+        return numbers[0]
 
     # Syncs.
 
@@ -251,6 +285,8 @@ class Model(Names):
             self.settle_where(lambda edit: edit.number < end)
         elif self.profile.settles == "its names":
             self.settle_names(inode)
+        elif self.profile.settles == "its own":
+            self.settle_where(lambda edit: inode in edit.directories)
 
     def sync_bytes(self, file):
         """Makes the bytes of a file durable, or fails."""
@@ -298,46 +334,54 @@ class Model(Names):
     # The crash.
 
     def crash(self, asked):
-        kept = self.kept_names()
+        kept = self.kept_edits()
+        for edit in self.edits:
+            if edit.number in kept:
+                apply(self.base, edit.changes)
         for file in self.files.values():
-            self.crash_bytes(file)
+            self.crash_bytes(file, kept)
+        edits = [edit.number in kept for edit in self.unsettled()]
         self.names, self.directories = reached(self.base)
         self.base = dict(self.names)
         self.files = {inode: file for inode, file in self.files.items() if (inode, IS_FILE) in self.names.values()}
         self.edits, self.opened, self.gone = [], {}, {}
-        return Kept([], kept, [])
+        return Kept([], edits, [])
 
-    def kept_names(self):
-        """Applies the edits that are kept to the durable names. Returns of each unsettled one whether it was."""
-        kept, is_lost = [], False
+    def kept_edits(self):
+        """Returns the numbers of the edits that are kept."""
+        kept, is_lost = set(), False
         for edit in self.edits:
-            is_settled = edit.number in self.settled
-            is_kept = is_settled or (self.draw(edit.rate) and not is_lost)
-            if is_kept:
-                apply(self.base, edit.changes)
-            is_lost |= not is_kept and self.profile.keeps_a_prefix
-            kept += [] if is_settled else [is_kept]
+            if edit.number in self.settled or (self.draw(edit.rate) and not is_lost):
+                kept.add(edit.number)
+            else:
+                is_lost |= self.profile.keeps_a_prefix
         return kept
 
-    def crash_bytes(self, file):
-        """Leaves the durable bytes of a file with what is kept of its writes, and cuts it if the profile does."""
-        data = file.durable
-        for offset, added, rate in file.pending:
-            if added is None:
-                data = resized(data, offset)
-                continue
-            for at in range(offset - offset % self.sector, offset + len(added), self.sector):
-                start, end = max(at, offset), min(at + self.sector, offset + len(added))
-                if self.draw(rate):
-                    data = written(data, start, added[start - offset : end - offset])
-        if self.profile.cuts and len(data) > file.synced:
-            end = file.synced
+    def crash_bytes(self, file, kept):
+        """Leaves the durable bytes of a file with what is kept of its writes and truncations, and cuts it if the profile does."""
+        data, synced = file.durable, file.synced
+        for change in file.pending:
+            if isinstance(change, Write):
+                data = self.with_kept(data, change)
+            elif change.edit in kept:
+                data, synced = resized(data, change.length), min(synced, change.length)
+        if self.profile.cuts and len(data) > synced:
+            end = synced
             while end < min(len(data), len(file.live)) and data[end] == file.live[end]:
                 end += 1
             data = data[:end]
         file.live, file.shown = data, None
         file.flush()
         file.is_changed, file.grown = False, 0
+
+    def with_kept(self, data, write):
+        """Data with the sectors of a write that a crash keeps."""
+        last = write.offset + len(write.data)
+        for at in range(write.offset - write.offset % self.sector, last, self.sector):
+            start, end = max(at, write.offset), min(at + self.sector, last)
+            if self.draw(write.rate):
+                data = written(data, start, write.data[start - write.offset : end - write.offset])
+        return data
 
 
 def reached(names):

@@ -9,16 +9,15 @@ import sys
 
 from files_model import PROFILES, Model
 
-from blobcrash import Files, Injected, explore
+from blobcrash import Files, explore
 
 SECTOR = 4
 SETTINGS = ["write 0 1 1 2 sectors 4"]
 # A program is left out in a profile in which it has more runs.
-MOST_RUNS = 64
+MOST_RUNS = 128
 PATHS = ("/a", "/b", "/x", "/y", "/x/f", "/y/f", "/x/z", "/x/z/f", "/y/x")
 MODES = {"put": "xb", "append": "ab", "write": "r+b", "rewrite": "wb"}
 ON_PATH = ("mkdir", "mkdir", "unlink", "rmdir", "fsync", "fdatasync", "fsync_directory")
-SYNCS = ("fsync", "fdatasync", "sync")
 ON_TWO = ("rename", "rename", "rename", "exchange", "link")
 
 
@@ -27,8 +26,8 @@ def random_step(chance):
     kind = chance.randrange(20)
     if kind < 6:
         return chance.choice(list(MODES)), path, chance.randrange(1, 3)
-    if kind < 7:
-        return "truncate", path, chance.randrange(3) * SECTOR
+    if kind < 8:
+        return "truncate", path, chance.randrange(5) * SECTOR // 2
     if kind < 13:
         return chance.choice(ON_PATH), path
     if kind < 19:
@@ -84,7 +83,7 @@ class Program:
         with Files(settings=["keep 1 1"], by=Model) as files:
             self.before = steps_of(chance, chance.randrange(10), files)
             self.steps = steps_of(chance, chance.randrange(1, 7), files)
-        self.settings = SETTINGS + (["resize 1 2 0 1"] if chance.random() < 0.3 else [])
+        self.settings = SETTINGS + chance.choice((["resize 1 2 0 1"], ["resize 1 2 1 2"], [], [], []))
         # Settings that come after what is durable.
         self.later = chance.choice((["sync 1 2", "failed_sync drops"], ["sync 1 2"], ["syncs lie"], [], [], [], [], []))
 
@@ -95,10 +94,6 @@ class Program:
             for at, (word, *arguments) in enumerate(steps):
                 try:
                     step(files, word, arguments, letters[at : at + 1])
-                except Injected:
-                    if word not in SYNCS:
-                        return None
-                    refusals.append((at, "Injected"))
                 except OSError as error:
                     refusals.append((at, error.refusal))
             if steps is self.before:

@@ -78,6 +78,25 @@ def test_a_failed_write_of_a_prefix():
             assert file.seek(0) == 0 and file.read() == b"abcd"
 
 
+def test_a_failed_write_after_a_truncation():
+    for setting in ("failed_write mode", "failed_write prefix"):
+        with Files(words=[0], settings=[*KEEPS, setting]) as files:
+            put(files, "/f", b"abcd")
+            files.settle()
+            files.configure("write 1 1 1 1 prefix")
+            with files.open("/f", "r+b") as file:
+                file.truncate(2)
+                raises(Injected, file.write, b"xy")
+                assert file.seek(0) == 0 and file.read() == b"ab", setting
+                # The truncation is durable, and a write that fails writes a part again, here all.
+                files.fsync(file)
+                assert file.seek(0) == 0
+                raises(Injected, file.write, b"xyz")
+                assert file.seek(0) == 0 and file.read() == b"xyz", setting
+            files.restart()
+            assert get(files, "/f") == b"xyz", setting
+
+
 def test_space_of_unlinked_files():
     with Files(settings=[*LOSES, "space 3 1"]) as files:
         put(files, "/f", b"123")

@@ -31,8 +31,8 @@ if [ "$version" = '1 23 ' ]; then
     finds 'LevelDB 1.23' <<'ROWS'
 34 sync-reads acknowledged batches are lost
 3 sync-reuse the rows are those of no batch
-6 sync-posix-create CURRENT points to a non-existent file
-4 sync-posix-create the rows are those of no batch
+4 sync-posix-create CURRENT points to a non-existent file
+6 sync-posix-create the rows are those of no batch
 1 sync-posix-rename acknowledged batches are lost
 43 nosync the rows are those of no batch
 1 nosync-whole-xfs the rows are those of no batch

@@ -46,10 +46,20 @@ def sync_file(path):
     os.close(descriptor)
 
 
+def append_one(at):
+    """Appends a sector."""
+    put(f"{at}/f", B, flags=os.O_APPEND)
+
+
 def append(at):
     """Appends two sectors, a call each."""
     for _ in range(2):
-        put(f"{at}/f", B, flags=os.O_APPEND)
+        append_one(at)
+
+
+def cut(at, sectors=1):
+    """Truncates f."""
+    os.truncate(f"{at}/f", sectors * SECTOR)
 
 
 def replace(at, syncs_file=False, syncs_folder=False, data=B + B):
@@ -154,6 +164,16 @@ PROGRAMS = [
     ("create f, overwrite g, data synced", then(lambda at: create(at, "f"), lambda at: overwrite(at, sync_data, "g")), files(g=A),
      "f g", same("none/B", "empty/B")),
     ("exchange", lambda at: rename_by(f"{at}/a", f"{at}/b", 2), files(a=A, b=B), "a b", same("A/B", "B/A")),
+    ("append, truncate f to AA", then(append_one, lambda at: cut(at, 2)), F, "f", more(["AA"], ["AAB"])),
+    ("truncate f, append", then(cut, append), F, "f", more(["A", "AA", "AB", "AAB", "ABB"], ["A0B"])),
+    ("truncate f, create g", then(cut, lambda at: create(at, "g")), F, "f g", more(["AA/none", "A/none", "A/empty"], [], ["AA/empty"])),
+    ("create g, truncate f", then(lambda at: create(at, "g"), cut), F, "f g", more(["AA/none", "AA/empty", "A/empty"], [], ["A/none"])),
+    ("truncate f, rename it g", then(cut, lambda at: os.rename(f"{at}/f", f"{at}/g")), F, "f g",
+     more(["AA/none", "A/none", "none/A"], [], ["none/AA"])),
+    ("truncate f, synced, append", then(cut, lambda at: sync_file(f"{at}/f"), append_one), F, "f", same("A", "AB")),
+    ("truncate f, new file o, synced", then(cut, lambda at: put(f"{at}/o", X, sync=True)), F, "f",
+     [{"A"}, {"A"}, {"A", "AA"}, {"A", "AA"}]),
+    ("truncate f, folder synced", then(cut, sync_folder), F, "f", more(["A"], ["AA"])),
     # Programs that are not in the table.
     ("unlink, write", lambda at: use_unlinked(at, False), F, "f", same(*MIXED)),
     ("unlink, write, sync", lambda at: use_unlinked(at, True), F, "f", more(["none"], [], ["BB"])),

@@ -68,10 +68,9 @@ check 'nothing is lost at FULL and EXTRA' run 0 "$crash" "$seeds" $modes
 check 'and each mode says so' all_rows held "$count"
 check 'each mode commits' [ "$(awk -F'|' '$12 ~ /held/ && $4 > 0 && $5 > 0' "$work/out" | wc -l)" -eq "$count" ]
 cat "$work/out"
-check 'nothing is lost behind surviving truncations, in two files and with two connections' run 0 "$crash" 10 delete-extra-resizes \
-    truncate-full-resizes persist-full-resizes wal-full-resizes delete-extra-attach truncate-full-attach persist-full-attach \
-    delete-extra-two truncate-full-two persist-full-two wal-full-two wal-full-exclusive
-check 'and each of these modes says so' all_rows held 12
+check 'nothing is lost in two files and with two connections' run 0 "$crash" 10 delete-extra-attach truncate-full-attach \
+    persist-full-attach delete-extra-two truncate-full-two persist-full-two wal-full-two wal-full-exclusive
+check 'and each of these modes says so' all_rows held 8
 for profile in xfs btrfs posix; do
     check "nothing is lost on $profile" run 0 "$crash" --with "$profile" 10 delete-extra truncate-full persist-full wal-full wal-full-two \
         delete-extra-attach

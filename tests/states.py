@@ -290,8 +290,9 @@ def test_every_line_of_a_script_of_files():
     lines += ["unlink_at 2 h", "rmdir /d", "mkdir_at 1 x\\x20y", "rmdir_at 1 x\\x20y"]
     lines += ["settle", "sync", "crash", "listdir_at 1", "open_truncated /d/k"]
     states = list(CrashStates("\n".join(lines), files=True, at=len(lines)))
-    # The truncation of the last line is lost.
-    assert [dict(state.content) for state in states] == [{b"/d": None, b"/d/k": b"a"}], [state.content for state in states]
+    # The truncation of the last line is kept or lost.
+    wanted = [{b"/d": None, b"/d/k": left} for left in (b"", b"a")]
+    assert [dict(state.content) for state in states] == wanted, [state.content for state in states]
     for bad in ("frobnicate /a", "create", "write 0 x 61", "rename /a /b sideways", "close 18446744073709551616", "write 0 0 6"):
         raises(BadLine, list, CrashStates(bad, files=True))
     raises(BadLine, list, CrashStates("open p"))
