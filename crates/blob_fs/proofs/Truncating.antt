@@ -16,7 +16,7 @@ use Rattle.blob_journal.proofs.Fixed.{has_from, has_parts, resized_has}
 use Rattle.blob_fs.specs.declared.truncation.Kept.{Kept}
 use Rattle.blob_fs.specs.declared.truncation.Truncation.{Truncation}
 use Rattle.blob_fs.specs.declared.crash.Place.{Place}
-use Rattle.blob_fs.specs.Truncations.{cut_start, is_lost, keeps_at, keeps_later, keeps_of, least_of, lost_of, marks_from, puts_back, truncated, truncated_by, unless_lost}
+use Rattle.blob_fs.specs.Truncations.{cut_start, is_lost, keeps_at, keeps_later, keeps_write, least_of, lost_of, marks_from, puts_back, truncated, truncated_by, unless_lost}
 
 -- The edits that a crash lost.
 
@@ -120,7 +120,7 @@ module _ (first inode : ℕ) (at : ℕ) where
 
   pub later_step : (rows : List (ℕ × Vec Bool Global)) (places : List Place) (i : ℕ) (row : ℕ × Vec Bool Global) (place : Place) → i < length rows → i < length places
       → keeps_later first inode (drop i rows) (drop i places) at
-      ≡ (keeps_of first inode (get_or rows i row).0 (get_or rows i row).1.items (get_or places i place) at || keeps_later first inode (drop (suc i) rows) (drop (suc i) places) at)
+      ≡ (keeps_write first inode (get_or rows i row).0 (get_or rows i row).1.items (get_or places i place) at || keeps_later first inode (drop (suc i) rows) (drop (suc i) places) at)
   later_step [] places i row place low short = absurd (omega arith)
   later_step (r ∷ rows) [] i row place low short = absurd (omega arith)
   later_step (r ∷ rows) (p ∷ places) zero row place low short = refl
@@ -129,19 +129,19 @@ module _ (first inode : ℕ) (at : ℕ) where
   -- one more write is marked
   pub later_more : (from i next : ℕ) (rows rows' : List (ℕ × Vec Bool Global)) (places places' : List Place) (row : ℕ × Vec Bool Global) (choices : List Bool) (d : Place) (new before all : Bool)
       → next ≡ suc i → i < length rows → i < length places → rows' ≡ rows → places' ≡ places → row ≡ get_or rows' i row → choices ≡ row.1.items
-      → new ≡ (before || marks_from from (keeps_of first inode row.0 choices (get_or places' i d)) at)
+      → new ≡ (before || marks_from from (keeps_write first inode row.0 choices (get_or places' i d)) at)
       → (before || marks_from from (keeps_later first inode (drop i rows) (drop i places)) at) ≡ all
       → (new || marks_from from (keeps_later first inode (drop next rows) (drop next places)) at) ≡ all
   later_more from i next rows rows' places places' row choices d new before all up low short rs ps r is one h =
       let rest = keeps_later first inode (drop (suc i) rows) (drop (suc i) places) at in
       let here : row ≡ get_or rows i row = r ∙ ap (λ l. get_or l i row) rs in
-      let step : keeps_later first inode (drop i rows) (drop i places) at ≡ (keeps_of first inode row.0 choices (get_or places' i d) at || rest) =
+      let step : keeps_later first inode (drop i rows) (drop i places) at ≡ (keeps_write first inode row.0 choices (get_or places' i d) at || rest) =
       later_step rows places i row d low short
-      ∙ ap₂ (λ (x : ℕ × Vec Bool Global) (y : List Place). keeps_of first inode x.0 x.1.items (get_or y i d) at || rest) (sym here) (sym ps)
-      ∙ ap (λ l. keeps_of first inode row.0 l (get_or places' i d) at || rest) (sym is) in
+      ∙ ap₂ (λ (x : ℕ × Vec Bool Global) (y : List Place). keeps_write first inode x.0 x.1.items (get_or y i d) at || rest) (sym here) (sym ps)
+      ∙ ap (λ l. keeps_write first inode row.0 l (get_or places' i d) at || rest) (sym is) in
       ap (λ n. new || (nat_le from at && keeps_later first inode (drop n rows) (drop n places) at)) up
       ∙ ap (λ b. b || (nat_le from at && rest)) one
-      ∙ both_pass before (nat_le from at) (keeps_of first inode row.0 choices (get_or places' i d) at) rest
+      ∙ both_pass before (nat_le from at) (keeps_write first inode row.0 choices (get_or places' i d) at) rest
       ∙ ap (λ b. before || (nat_le from at && b)) (sym step)
       ∙ h
 

@@ -32,15 +32,15 @@ abbrev pub is_later : ℕ → ℕ → ℕ → Place → Bool
 is_later first inode number place = nat_le first number && is_number place.inode inode
 
 -- whether the crash kept the byte at a position of such a write, by its choices
-abbrev pub keeps_of : ℕ → ℕ → ℕ → List Bool → Place → ℕ → Bool
-keeps_of first inode number choices place at = is_later first inode number place && keeps_at place.offset choices at
+abbrev pub keeps_write : ℕ → ℕ → ℕ → List Bool → Place → ℕ → Bool
+keeps_write first inode number choices place at = is_later first inode number place && keeps_at place.offset choices at
 
 -- the same of all writes, by the rows and places of the crash
 abbrev pub keeps_later : ℕ → ℕ → List (ℕ × Vec Bool Global) → List Place → ℕ → Bool
 keeps_later first inode [] places at = false
 keeps_later first inode (row ∷ rows) [] at = false
 keeps_later first inode (row ∷ rows) (place ∷ places) at =
-    keeps_of first inode row.0 row.1.items place at || keeps_later first inode rows places at
+    keeps_write first inode row.0 row.1.items place at || keeps_later first inode rows places at
 
 -- a test at positions from one on
 abbrev pub marks_from : ℕ → (ℕ → Bool) → ℕ → Bool
@@ -48,7 +48,7 @@ marks_from from test at = nat_le from at && test at
 
 -- whether a truncation puts back the byte at a position of a write: of a later one, from its length on
 abbrev pub puts_write : ℕ → Truncation → ℕ → List Bool → Place → ℕ → Bool
-puts_write inode t number choices place = marks_from t.length (keeps_of t.next_write inode number choices place)
+puts_write inode t number choices place = marks_from t.length (keeps_write t.next_write inode number choices place)
 
 -- of some write
 abbrev pub puts_back : Kept → ℕ → Truncation → ℕ → Bool
