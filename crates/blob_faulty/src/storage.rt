@@ -4,7 +4,8 @@ ghost use Rattle.std.specs.Borrow.{sem};
 ghost use Rattle.blob_faulty.specs.Lends.{LendsConfig, with_config, with_rng};
 ghost use Rattle.blob_faulty.specs.Names.{Steps};
 ghost use Rattle.blob_faulty.specs.New.{IsNew};
-ghost use Rattle.blob_pending.specs.Lists.{list_of};
+ghost use Rattle.blob_model.specs.Order.{ArePlacesApart};
+ghost use Rattle.blob_pending.specs.Lists.{list_of, lists_of};
 ghost use Rattle.blob_faulty.specs.Wrapper.{inner_of, rng_of, config_of, next_write_of, pending_of};
 
 use blob_base::Durable;
@@ -74,10 +75,12 @@ impl<S: Durable, R> Storage<S, R> {
         &self.rng
     }
 
-    /// Returns the pending lists, in no order. Ended incarnations and empty lists may be among them, and a list may have a write
-    /// that later durable ranges cover fully, and entries that a sync dropped (`Entry::is_left` is false for them).
+    /// Returns the pending lists, in no order, one of an incarnation at most. Ended incarnations and empty lists may be among
+    /// them, and a list may have a write that later durable ranges cover fully, and entries that a sync dropped
+    /// (`Entry::is_left` is false for them).
     pub fn pending(&self) -> &[Incarnation<S::Origin>]
-        ensures { list_of S.place result.now ≡ pending_of S.place self.now }
+        ensures lists { list_of S.place result.now ≡ pending_of S.place self.now }
+        ensures apart { ArePlacesApart (lists_of S.place result.now) }
     {
         self.lists.as_slice()
     }
