@@ -1,6 +1,7 @@
 pub mod Names
 pub mod Tables
 pub mod Trees
+pub mod Counts
 pub mod Checkpoints
 pub mod Sectors
 pub mod Profiles

@@ -1,6 +1,7 @@
 //! The names that a crash leaves, from the sectors of a journal.
 ghost use Rattle.std.specs.Prelude.{◌≡◌, ◌&&◌, ◌||◌, ℕ, false, nat_eq, not, None, IfOk, OnOk};
 ghost use Rattle.blob_directory.specs.Checkpoints.{FitSectors};
+ghost use Rattle.blob_directory.specs.Counts.{CountsNames, count_then, link_count};
 ghost use Rattle.blob_directory.specs.Names.{Names, Same, entry};
 ghost use Rattle.blob_directory.specs.Profiles.{counts, counts_in, is_prefix, names_told, with_found};
 ghost use Rattle.blob_directory.specs.Sectors.{found_in};
@@ -48,12 +49,17 @@ impl Tree {
         ensures names { OnOk result (Same (bound self.new.names) (added self.old (entry directory name.now) to)) }
         ensures directories { OnOk result ((d : ℕ) → has_directory self.new d ≡ has_then self.old to d) }
         ensures links { OnOk result ((i : ℕ) → has_link self.new i ≡ links_then self.old to i) }
+        ensures counts { OnOk result ((i : ℕ) → link_count self.new i ≡ count_then self.old to i) }
         ensures new { IfOk result (λ is_new. is_new ≡ (is_directory to.kind && not (has_directory self.old to.inode))) }
     {
         match to.kind {
             Kind::File => {
                 let links = self.links.entry(to.inode)?.or_insert(0);
-                *links = links.saturating_add(1);
+                // 2^32 names of one file don't fit in memory
+                let Some(more) = links.checked_add(1) else {
+                    return Err(AllocError);
+                };
+                *links = more;
             }
             Kind::Directory => {
                 if self.directories.contains_key(&to.inode) {
@@ -125,6 +131,7 @@ pub fn reached(alloc: Global, names: &Table) -> Result<Tree, AllocError>
     ensures places { IfOk result HasPlaces }
     ensures links { IfOk result HasLinks }
     ensures named { IfOk result HasNamedLinks }
+    ensures counts { IfOk result CountsNames }
 {
     let mut tree = Tree::new(alloc)?;
     let mut next = Vec::new(alloc);

@@ -4,10 +4,12 @@ use Rattle.std.proofs.lemmas.Bool.{and_parts, eqb-true, false≢true}
 use Rattle.std.proofs.lemmas.List.Elements.{All-contains, All-from_all_within, All-pop, All-push, All-same, All-nil, All-weaker, AllWithin-more, AllWithin-none, AllWithin-upto, Contains-append_cases, Contains-append_left, Contains-push, at_read}
 use Rattle.blob_directory.specs.declared.edit.Binding.{Binding}
 use Rattle.blob_directory.specs.declared.edit.Kind.TheVariants.{Directory}
+use Rattle.blob_directory.specs.Counts.{link_count}
 use Rattle.blob_directory.specs.Names.{Names, entry}
 use Rattle.blob_directory.specs.Tables.{bound}
 use Rattle.blob_directory.specs.Trees.{has_directory, is_directory}
 use Rattle.blob_directory.proofs.Walks.{Closed, Kept, all_found, all_seen, added_name, finds_same, is_kind, kept_grows, not_in_none, only_one, walk_begins}
+use Rattle.blob_directory.proofs.Counts.{counts_added, named_nowhere}
 use Rattle.blob_directory.proofs.Links.{links_added, named_added}
 use Rattle.blob_directory.proofs.tree.reached.Goals.{then-branch+in_ok-push-2, else-branch}
 use Rattle.blob_directory.proofs.tree.reached.Goals as goal
@@ -26,6 +28,7 @@ loop-init c =
     record {
       links = λ e i h. absurd (unbound (sym (c.in_ok-tree.ensures.names e) ∙ h));
       named = λ i h. absurd (false≢true (sym (c.in_ok-tree.ensures.links i) ∙ h));
+      counts = λ i. named_nowhere (bound c.in_ok-tree.tree.names) c.in_ok-tree.ensures.names i (link_count c.in_ok-tree.tree i);
       walked = walk_begins names (bound c.in_ok-tree.tree.names) seen c.in_ok-tree.ensures.names dirs;
       left = All-same P next (1 ∷ []) pushed (All-push P [] 1 (All-nil P) (dirs 1));
       closed = λ d s. inl (subst (λ l. Contains l d) (sym pushed) (subst (Contains (1 ∷ [])) (eqb-true 1 d (sym (dirs d) ∙ s)) (Contains-push [] 1)));
@@ -66,6 +69,7 @@ loop-name-init c =
     record {
       links = c.loop.invariant.links;
       named = c.loop.invariant.named;
+      counts = c.loop.invariant.counts;
       walked = c.loop.invariant.walked;
       left = popped.0;
       here = popped.1;
@@ -112,6 +116,7 @@ loop-name-preserved c =
     record {
       links = links_added c.loop-name.tree c.add.new.self (entry directory c.deref.result.now) item.1 c.in_ok-add.ensures.names c.in_ok-add.ensures.links c.loop-name.invariant.links;
       named = named_added c.loop-name.tree c.add.new.self (entry directory c.deref.result.now) item.1 added.grows.names added.kept.0 c.in_ok-add.ensures.links c.loop-name.invariant.named;
+      counts = counts_added c.loop-name.tree c.add.new.self (entry directory c.deref.result.now) item.1 c.in_ok-add.ensures.names c.in_ok-add.ensures.counts c.loop-name.invariant.counts;
       walked = added.walked;
       left = elim c.if-branch.branch [
         | then-branch+in_ok-push-2 w ↦
@@ -155,6 +160,7 @@ loop-preserved c =
     record {
       links = c.loop-name.invariant.links;
       named = c.loop-name.invariant.named;
+      counts = c.loop-name.invariant.counts;
       walked = c.loop-name.invariant.walked;
       left = c.loop-name.invariant.left;
       closed = λ d s. ⊎_elim (λ x. inr (subst (Closed names found seen) (sym x) mine)) (λ y. y) (c.loop-name.invariant.closed d s);

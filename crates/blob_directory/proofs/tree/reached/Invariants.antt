@@ -1,5 +1,6 @@
 use Rattle.std.proofs.Common.{◌≡◌, ◌⊎◌, ℕ, true}
 use Rattle.std.specs.List.{All, AllWithin, Contains}
+use Rattle.blob_directory.specs.Counts.{CountsNames}
 use Rattle.blob_directory.specs.Names.{entry}
 use Rattle.blob_directory.specs.Tables.{bound}
 use Rattle.blob_directory.specs.Trees.{HasLinks, HasNamedLinks, has_directory}
@@ -11,6 +12,7 @@ abbrev pub invariant-loop : goal.invariant-loop
 invariant-loop l = record {
   links : HasLinks l.tree;
   named : HasNamedLinks l.tree;
+  counts : CountsNames l.tree;
   walked : Walked (bound l.names) (bound l.tree.names) (has_directory l.tree);
   left : All (λ d. has_directory l.tree d ≡ true) l.next.items;
   closed : (d : ℕ) → has_directory l.tree d ≡ true → Contains l.next.items d ⊎ Closed (bound l.names) (bound l.tree.names) (has_directory l.tree) d;
@@ -21,6 +23,7 @@ abbrev pub invariant-loop-name : goal.invariant-loop-name
 invariant-loop-name l = record {
   links : HasLinks l.tree;
   named : HasNamedLinks l.tree;
+  counts : CountsNames l.tree;
   walked : Walked (bound l.names) (bound l.tree.names) (has_directory l.tree);
   left : All (λ d. has_directory l.tree d ≡ true) l.next.items;
   here : has_directory l.tree l.directory ≡ true;
