@@ -8,6 +8,7 @@ use blob_faulty::laws::leaves;
 use rand_core::Rng;
 
 impl<R: Rng + Drop> Journaled<R> {
+    ghost use Rattle.blob_faulty.specs.Crashes.{CrashDraws};
     ghost use Rattle.blob_journal.specs.Blobs.{crashed_file, current_file};
     ghost use Rattle.blob_journal.specs.Currents.{Represents};
     ghost use Rattle.blob_journal.specs.Fixed.{KeepsOpen};
@@ -22,6 +23,7 @@ impl<R: Rng + Drop> Journaled<R> {
     ///
     /// `Memory`. Nothing has changed except the generator.
     pub fn crash(&mut self) -> Result<Selections, Error>
+        ensures rows { IfOk result (CrashDraws R.stream (store_of self.old) (store_of self.new)) }
         ensures kept { IfOk result (λ rows. CrashKeeps self.old rows self.new) }
         ensures files { OnOk result (Represents (store_of self.new)) }
         ensures gives { OnOk result (GivesNames self.old → GivesNames self.new) }

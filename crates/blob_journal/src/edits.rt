@@ -78,7 +78,9 @@ impl<R: Rng + Drop> Journaled<R> {
     }
 
     /// Returns the fault wrapper.
-    pub fn store(&self) -> &Store<R> {
+    pub fn store(&self) -> &Store<R>
+        ensures { result.now ≡ store_of self.now }
+    {
         &self.store
     }
 

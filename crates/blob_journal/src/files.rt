@@ -75,7 +75,9 @@ impl<R: Rng + Drop> Journaled<R> {
     }
 
     /// Returns the number of the incarnation of a file's blob, which the pending list of its writes has too.
-    pub fn number_of_file(&self, file: &FileBlob) -> u64 {
+    pub fn number_of_file(&self, file: &FileBlob) -> u64
+        ensures { result ≡ (place (inside file.now.blob)).number }
+    {
         number_of::<R>(&file.blob)
     }
 

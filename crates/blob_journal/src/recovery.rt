@@ -1,6 +1,7 @@
 //! The recovery: names from the journal, and a new journal.
 ghost use Rattle.std.specs.Prelude.{◌≡◌, IfOk, OnOk, OnErr};
 ghost use Rattle.blob_directory.specs.Checkpoints.{FitsJournal};
+ghost use Rattle.blob_directory.specs.Counts.{CountsNames};
 ghost use Rattle.blob_directory.specs.Tables.{bound};
 ghost use Rattle.blob_directory.specs.Trees.{Finds, HasLinks, HasNamedLinks};
 
@@ -43,6 +44,7 @@ impl<R: Rng + Drop> Journaled<R> {
         ensures edits { IfOk result (λ r. FindsEdits self.old keeps r.1.items) }
         ensures unsettled { KeepsUnsettled self.old self.new }
         ensures named { IfOk result (λ r. HasNamedLinks r.0) }
+        ensures counts { IfOk result (λ r. CountsNames r.0) }
         ensures same { OnOk result (SameFiles self.old self.new) }
         ensures still { KeepsOpen self.old self.new }
     {
