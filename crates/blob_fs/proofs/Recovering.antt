@@ -1,5 +1,5 @@
 -- The files that a recovery opens again, one after another.
-use Rattle.std.proofs.Common.{◌≡◌, ◌≢◌, ◌<◌, ◌⊎◌, ◌^◌, ℕ, Bool, true, false, List, [], ◌∷◌, cond, inl, inr, ⊎_elim, Option, None, Some, Vec, if◌then◌else◌, length, refl, sym, ap, ap₂, subst, ◌∙◌}
+use Rattle.std.proofs.Common.{◌≡◌, ◌≢◌, ◌<◌, ◌⊎◌, ◌^◌, ℕ, Bool, true, false, List, [], ◌∷◌, cond, inl, inr, ⊎_elim, Option, None, Some, Vec, if◌then◌else◌, refl, sym, ap, ap₂, subst, ◌∙◌}
 use Rattle.std.specs.Global.{Global}
 use Rattle.std.specs.Prelude.{is_some, option_and_then, option_map, unwrap_or}
 use Rattle.std.specs.BTreeMap.{BTreeMap, Updates, get, is_at}
@@ -16,16 +16,13 @@ use Rattle.blob_directory.specs.Names.{file}
 use Rattle.blob_directory.specs.Tables.{bound}
 use Rattle.blob_directory.specs.Trees.{HasNamedLinks, has_link}
 use Rattle.blob_journal.specs.declared.journaled.Journaled.{Journaled}
-use Rattle.blob_journal.specs.declared.store.FileBlob.{FileBlob}
-use Rattle.blob_journal.specs.Blobs.{CurrentStays, DurableIsFound, DurableStays, HasDurable, ReadsSeen, SameFile, SameFilesBut, SameTwice, bytes_of}
-use Rattle.blob_journal.specs.Fixed.{IsOpen}
+use Rattle.blob_journal.specs.Blobs.{CurrentStays, DurableIsFound, DurableStays, ReadsSeen, SameFile, SameFilesBut, SameTwice, bytes_of}
 use Rattle.blob_fs.specs.declared.truncation.Kept.{Kept}
 use Rattle.blob_fs.specs.declared.truncations.Loss.{Loss}
 use Rattle.blob_fs.specs.declared.file_system.File.{File}
 use Rattle.blob_fs.specs.declared.file_system.FileSystem.{FileSystem}
 use Rattle.blob_fs.specs.Files.{file_of, journaled_of, names_of, shown}
-use Rattle.blob_fs.specs.Bytes.{HasBytes, HasNoOrphan, HasOnlyLinked, IsLeft, KeepsBlobsOf, Reopens, ReopensAll, ReopensIn, bytes_read, left_after}
-use Rattle.blob_fs.specs.Open.{AllOpen}
+use Rattle.blob_fs.specs.Bytes.{HasBytes, HasNoOrphan, HasOnlyLinked, IsLeft, Reopens, ReopensAll, ReopensIn, bytes_read, left_after}
 
 -- Keys of a map.
 
@@ -35,7 +32,7 @@ key_is i k y = exact_unsigned i k ((Equal-is (nat_cmp i k)).0 y)
 pub key_self : (k : ℕ) → is_eq (nat_cmp k k) ≡ true
 key_self k = ap is_eq (sym (nat_cmp_is k k Equal refl))
 
-key_apart : (i k : ℕ) → is_eq (nat_cmp i k) ≡ false → is_eq (nat_cmp k i) ≡ false
+pub key_apart : (i k : ℕ) → is_eq (nat_cmp i k) ≡ false → is_eq (nat_cmp k i) ≡ false
 key_apart i k n = ⊎_elim
     (λ y. absurd (let e : k ≡ i = key_is k i y in false≢true (sym n ∙ sym (ap₂ (λ a b. is_eq (nat_cmp a b)) e (sym e)) ∙ y)))
     (λ m. m)
@@ -44,7 +41,7 @@ key_apart i k n = ⊎_elim
 apart_keys : (i k : ℕ) → is_eq (nat_cmp i k) ≡ false → i ≢ k
 apart_keys i k n e = false≢true (sym n ∙ ap (λ a. is_eq (nat_cmp a k)) e ∙ key_self k)
 
-none_after : (k : ℕ) (rest : List (ℕ × ℕ)) → AllByRecursion (λ y. nat_cmp k y ≡ Less) (keys_of rest) → lookup (is_at (nat_cmp k)) rest ≡ None
+pub none_after : (k : ℕ) (rest : List (ℕ × ℕ)) → AllByRecursion (λ y. nat_cmp k y ≡ Less) (keys_of rest) → lookup (is_at (nat_cmp k)) rest ≡ None
 none_after k [] a = refl
 none_after k (e ∷ rest) a = cond-false (is_eq (nat_cmp k e.0)) (Some e.1) (lookup (is_at (nat_cmp k)) rest) (ap is_eq a.0) ∙ none_after k rest a.1
 
@@ -192,20 +189,3 @@ left_stays stays a b inode file found bytes same left = record {
   there = left.there;
   shown = left.shown;
 }
-
--- a file of which calls see the durable bytes is open
-durable_open : {R : Type 0} (j : Journaled R) (inode : ℕ) (blob : FileBlob) (bytes : List ℕ) → HasDurable j inode blob bytes → IsOpen j inode blob
-durable_open j inode blob bytes has = record { durable = bytes; is = has.is; tracked = has.seen.size ∙ ap (λ (l : List ℕ). length l) (sym has.seen.live) }
-
-some_same : {A : Type 0} {x y : A} → Some x ≡ Some y → x ≡ y
-some_same e = cc
-
--- so is each one of a map that was opened again, while its blob is the same
-pub all_open : {R : Type 0} → DurableStays R → (j a b : Journaled R) (old : BTreeMap ℕ File) (tree : Tree) (kept : Kept) (loss : Loss) (files : BTreeMap ℕ File)
-    → ReopensAll j old tree kept loss a files → HasOnlyLinked tree files → KeepsBlobsOf files a b → AllOpen b files
-all_open stays j a b old tree kept loss files all only same inode file below at =
-    let d = all inode below (only inode (ap is_some at)) in
-    let l = d.left in
-    let bytes = left_after kept loss inode (get nat_cmp old inode) d.bytes in
-    let has : HasDurable b inode l.file.blob bytes = stays a b inode l.file.blob bytes (same inode file below at) l.left.has in
-    subst (λ (f : File). IsOpen b inode f.blob) (some_same (sym l.at ∙ at)) (durable_open b inode l.file.blob bytes has)

@@ -40,16 +40,16 @@ cut_bytes cuts synced seen found = if cuts then take (kept_length synced seen fo
 abbrev pub file_in : {R : Type 0} → FileSystem R → ℕ → Option File
 file_in fs inode = get nat_cmp fs.files inode
 
--- what the store's crash leaves of a file by the rows that were kept: what was pending, replayed over its durable bytes
+-- the bytes of a file after the store's crash, by the rows that were kept: what was pending, replayed over its durable bytes
 abbrev pub crashed_file : {R : Type 0} → FileSystem R → Selections → ℕ → Option (List ℕ)
 crashed_file fs kept inode = crashed_in (journaled_of fs) kept inode
 
--- what the kept truncations of the file of before make of that
+-- those bytes after the kept truncations of the file
 abbrev pub found_of : Kept → List ℕ → ℕ → Option File → List ℕ → List ℕ
 found_of kept lost inode None left = left
 found_of kept lost inode (Some old) left = truncated kept lost inode old.truncations.items left
 
--- and what the profile leaves of what was found, by the file's blob and the size from which the cut counts
+-- and of what was found, what remains after the profile's cut, by the file's blob and the size from which the cut counts
 abbrev pub left_of : Bool → List ℕ → Option File → List ℕ → List ℕ
 left_of cuts lost None found = found
 left_of cuts lost (Some old) found = cut_bytes cuts (cut_start lost old.synced old.truncations.items) (bytes_of old.blob) found
@@ -72,11 +72,11 @@ pub record HasBytes {R : Type 0} (fs : FileSystem R) (inode : ℕ) (found bytes 
   pub synced : synced_size fs inode ≡ length bytes
   pub size : found_size fs inode ≡ length found
 
--- if something was left of a file, that is found of it
+-- if the crash left the file's blob, these are its bytes
 abbrev pub IsFound : Option (List ℕ) → List ℕ → Type 0
 IsFound left found = (bytes : List ℕ) → left ≡ Some bytes → bytes ≡ found
 
--- The file has what was left of its blob, if it had one, with the kept truncations, cut as the profile says. A file that was there
+-- The file has its blob's bytes, if it had a blob, with the kept truncations, cut as the profile says. A file that was there
 -- had one.
 pub record FindsFile {R : Type 0} (fs : FileSystem R) (kept : Kept) (lost : List ℕ) (left : Option (List ℕ)) (inode : ℕ) (fs' : FileSystem R) : Type 0 where
   pub bytes : List ℕ

@@ -17,6 +17,7 @@ use Rattle.blob_directory.specs.Names.{Edit, Names, Same, edited, resizes}
 use Rattle.blob_directory.specs.Sectors.{Found}
 use Rattle.blob_directory.specs.Tables.{bound}
 use Rattle.blob_directory.specs.Trees.{Finds}
+use Rattle.blob_fs.specs.Named.{links_in}
 use Rattle.blob_fs.specs.Open.{with_open}
 use Rattle.blob_journal.specs.declared.journaled.Journaled.{Journaled}
 use Rattle.blob_journal.specs.Currents.{Represents}
@@ -49,7 +50,7 @@ generator_of fs = generator_in fs.store
 
 -- with another generator; all else stays
 abbrev pub with_generator : {R : Type 0} → FileSystem R → R → FileSystem R
-with_generator fs rng = record fs { store = with_generator_in fs.store rng; opened = with_open fs.store rng fs.files fs.opened }
+with_generator fs rng = record fs { store = with_generator_in fs.store rng; opened = with_open fs.store rng fs.files fs.opened; named = fs.named }
 
 -- nothing has happened to the names
 abbrev pub KeepsNames : {R : Type 0} → FileSystem R → FileSystem R → Type 0
@@ -195,6 +196,10 @@ shown file = if file.is_gone then None else Some file
 
 abbrev pub file_of : {R : Type 0} → FileSystem R → ℕ → Option File
 file_of fs inode = option_and_then shown (get nat_cmp fs.files inode)
+
+-- each file has the same links
+abbrev pub SameLinks : {R : Type 0} → FileSystem R → FileSystem R → Type 0
+SameLinks fs fs' = (inode : ℕ) → links_in (get nat_cmp fs'.files inode) ≡ links_in (get nat_cmp fs.files inode)
 
 -- its size at its last sync or crash, 0 if there is none
 abbrev pub synced_size : {R : Type 0} → FileSystem R → ℕ → ℕ

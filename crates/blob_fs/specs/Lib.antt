@@ -3,6 +3,7 @@ pub mod Files
 pub mod Truncations
 pub mod Bytes
 pub mod Open
+pub mod Named
 pub mod Synced
 pub mod Fixed
 pub mod Unreached

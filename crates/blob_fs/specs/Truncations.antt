@@ -59,7 +59,7 @@ pub record Marks (before after : List Bool) (test : ℕ → Bool) : Type 0 where
   pub size : length after ≡ length before
   pub each : (at : ℕ) → at < length before → slice_index_or after at false ≡ (slice_index_or before at false || test at)
 
--- so many marks, at the positions that the test passes
+-- this many marks, set at the positions that the test accepts
 pub record AreMarks (count : ℕ) (marks : List Bool) (test : ℕ → Bool) : Type 0 where
   pub size : length marks ≡ count
   pub each : (at : ℕ) → at < count → slice_index_or marks at false ≡ test at

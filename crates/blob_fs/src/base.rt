@@ -1,9 +1,10 @@
 //! What the calls share: their start, and an edit.
 ghost use Rattle.std.specs.Prelude.{◌≡◌, [], None, Some, OnOk, OnErr, IfOk, option_copied};
-ghost use Rattle.blob_fs.specs.Files.{AddsTold, KeepsJournal, KeepsNames, KeepsTold, MakesEdit, SameFiles, SameNames, file_of, journaled_of, names_of, told_of};
+ghost use Rattle.blob_fs.specs.Files.{AddsTold, KeepsJournal, KeepsNames, KeepsTold, MakesEdit, SameFiles, SameNames, file_of, fresh_inode, journaled_of, names_of, told_of};
 ghost use Rattle.blob_fs.specs.Fixed.{KeepsFixed};
+ghost use Rattle.blob_fs.specs.Named.{AllNamed};
 ghost use Rattle.blob_journal.specs.Writes.{SameCrashes};
-ghost use Rattle.blob_directory.specs.Names.{Same, edit_of, entry};
+ghost use Rattle.blob_directory.specs.Names.{Same, edit_of, edited, entry};
 
 use crate::error::FsError;
 use crate::file_system::{File, FileSystem, Options, ROOT, Store};
@@ -84,6 +85,7 @@ impl<R: Rng + Drop> FileSystem<R> {
         ensures journal { OnOk result (KeepsJournal self.old self.new) }
         ensures crashes { OnOk result (SameCrashes (journaled_of self.old) (journaled_of self.new)) }
         ensures files { SameFiles self.old self.new }
+        ensures number { fresh_inode self.new ≡ fresh_inode self.old }
         ensures fixed { KeepsFixed self.old self.new }
     {
         if self.is_down {
@@ -118,16 +120,18 @@ impl<R: Rng + Drop> FileSystem<R> {
         Ok(entry_of(self.alloc, directory, name)?)
     }
 
-    /// Makes an edit: it is in the journal, unsynced, and the names are changed.
+    /// Makes an edit: it is in the journal, unsynced, and the names are changed. No file may have more names than links then.
     ///
     /// # Errors
     ///
     /// Those of the journal. No name has changed.
     pub(crate) fn make(&mut self, edit: Edit, about: About) -> Result<(), FsError>
+        requires fits { ∥ AllNamed (edited (names_of self.old) (edit_of edit)) self.old.files ∥₁ }
         ensures made { OnOk result (MakesEdit (edit_of edit) self.old self.new) }
         ensures refused { OnErr result (SameNames self.old self.new) }
         ensures told { OnOk result (AddsTold (edit_of edit) self.old self.new) }
         ensures untold { OnErr result (KeepsTold self.old self.new) }
+        ensures files { SameFiles self.old self.new }
         ensures fixed { KeepsFixed self.old self.new }
     {
         self.gone.reserve(1)?;

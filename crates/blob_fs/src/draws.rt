@@ -88,7 +88,7 @@ impl<R: Rng + Drop> FileSystem<R> {
     }
 
     /// Draws whether a write fails, if the file has a truncation that no sync made durable: then a failed write leaves nothing,
-    /// since its bytes couldn't be told from those that the truncation cut. Returns how the write is to be made.
+    /// since its bytes couldn't be told from those that the truncation cut. Returns how to make the write.
     ///
     /// # Errors
     ///

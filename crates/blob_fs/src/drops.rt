@@ -1,7 +1,8 @@
 //! A sync that fails and drops what was unsynced: what reads return after it.
 ghost use Rattle.std.specs.Prelude.{◌≡◌};
-ghost use Rattle.blob_fs.specs.Files.{KeepsNames, KeepsTold, SameOpens, journaled_of};
+ghost use Rattle.blob_fs.specs.Files.{KeepsNames, KeepsTold, SameLinks, SameOpens, journaled_of};
 ghost use Rattle.blob_fs.specs.Fixed.{KeepsFixed, KeepsSeen};
+ghost use Rattle.blob_fs.specs.Named.{links_of};
 ghost use Rattle.blob_fs.specs.Open.{SameContent};
 ghost use Rattle.blob_journal.specs.Fixed.{KeepsOpen};
 ghost use Rattle.blob_journal.specs.Keeping.{KeepsTable, KeepsTold as keeps_told};
@@ -56,7 +57,8 @@ impl File {
 
     /// Reserves capacity for what a call shows up to a position.
     pub(crate) fn reserve_shown(&mut self, end: u64) -> Result<(), AllocError>
-        ensures { SameContent self.old self.new }
+        ensures content { SameContent self.old self.new }
+        ensures links { links_of self.new ≡ links_of self.old }
     {
         if let Some(shown) = &mut self.shown {
             let more = end.saturating_sub(shown.len() as u64);
@@ -67,7 +69,8 @@ impl File {
 
     /// Shows a write that returned Ok. There is capacity for it.
     pub(crate) fn show_write(&mut self, offset: u64, bytes: &[u8])
-        ensures { SameContent self.old self.new }
+        ensures content { SameContent self.old self.new }
+        ensures links { links_of self.new ≡ links_of self.old }
     {
         let Some(shown) = &mut self.shown else {
             return;
@@ -87,7 +90,8 @@ impl File {
 
     /// Shows a truncation that returned Ok. There is capacity for it.
     pub(crate) fn show_size(&mut self, length: u64)
-        ensures { SameContent self.old self.new }
+        ensures content { SameContent self.old self.new }
+        ensures links { links_of self.new ≡ links_of self.old }
     {
         if let Some(shown) = &mut self.shown {
             let _ = shown.resize(length as usize, 0);
@@ -121,6 +125,7 @@ impl<R: Rng + Drop> FileSystem<R> {
     /// Lets reads return the blob's bytes again.
     pub(crate) fn show_blob(&mut self, inode: u64)
         ensures opens { SameOpens self.old self.new }
+        ensures links { SameLinks self.old self.new }
         ensures store { journaled_of self.new ≡ journaled_of self.old }
         ensures names { KeepsNames self.old self.new }
         ensures told { KeepsTold self.old self.new }

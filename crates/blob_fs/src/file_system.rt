@@ -1,5 +1,7 @@
 //! A file system over the fault wrapper.
+ghost use Rattle.blob_fs.specs.Named.{AllNamed};
 ghost use Rattle.blob_fs.specs.Open.{AllOpen};
+ghost use Rattle.blob_journal.specs.Keeping.{names_in};
 
 use crate::switches::{FailedSync, FailedWrite, Syncs};
 use crate::truncation::{Kept, Truncation};
@@ -84,4 +86,6 @@ pub struct FileSystem<R> {
     pub(crate) kept: Option<Kept>,
     // the blob of each file is the current one of its number
     ghost opened: { ∥ AllOpen store files ∥₁ },
+    // no file has more names than links, so each one that a name is bound to exists
+    ghost named: { ∥ AllNamed (names_in store) files ∥₁ },
 }

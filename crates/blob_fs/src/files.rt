@@ -1,19 +1,18 @@
 //! Open files: their bytes and sizes.
-ghost use Rattle.std.specs.Prelude.{◌≡◌, [], ◌<◌, false, length, IfOk, None, Some, OnOk};
+ghost use Rattle.std.specs.Prelude.{◌≡◌, [], false, length, IfOk, None, Some, OnOk};
 ghost use Rattle.blob_fs.specs.declared.switches.FailedWrite.TheVariants.{ByMode};
 ghost use Rattle.blob_fs.specs.Writes.{RecordsWrite, failed_write_of};
 ghost use Rattle.blob_fs.specs.Fixed.{KeepsFixed, KeepsFixedBut, KeepsSpared};
-ghost use Rattle.blob_fs.specs.Noted.{HasSize, NotesTruncation, size_read};
+ghost use Rattle.blob_fs.specs.Noted.{HasSize, size_read};
+ghost use Rattle.blob_fs.specs.Named.{links_of};
 ghost use Rattle.blob_fs.specs.Open.{SameContent};
 ghost use Rattle.blob_journal.specs.Fixed.{IsBeside};
-ghost use Rattle.blob_fs.specs.Files.{KeepsNames, KeepsTold, MayResize, MayTruncate, SameFiles, SameOpens, fresh_inode, inode_opened, journaled_of};
+ghost use Rattle.blob_fs.specs.Files.{KeepsNames, KeepsTold, MayResize, SameFiles, SameLinks, SameOpens, fresh_inode, inode_opened, journaled_of};
 
 use crate::error::FsError;
 use crate::file_system::{Descriptor, File, FileSystem};
 use crate::switches::Syncs;
-use crate::truncation::Truncation;
 use crate::writes::write_blob;
-use blob_base::Error;
 use blob_directory::edit::Kind;
 use blob_faulty::Config;
 use blob_journal::FileBlob;
@@ -26,6 +25,7 @@ impl File {
         ensures blob { result.blob ≡ blob }
         ensures truncations { result.truncations.items ≡ [] }
         ensures there { result.is_gone ≡ false }
+        ensures links { result.links ≡ 1 }
         ensures shown { result.shown ≡ None }
     {
         File {
@@ -45,7 +45,8 @@ impl File {
 
     /// Shows a write if it returned Ok. If the size has grown, it did so before this edit. Returns the size. There is capacity for it.
     fn end_write(&mut self, is_ok: bool, offset: u64, bytes: &[u8], before: u64, edit: u64) -> u64
-        ensures { SameContent self.old self.new }
+        ensures content { SameContent self.old self.new }
+        ensures links { links_of self.new ≡ links_of self.old }
     {
         if is_ok {
             self.show_write(offset, bytes);
@@ -55,16 +56,6 @@ impl File {
             self.grown = edit;
         }
         now
-    }
-
-    /// Shows a truncation, by the number of its edit. Returns the size. There is capacity for it.
-    fn end_truncate(&mut self, length: u64, edit: u64) -> u64
-        ensures { SameContent self.old self.new }
-    {
-        self.is_changed = true;
-        self.grown = edit;
-        self.show_size(length);
-        self.size()
     }
 
     /// Returns the size that calls see.
@@ -86,6 +77,7 @@ impl<R: Rng + Drop> FileSystem<R> {
     /// `IsDirectory`, `NotFound`, `NoSpace` if no number of a descriptor is left, `Memory`.
     pub fn open_inode(&mut self, inode: u64) -> Result<Descriptor, FsError>
         ensures opened { IfOk result (λ file. inode_opened self.new file ≡ Some inode) }
+        ensures links { SameLinks self.old self.new }
         ensures names { KeepsNames self.old self.new }
         ensures told { KeepsTold self.old self.new }
         ensures fixed { KeepsFixed self.old self.new }
@@ -110,6 +102,7 @@ impl<R: Rng + Drop> FileSystem<R> {
     /// Counts one more descriptor of a file.
     fn add_open(&mut self, inode: u64)
         ensures opens { SameOpens self.old self.new }
+        ensures links { SameLinks self.old self.new }
         ensures names { KeepsNames self.old self.new }
         ensures told { KeepsTold self.old self.new }
         ensures fixed { KeepsFixed self.old self.new }
@@ -283,7 +276,7 @@ impl<R: Rng + Drop> FileSystem<R> {
     }
 
     /// Refuses a file that would be too long.
-    fn check_room(&self, size: u64, end: u64) -> Result<(), FsError> {
+    pub(crate) fn check_room(&self, size: u64, end: u64) -> Result<(), FsError> {
         let more = end.saturating_sub(size);
         if more > 0 && self.used.saturating_add(more) > self.options.max_bytes {
             return Err(FsError::NoSpace);
@@ -341,74 +334,6 @@ impl<R: Rng + Drop> FileSystem<R> {
             Ok(()) => Ok(()),
             Err(error) => Err(error.into()),
         }
-    }
-
-    /// Truncates a file to a length, or extends it by zeros, unsynced. This is an edit: a crash keeps or loses it whole, by the rate
-    /// and in the order of edits, and a sync of the file settles it. If the file has this length already, nothing changes.
-    ///
-    /// # Errors
-    ///
-    /// `Stale`; `NoSpace` beyond the limit of bytes; those of the journal; `Memory`. The bytes are unchanged. After `Memory` the edit
-    /// may be recorded, without an effect on bytes or names. `Injected` by the failure rate of the layer's resizes: the bytes are
-    /// unchanged or, by the partial rate, the file is truncated to a length above the requested one.
-    pub fn truncate(&mut self, file: Descriptor, length: u64) -> Result<(), FsError>
-        ensures names { KeepsNames self.old self.new }
-        ensures told { MayTruncate file self.old self.new }
-        ensures noted { OnOk result (NotesTruncation file length self.old self.new) }
-        ensures fixed { KeepsSpared file (λ at. at < length) self.old self.new }
-    {
-        self.begin_call()?;
-        let inode = self.inode_of(file)?;
-        let size = self.size(file)?;
-        self.check_room(size, length)?;
-        let (reached, is_failed) = self.draw_truncation(inode, size, length)?;
-        if length == size && !is_failed {
-            return Ok(());
-        }
-        let rate = self.options.edit_rate;
-        let Some(found) = self.files.get_mut(&inode) else {
-            return Err(FsError::Stale);
-        };
-        found.reserve_shown(reached)?;
-        found.truncations.reserve(1)?;
-        let edit = self.store.record_truncation(inode, rate)?;
-        let next_write = self.store.next_write();
-        self.store.set_config(Config::default());
-        self.store.resize_file(&mut found.blob, reached)?;
-        found.truncations.push_reserved(Truncation {
-            edit,
-            length: reached,
-            next_write,
-        });
-        let now = found.end_truncate(reached, edit);
-        self.count(size, now);
-        if is_failed {
-            return Err(Error::Injected.into());
-        }
-        Ok(())
-    }
-
-    /// Notes that an open truncated a file.
-    fn set_truncated(&mut self, inode: u64)
-        ensures names { KeepsNames self.old self.new }
-        ensures told { KeepsTold self.old self.new }
-        ensures fixed { KeepsFixed self.old self.new }
-    {
-        if let Some(found) = self.files.get_mut(&inode) {
-            found.is_truncated = true;
-        }
-    }
-
-    /// Truncates a file that an open made empty.
-    pub(crate) fn clear(&mut self, file: Descriptor) -> Result<(), FsError>
-        ensures names { KeepsNames self.old self.new }
-        ensures told { MayTruncate file self.old self.new }
-        ensures fixed { KeepsSpared file (λ at. at < 0) self.old self.new }
-    {
-        self.truncate(file, 0)?;
-        let inode = self.inode_of(file)?;
-        self.set_truncated(inode);
-        Ok(())
     }
 
     /// Returns what an open file's inode is: always a file.

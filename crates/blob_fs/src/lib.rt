@@ -20,6 +20,7 @@ pub mod renames;
 pub mod run;
 pub mod switches;
 pub mod syncs;
+mod truncate;
 mod truncation;
 mod truncations;
 mod unlinked;

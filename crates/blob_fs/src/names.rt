@@ -1,8 +1,11 @@
 //! Names by directory: files are created, linked and unlinked, directories are made, removed and listed.
-ghost use Rattle.std.specs.Prelude.{◌≡◌, ◌∷◌, [], None, Some, OnOk, OnErr, IfOk};
-ghost use Rattle.blob_fs.specs.Files.{AddsTold, KeepsNames, KeepsTold, MakesEdit, SameNames, fresh_inode, journaled_of, names_of};
+ghost use Rattle.std.specs.Prelude.{◌≡◌, ◌∷◌, [], None, Some, OnOk, OnErr, IfOk, IsSome, pred};
+ghost use Rattle.blob_fs.specs.Files.{AddsTold, KeepsNames, KeepsTold, MakesEdit, SameNames, file_of, fresh_inode, journaled_of, names_of};
+ghost use Rattle.blob_fs.specs.Bytes.{file_in};
 ghost use Rattle.blob_fs.specs.Fixed.{KeepsFixed, KeepsFixedBut};
+ghost use Rattle.blob_fs.specs.Named.{links_in};
 ghost use Rattle.blob_journal.specs.Fixed.{IsOpen};
+ghost use Rattle.blob_directory.specs.Counts.{NamedAtMost};
 ghost use Rattle.blob_directory.specs.Names.{binds, directory_at, entry, file, frees};
 ghost use Rattle.blob_directory.specs.Tables.{HasAll, HasOnly};
 
@@ -36,9 +39,14 @@ impl<R: Rng + Drop> FileSystem<R> {
 
     /// Returns the next number of an inode, and the one after it.
     fn fresh_inode(&self) -> Result<(u64, u64), FsError>
-        ensures { IfOk result (λ r. r.0 ≡ fresh_inode self.now) }
+        ensures number { IfOk result (λ r. r.0 ≡ fresh_inode self.now) }
+        ensures new { OnOk result (file_in self.now (fresh_inode self.now) ≡ None) }
     {
         let inode = self.next_inode;
+        // doesn't happen, but isn't proved: then a file would be lost
+        if self.files.contains_key(&inode) {
+            return Err(FsError::NoSpace);
+        }
         let next = inode.checked_add(1).ok_or(FsError::NoSpace)?;
         let count = self.files.len().saturating_sub(self.gone.len()) as u64;
         let count = count.saturating_add(self.directories.len() as u64);
@@ -83,6 +91,8 @@ impl<R: Rng + Drop> FileSystem<R> {
     /// Adds a new file. The only error is out of memory.
     fn add_file(&mut self, inode: u64, blob: FileBlob) -> Result<(), FsError>
         requires opened { IsOpen (journaled_of self.old) inode blob }
+        requires unnamed { ∥ NamedAtMost (names_of self.old) inode 0 ∥₁ }
+        ensures links { OnOk result (links_in (file_in self.new inode) ≡ 1) }
         ensures names { KeepsNames self.old self.new }
         ensures told { KeepsTold self.old self.new }
         ensures fixed { KeepsFixedBut inode self.old self.new }
@@ -94,6 +104,8 @@ impl<R: Rng + Drop> FileSystem<R> {
     /// Adds a new file and opens it.
     fn open_new(&mut self, inode: u64, blob: FileBlob) -> Result<Descriptor, FsError>
         requires opened { IsOpen (journaled_of self.old) inode blob }
+        requires unnamed { ∥ NamedAtMost (names_of self.old) inode 0 ∥₁ }
+        ensures links { OnOk result (links_in (file_in self.new inode) ≡ 1) }
         ensures names { KeepsNames self.old self.new }
         ensures told { KeepsTold self.old self.new }
         ensures fixed { KeepsFixedBut inode self.old self.new }
@@ -167,12 +179,18 @@ impl<R: Rng + Drop> FileSystem<R> {
         self.check_free(&entry)?;
         let kind = Kind::File;
         let edit = Edit::one(entry, Some(Binding { inode, kind }));
-        self.make(edit, about(inode, directory))?;
         self.set_links(inode, links + 1);
+        if let Err(error) = self.make(edit, about(inode, directory)) {
+            self.set_links(inode, links);
+            return Err(error);
+        }
         Ok(())
     }
 
-    pub(crate) fn set_links(&mut self, inode: u64, links: u32)
+    /// Sets the count of a file's names.
+    fn set_links(&mut self, inode: u64, links: u32)
+        requires fits { ∥ NamedAtMost (names_of self.old) inode links ∥₁ }
+        ensures set { IsSome (file_of self.old inode) → links_in (file_in self.new inode) ≡ links }
         ensures names { KeepsNames self.old self.new }
         ensures told { KeepsTold self.old self.new }
         ensures fixed { KeepsFixed self.old self.new }
@@ -182,8 +200,9 @@ impl<R: Rng + Drop> FileSystem<R> {
         }
     }
 
-    /// Takes one name off a file's count.
+    /// Counts one name of a file less. The name is removed already.
     fn drop_name(&mut self, inode: u64)
+        requires fewer { ∥ NamedAtMost (names_of self.old) inode (pred (links_in (file_in self.old inode))) ∥₁ }
         ensures names { KeepsNames self.old self.new }
         ensures told { KeepsTold self.old self.new }
         ensures fixed { KeepsFixed self.old self.new }
@@ -196,6 +215,7 @@ impl<R: Rng + Drop> FileSystem<R> {
     /// Takes one name off a file's count, and lets it go if that was the last one. An edit was made just before, so `gone` has
     /// capacity.
     pub(crate) fn drop_link(&mut self, inode: u64)
+        requires fewer { ∥ NamedAtMost (names_of self.old) inode (pred (links_in (file_in self.old inode))) ∥₁ }
         ensures names { KeepsNames self.old self.new }
         ensures told { KeepsTold self.old self.new }
         ensures fixed { KeepsFixed self.old self.new }
@@ -219,12 +239,14 @@ impl<R: Rng + Drop> FileSystem<R> {
         self.begin_call()?;
         let entry = self.entry_in(directory, name)?;
         let was = self.binding_of(&entry)?;
-        if was.kind == Kind::Directory {
-            return Err(FsError::IsDirectory);
+        match was.kind {
+            Kind::Directory => Err(FsError::IsDirectory),
+            Kind::File => {
+                self.make(Edit::one(entry, None), about(was.inode, directory))?;
+                self.drop_link(was.inode);
+                Ok(())
+            }
         }
-        self.make(Edit::one(entry, None), about(was.inode, directory))?;
-        self.drop_link(was.inode);
-        Ok(())
     }
 
     /// Removes an empty directory.

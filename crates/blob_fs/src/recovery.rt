@@ -2,11 +2,14 @@
 ghost use Rattle.std.specs.Prelude.{◌≡◌, Some, IfOk, OnOk, OnErr, length, min};
 ghost use Rattle.std.specs.BTreeMap.{Updates, get};
 ghost use Rattle.std.specs.Ordering.{nat_cmp};
+ghost use Rattle.blob_directory.specs.Checkpoints.{FitsJournal};
+ghost use Rattle.blob_directory.specs.Tables.{bound};
 ghost use Rattle.blob_fs.specs.Bytes.{ChangesOnly, CutsFile, CutsFrom, CutsTo, HasNoOrphan, HasOnlyLinked, KeepsBlobsOf, OpensLeft, RecoversBytes, Reopens, ReopensAll, Rewrites, Truncates, kept_length as length_kept};
 ghost use Rattle.blob_fs.specs.Truncations.{lost_of};
 ghost use Rattle.blob_fs.specs.Fixed.{AllFixed, AreWhole, FixesFound, IsWhole};
 ghost use Rattle.blob_fs.specs.Open.{AllOpen, MayChange};
-ghost use Rattle.blob_fs.specs.Files.{FindsAgain, FindsNames, FindsTold, GivesNames, GivesTold, KeepsNames, KeepsTold, RepresentsFiles, fresh_inode, journaled_of, keeps_of};
+ghost use Rattle.blob_fs.specs.Named.{AllNamed, CountsLinks};
+ghost use Rattle.blob_fs.specs.Files.{FindsAgain, FindsNames, FindsTold, GivesNames, GivesTold, KeepsNames, KeepsTold, RepresentsFiles, fresh_inode, journaled_of, keeps_of, table_of};
 ghost use Rattle.blob_journal.specs.Blobs.{ChangesFile, SameFilesBut};
 ghost use Rattle.blob_journal.specs.Currents.{KeepsFiles};
 ghost use Rattle.blob_journal.specs.Fixed.{KeepsHandles, KeepsOpenBut};
@@ -239,6 +242,7 @@ fn reopen<R: Rng + Drop>(
     ensures handles { KeepsHandles store.old store.new }
     ensures still { OnOk result (KeepsOpenBut inode store.old store.new) }
     ensures whole { IfOk result (IsWhole store.new) }
+    ensures links { IfOk result (λ file. file.links ≡ links) }
 {
     let (blob, found) = open_left(store, inode, old, kept, loss)?;
     let synced = blob.size();
@@ -273,6 +277,7 @@ fn reopen_all<R: Rng + Drop>(
     ensures opened { IfOk result (AllOpen store.new) }
     ensures handles { KeepsHandles store.old store.new }
     ensures whole { IfOk result (AreWhole store.new) }
+    ensures counted { IfOk result (CountsLinks tree.now) }
 {
     blobs::<R>();
     let mut files = BTreeMap::new(loss.alloc);
@@ -341,28 +346,34 @@ impl<R: Rng + Drop> FileSystem<R> {
             cuts: self.options.profile.cuts,
         };
         let files = reopen_all(&mut self.store, &self.files, &tree, kept, &loss)?;
-        let directories = self.store.renew(tree)?;
-        self.begin_life(directories, files);
+        self.begin_life(tree, files)?;
         Ok(edits)
     }
 
-    /// Takes the new directories and files, whose blobs are open. Removes the blobs of files that no name reaches.
-    fn begin_life(&mut self, directories: BTreeMap<u64, u64>, files: BTreeMap<u64, File>)
+    /// Takes the names and directories of a tree, and these files, whose blobs are open. A new journal settles the names.
+    /// Removes the blobs of files that no name reaches. An error changes no name and no file.
+    fn begin_life(&mut self, tree: Tree, files: BTreeMap<u64, File>) -> Result<(), FsError>
         requires opened { AllOpen (journaled_of self.old) files }
-        ensures names { KeepsNames self.old self.new }
-        ensures told { KeepsTold self.old self.new }
-        ensures gives { GivesNames self.old → GivesNames self.new }
-        ensures settled { GivesTold self.old → GivesTold self.new }
-        ensures files { self.new.files ≡ files }
-        ensures kept { KeepsBlobsOf files (journaled_of self.old) (journaled_of self.new) }
-        ensures whole { AreWhole (journaled_of self.old) files → AreWhole (journaled_of self.new) files }
-        ensures numbers { fresh_inode self.new ≡ fresh_inode self.old }
+        requires named { AllNamed (bound tree.names) files }
+        ensures names { OnOk result (table_of self.new ≡ tree.names) }
+        ensures gives { OnOk result (FitsJournal tree → RepresentsFiles self.old → GivesNames self.new) }
+        ensures told { OnOk result (FitsJournal tree → GivesTold self.new) }
+        ensures refused { OnErr result (KeepsNames self.old self.new) }
+        ensures untold { OnErr result (KeepsTold self.old self.new) }
+        ensures files { OnOk result (self.new.files ≡ files) }
+        ensures kept { OnOk result (KeepsBlobsOf files (journaled_of self.old) (journaled_of self.new)) }
+        ensures opened { OnOk result (AllOpen (journaled_of self.new) files) }
+        ensures whole { OnOk result (AreWhole (journaled_of self.old) files → AreWhole (journaled_of self.new) files) }
+        ensures numbers { OnOk result (fresh_inode self.new ≡ fresh_inode self.old) }
     {
+        blobs::<R>();
+        let directories = self.store.renew(tree)?;
         remove_unnamed(&mut self.store, &self.files, &files);
         self.used = used_by(&files);
         self.directories = directories;
         self.files = files;
         self.opens.clear();
         self.gone.clear();
+        Ok(())
     }
 }

@@ -1,7 +1,7 @@
 //! Renames, in one step.
 ghost use Rattle.std.specs.Prelude.{◌≡◌, ◌≢◌, MatchBool, None, OnOk, OnErr, Some};
 ghost use Rattle.blob_fs.specs.Calls.{Leaves, Renames, RenamesAt};
-ghost use Rattle.blob_fs.specs.Files.{AddsTold, GrowsTold, KeepsNames, KeepsTold, MakesEdit, SameNames, names_of};
+ghost use Rattle.blob_fs.specs.Files.{AddsTold, GrowsTold, KeepsNames, KeepsTold, MakesEdit, SameFiles, SameNames, names_of};
 ghost use Rattle.blob_fs.specs.Fixed.{KeepsFixed};
 ghost use Rattle.blob_directory.specs.Names.{exchanges, moves};
 
@@ -155,6 +155,7 @@ impl<R: Rng + Drop> FileSystem<R> {
 
     /// Records that a directory is in another one now.
     fn place(&mut self, binding: Binding, directory: u64)
+        ensures files { SameFiles self.old self.new }
         ensures names { KeepsNames self.old self.new }
         ensures told { KeepsTold self.old self.new }
         ensures fixed { KeepsFixed self.old self.new }
@@ -170,10 +171,12 @@ impl<R: Rng + Drop> FileSystem<R> {
         to: (Vec<u8>, u64),
         moved: Binding,
     ) -> Result<(), FsError>
+        requires bound { names_of self.old from.0.items ≡ Some moved }
         ensures made { OnOk result (MakesEdit (moves from.0.items to.0.items moved) self.old self.new) }
         ensures refused { OnErr result (SameNames self.old self.new) }
         ensures told { OnOk result (AddsTold (moves from.0.items to.0.items moved) self.old self.new) }
         ensures untold { OnErr result (KeepsTold self.old self.new) }
+        ensures files { SameFiles self.old self.new }
         ensures fixed { KeepsFixed self.old self.new }
     {
         let about = About {
@@ -194,6 +197,9 @@ impl<R: Rng + Drop> FileSystem<R> {
         moved: Binding,
         was: Binding,
     ) -> Result<(), FsError>
+        requires bound { names_of self.old from.0.items ≡ Some moved }
+        requires taken { names_of self.old to.0.items ≡ Some was }
+        requires differ { was ≢ moved }
         ensures made { OnOk result (MakesEdit (moves from.0.items to.0.items moved) self.old self.new) }
         ensures refused { OnErr result (SameNames self.old self.new) }
         ensures told { OnOk result (AddsTold (moves from.0.items to.0.items moved) self.old self.new) }
@@ -203,8 +209,12 @@ impl<R: Rng + Drop> FileSystem<R> {
         self.check_replaces(was, moved)?;
         self.flush_by_profile(moved.inode)?;
         self.move_name(from, to, moved)?;
-        self.drop_link(was.inode);
-        self.directories.remove(&was.inode);
+        match was.kind {
+            Kind::File => self.drop_link(was.inode),
+            Kind::Directory => {
+                self.directories.remove(&was.inode);
+            }
+        }
         Ok(())
     }
 
@@ -215,6 +225,9 @@ impl<R: Rng + Drop> FileSystem<R> {
         moved: Binding,
         was: Binding,
     ) -> Result<(), FsError>
+        requires bound { names_of self.old from.0.items ≡ Some moved }
+        requires taken { names_of self.old to.0.items ≡ Some was }
+        requires differ { was ≢ moved }
         ensures made { OnOk result (MakesEdit (exchanges from.0.items to.0.items moved was) self.old self.new) }
         ensures refused { OnErr result (SameNames self.old self.new) }
         ensures told { OnOk result (AddsTold (exchanges from.0.items to.0.items moved was) self.old self.new) }

@@ -8,7 +8,7 @@ use blob_directory::unsettled::Unsettled;
 use blob_overlay::overlay::{lay_chosen, reach_of, set_len};
 use std::alloc::{AllocError, Global};
 
-/// What a crash loses beside unsynced bytes.
+/// The edits that a crash lost, and whether the profile cuts files.
 #[derive(Drop)]
 pub(crate) struct Loss {
     pub(crate) alloc: Global,
@@ -100,7 +100,7 @@ fn mark_later(marks: &mut [bool], kept: &Kept, inode: u64, truncation: &Truncati
     }
 }
 
-/// Returns of each of so many found bytes whether a truncation puts it back. Fails only if memory runs out.
+/// Returns for each found byte, by their count, whether a truncation puts it back. Fails only if memory runs out.
 fn put_back(
     alloc: Global,
     count: usize,

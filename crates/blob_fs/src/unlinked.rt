@@ -1,6 +1,10 @@
 //! Files that no name and no descriptor refers to.
+ghost use Rattle.std.specs.Prelude.{◌≡◌, true};
+ghost use Rattle.blob_directory.specs.Counts.{NamedAtMost};
+ghost use Rattle.blob_fs.specs.Bytes.{file_in};
+ghost use Rattle.blob_fs.specs.Files.{KeepsJournal, KeepsNames, KeepsTold, names_of};
 ghost use Rattle.blob_fs.specs.Fixed.{KeepsFixed};
-ghost use Rattle.blob_fs.specs.Files.{KeepsJournal, KeepsNames, KeepsTold};
+ghost use Rattle.blob_fs.specs.Named.{links_in};
 
 use crate::file_system::FileSystem;
 use blob_faulty::Config;
@@ -35,6 +39,28 @@ impl<R: Rng + Drop> FileSystem<R> {
         self.count(size, 0);
     }
 
+    /// Returns whether no name can refer to a file.
+    fn is_unlinked(&self, inode: u64) -> bool
+        ensures { result ≡ true → links_in (file_in self.now inode) ≡ 0 }
+    {
+        match self.files.get(&inode) {
+            None => true,
+            Some(file) => file.is_gone || file.links == 0,
+        }
+    }
+
+    /// Removes a file and its blob, if no name can refer to it.
+    fn remove_unlinked(&mut self, inode: u64)
+        ensures names { KeepsNames self.old self.new }
+        ensures told { KeepsTold self.old self.new }
+        ensures journal { KeepsJournal self.old self.new }
+        ensures fixed { KeepsFixed self.old self.new }
+    {
+        if self.is_unlinked(inode) {
+            self.remove_file(inode);
+        }
+    }
+
     /// Removes the files that are gone, if all edits from before that are settled. Makes no draw.
     pub(crate) fn remove_gone(&mut self)
         ensures names { KeepsNames self.old self.new }
@@ -51,13 +77,14 @@ impl<R: Rng + Drop> FileSystem<R> {
             if gone.edit > settled {
                 break;
             }
-            self.remove_file(gone.inode);
+            self.remove_unlinked(gone.inode);
         }
         self.gone.retain(|gone| gone.edit > settled);
     }
 
-    /// Removes a file and its blob. If memory is refused, the blob stays until the next crash.
+    /// Removes a file that has no name, and its blob. If memory is refused, the blob stays until the next crash.
     pub(crate) fn remove_file(&mut self, inode: u64)
+        requires unnamed { ∥ NamedAtMost (names_of self.old) inode 0 ∥₁ }
         ensures names { KeepsNames self.old self.new }
         ensures told { KeepsTold self.old self.new }
         ensures journal { KeepsJournal self.old self.new }

@@ -2,6 +2,7 @@ use Rattle.std.proofs.Common.{◌≡◌, ◌∷◌, ℕ, [], List, subst, ◌∙
 use Rattle.std.specs.Map.Iter.{deref_pair}
 use Rattle.std.proofs.lemmas.Map.Iter.{rest_all, rest_more}
 use Rattle.blob_journal.specs.Fixed.{IsOpen}
+use Rattle.blob_fs.proofs.Counting.{CountsAllBut, counts_all, counts_more}
 use Rattle.blob_fs.proofs.Fixing.{open_more, whole_more}
 use Rattle.blob_fs.proofs.Recovering.{AreLinked, Ascend, Stands, ascend_rest, ends, linked_first, linked_rest, only_more, takes}
 use Rattle.blob_fs.proofs.recovery.reopen_all.Goals as goal
@@ -33,6 +34,8 @@ loop-inode-preserved g c =
       linked = only_more tree c.loop-inode.files c.put.new.files k c.in_ok-file.file c.in_ok-put.ensures (linked_first tree k links rest counted) i.linked;
       opened = open_more c.loop-inode.store c.reopen.new.store c.loop-inode.files c.put.new.files k file c.in_ok-put.ensures.0 c.in_ok-file.ensures.still i.opened own;
       whole = whole_more c.loop-inode.store c.reopen.new.store c.loop-inode.files c.put.new.files k file c.in_ok-put.ensures.0 c.in_ok-file.ensures.still i.opened i.whole c.in_ok-file.ensures.whole;
+      counts = counts_more tree k links rest (subst Ascend is i.ascend) c.loop-inode.files c.put.new.files file c.in_ok-put.ensures.0 c.in_ok-file.ensures.links c.in_ok-file.ensures.left.left.there
+          (subst (λ (l : List (ℕ × ℕ)). CountsAllBut tree l c.loop-inode.files) is i.counts);
     }
 
 pub returns-clause-left : goal.returns-clause-left
@@ -40,6 +43,11 @@ returns-clause-left g c =
     let none : c.loop-inode.inode-iterator ≡ [] = rest_all deref_pair c.loop-inode.inode-iterator c.next.new.self c.next.result c.in-None.is c.next.ensures.steps in
     ends c.args.store.now c.args.old.now c.args.tree.now c.args.kept.now c.args.loss.now c.loop-inode.store c.loop-inode.files
     (subst (λ (l : List (ℕ × ℕ)). Stands c.args.store.now c.args.old.now c.args.tree.now c.args.kept.now c.args.loss.now l c.loop-inode.store c.loop-inode.files) none c.loop-inode.invariant.left)
+
+pub returns-clause-counted : goal.returns-clause-counted
+returns-clause-counted g c =
+    let none : c.loop-inode.inode-iterator ≡ [] = rest_all deref_pair c.loop-inode.inode-iterator c.next.new.self c.next.result c.in-None.is c.next.ensures.steps in
+    counts_all c.args.tree.now c.loop-inode.files (subst (λ (l : List (ℕ × ℕ)). CountsAllBut c.args.tree.now l c.loop-inode.files) none c.loop-inode.invariant.counts)
 
 pub returns-clause-opened : goal.returns-clause-opened
 returns-clause-opened g c = c.loop-inode.invariant.opened

@@ -6,6 +6,7 @@ use Rattle.blob_journal.specs.Keeping.{table_in, told_in}
 use Rattle.blob_fs.specs.Bytes.{HasOnlyLinked}
 use Rattle.blob_fs.specs.Fixed.{AreWhole}
 use Rattle.blob_fs.specs.Open.{AllOpen}
+use Rattle.blob_fs.proofs.Counting.{CountsAllBut}
 use Rattle.blob_fs.proofs.Recovering.{AreLinked, Ascend, Stands}
 use Rattle.blob_fs.proofs.recovery.reopen_all.Given as goal
 
@@ -21,4 +22,5 @@ invariant-loop-inode g l = record {
   linked : HasOnlyLinked l.tree l.files;
   opened : AllOpen l.store l.files;
   whole : AreWhole l.store l.files;
+  counts : CountsAllBut l.tree l.inode-iterator l.files;
 }

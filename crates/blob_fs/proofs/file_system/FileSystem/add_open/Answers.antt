@@ -1,6 +1,8 @@
 use Rattle.std.proofs.Common.{refl}
 use Rattle.blob_fs.specs.declared.file_system.File.{File}
 use Rattle.blob_fs.proofs.Fixed.{opened_none, opened_through}
+use Rattle.blob_fs.proofs.Named.{at_most_self, named_none, named_through}
+use Rattle.blob_fs.proofs.Named.{links_kept, links_through}
 use Rattle.blob_fs.proofs.file_system.FileSystem.add_open.Goals as goal
 
 pub invariant_of-self : goal.invariant_of-self
@@ -10,7 +12,21 @@ invariant_of-self g c =
     let now : File = record was { opens = c.saturating_add-file.result } in
     record {
       opened = opened_through fs.store fs.files (c.get_mut.follows.lender now) c.args.inode was now c.in-Some.ensures.value (c.get_mut.follows.holds now) (record { blob = refl; synced = refl; truncations = refl }) fs.opened;
+      named = named_through fs.store fs.files (c.get_mut.follows.lender now) c.args.inode was now c.in-Some.ensures.value (c.get_mut.follows.holds now) (at_most_self _) fs.named;
     }
 
 pub invariant_of-self-in_default : goal.invariant_of-self-in_default
-invariant_of-self-in_default g c = record { opened = opened_none c.args.self.now.store c.args.self.now.files _ c.get_mut.follows.holds-at-none c.args.self.now.opened }
+invariant_of-self-in_default g c = record {
+  opened = opened_none c.args.self.now.store c.args.self.now.files _ c.get_mut.follows.holds-at-none c.args.self.now.opened;
+  named = named_none c.args.self.now.store c.args.self.now.files _ c.get_mut.follows.holds-at-none c.args.self.now.named;
+}
+
+pub returns-in-Some-clause-links : goal.returns-in-Some-clause-links
+returns-in-Some-clause-links g c =
+    let fs = c.args.self.now in
+    let was : File = c.in-Some.file.now in
+    let now : File = record was { opens = c.saturating_add-file.result } in
+    links_through fs.files (c.get_mut.follows.lender now) c.args.inode was now c.in-Some.ensures.value (c.get_mut.follows.holds now) refl
+
+pub returns-in_default-clause-links : goal.returns-in_default-clause-links
+returns-in_default-clause-links g c = links_kept c.args.self.now.files _ c.get_mut.follows.holds-at-none

@@ -15,6 +15,7 @@ use Rattle.blob_fs.specs.Bytes.{HasBytes, bytes_found, bytes_left, unsettled_num
 use Rattle.blob_fs.specs.Truncations.{lost_of}
 use Rattle.blob_fs.proofs.Crashed.{finds_byte}
 use Rattle.blob_fs.proofs.Fixed.{opened_store}
+use Rattle.blob_fs.proofs.Named.{named_store}
 use Rattle.blob_fs.proofs.file_system.FileSystem.crash.Goals as goal
 
 pub returns-clause-found : goal.returns-clause-found
@@ -81,10 +82,16 @@ returns-clause-fixed g c = λ name inode at byte below named there f.
     }
 
 pub invariant_of-self : goal.invariant_of-self
-invariant_of-self g c = record { opened = opened_store c.args.self.now.store c.crash.new.self c.args.self.now.files c.crash.ensures.still c.args.self.now.opened }
+invariant_of-self g c = record {
+  opened = opened_store c.args.self.now.store c.crash.new.self c.args.self.now.files c.crash.ensures.still c.args.self.now.opened;
+  named = named_store c.args.self.now.store c.crash.new.self c.args.self.now.files c.crash.ensures.names c.args.self.now.named;
+}
 
 pub invariant_of-self-2 : goal.invariant_of-self-2
-invariant_of-self-2 g c = record { opened = opened_store c.args.self.now.store c.crash.new.self c.args.self.now.files c.crash.ensures.still c.args.self.now.opened }
+invariant_of-self-2 g c = record {
+  opened = opened_store c.args.self.now.store c.crash.new.self c.args.self.now.files c.crash.ensures.still c.args.self.now.opened;
+  named = named_store c.args.self.now.store c.crash.new.self c.args.self.now.files c.crash.ensures.names c.args.self.now.named;
+}
 
 pub returns-clause-fixes : goal.returns-clause-fixes
 returns-clause-fixes g c = λ inode at byte below numbered f.

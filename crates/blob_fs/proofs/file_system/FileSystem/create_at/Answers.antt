@@ -5,6 +5,13 @@ use Rattle.blob_directory.specs.declared.table.Table.{Table}
 use Rattle.blob_directory.specs.Tables.{bound}
 use Rattle.blob_journal.proofs.Found.{on_err}
 use Rattle.blob_fs.specs.Files.{SameNames}
+use Rattle.blob_fs.proofs.Named.{named_store}
+use Rattle.std.proofs.Common.{◌≡◌, ℕ, None, subst}
+use Rattle.blob_journal.specs.Keeping.{table_in}
+use Rattle.blob_fs.specs.Bytes.{file_in}
+use Rattle.blob_fs.specs.Files.{names_of, table_of}
+use Rattle.blob_fs.specs.Named.{links_in}
+use Rattle.blob_fs.proofs.Named.{edit_is, linked, most_same, most_table, none_named, same_at_most}
 use Rattle.blob_fs.proofs.file_system.FileSystem.create_at.Goals as goal
 
 pub returns-in_err-descriptor-clause-refused : goal.returns-in_err-descriptor-clause-refused
@@ -15,6 +22,7 @@ returns-in_err-descriptor-clause-refused g c =
 pub invariant_of-self : goal.invariant_of-self
 invariant_of-self g c = record {
   opened = opened_store c.begin_call.new.self.store c.open_file.new.self c.begin_call.new.self.files c.open_file.ensures.still c.begin_call.new.self.opened;
+  named = named_store c.begin_call.new.self.store c.open_file.new.self c.begin_call.new.self.files c.open_file.ensures.names c.begin_call.new.self.named;
 }
 
 pub returns-in_err-blob-clause-fixed : goal.returns-in_err-blob-clause-fixed
@@ -47,3 +55,38 @@ returns-clause-fixed g c = λ inode at byte below f.
     (record { numbered = one.numbered; synced = one.synced; fixed = λ was there. c.open_file.ensures.still.fixed was.blob at byte (one.fixed was there) }) in
     let three = c.make.ensures.fixed inode at byte below two in
     record { numbered = omega (arith, three.numbered, c.max-self.ensures); synced = three.synced; fixed = three.fixed }
+
+pub open_new-requires : goal.open_new-requires
+open_new-requires g c =
+    let one = c.begin_call.new.self in
+    let new = c.args.self.now.next_inode in
+    let none : file_in one new ≡ None = subst (λ (n : ℕ). file_in one n ≡ None) c.begin_call.ensures.number c.in_ok-next.ensures.new in
+    record {
+      opened = c.in_ok-blob.ensures.reopened.still;
+      unnamed = most_table (table_of one) (table_in c.open_file.new.self) new 0 c.open_file.ensures.names (none_named (names_of one) one.files new (ap links_in none) one.named);
+    }
+
+pub make-requires : goal.make-requires
+make-requires g c =
+    let one = c.begin_call.new.self in
+    let two = c.open_new.new.self in
+    let new = c.args.self.now.next_inode in
+    let none : file_in one new ≡ None = subst (λ (n : ℕ). file_in one n ≡ None) c.begin_call.ensures.number c.in_ok-next.ensures.new in
+    record {
+      fits = linked (names_of two) _ two.files _ new 0
+          (most_table (table_of one) (table_of two) new 0 (c.open_new.ensures.names ∙ c.open_file.ensures.names) (none_named (names_of one) one.files new (ap links_in none) one.named))
+          (same_at_most (sym c.in_ok-descriptor.ensures.links))
+          (edit_is (names_of two) _ _ c.one-edit.ensures) two.named;
+    }
+
+pub remove_file-requires : goal.remove_file-requires
+remove_file-requires g c =
+    let one = c.begin_call.new.self in
+    let two = c.open_new.new.self in
+    let three = c.make.new.self in
+    let new = c.args.self.now.next_inode in
+    let none : file_in one new ≡ None = subst (λ (n : ℕ). file_in one n ≡ None) c.begin_call.ensures.number c.in_ok-next.ensures.new in
+    record {
+      unnamed = most_same (names_of two) (names_of three) new 0 c.in-Err.ensures.refused
+          (most_table (table_of one) (table_of two) new 0 (c.open_new.ensures.names ∙ c.open_file.ensures.names) (none_named (names_of one) one.files new (ap links_in none) one.named));
+    }

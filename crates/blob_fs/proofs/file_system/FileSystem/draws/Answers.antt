@@ -1,12 +1,16 @@
 use Rattle.std.proofs.Common.{refl, arith, ◌∙◌}
 use Rattle.blob_fs.proofs.Drawing.{crashes_twice}
 use Rattle.blob_fs.proofs.Fixed.{contents_self, fixed_after, opened_store, still_twice}
+use Rattle.blob_fs.proofs.Named.{named_store}
 use Rattle.blob_fs.proofs.file_system.FileSystem.draws.Goals as goal
 
 pub invariant_of-self : goal.invariant_of-self
 invariant_of-self g c =
     let fs = c.args.self.now in
-    record { opened = opened_store fs.store c.set_config.new.self fs.files c.set_config.ensures.still fs.opened }
+    record {
+      opened = opened_store fs.store c.set_config.new.self fs.files c.set_config.ensures.still fs.opened;
+      named = named_store fs.store c.set_config.new.self fs.files c.set_config.ensures.names fs.named;
+    }
 
 pub invariant_of-self-2 : goal.invariant_of-self-2
 invariant_of-self-2 g c =
@@ -14,6 +18,7 @@ invariant_of-self-2 g c =
     record {
       opened = opened_store fs.store c.read_file.new.self fs.files
           (still_twice fs.store c.set_config.new.self c.read_file.new.self c.set_config.ensures.still c.read_file.ensures.still) fs.opened;
+      named = named_store fs.store c.read_file.new.self fs.files (c.read_file.ensures.names ∙ c.set_config.ensures.names) fs.named;
     }
 
 pub returns-in-Ok : goal.returns-in-Ok

@@ -1,6 +1,10 @@
-use Rattle.std.proofs.Common.{refl}
+use Rattle.std.proofs.Common.{ℕ, Option, Some, ap, pred, refl, subst, sym, ◌∙◌}
+use Rattle.blob_directory.specs.Counts.{NamedAtMost}
+use Rattle.blob_fs.specs.Files.{names_of}
+use Rattle.blob_fs.specs.Named.{links_in}
 use Rattle.blob_fs.specs.declared.file_system.File.{File}
-use Rattle.blob_fs.proofs.Fixed.{opened_none, opened_through}
+use Rattle.blob_fs.proofs.Fixed.{opened_none, opened_through, sets_through}
+use Rattle.blob_fs.proofs.Named.{at_most_self, links_less, named_none, named_set, named_through}
 use Rattle.blob_fs.proofs.file_system.FileSystem.drop_name.Goals as goal
 
 pub invariant_of-self : goal.invariant_of-self
@@ -10,7 +14,14 @@ invariant_of-self g c =
     let now : File = record was { links = c.saturating_sub-file.result } in
     record {
       opened = opened_through fs.store fs.files (c.get_mut.follows.lender now) c.args.inode was now c.in-Some.ensures.value (c.get_mut.follows.holds now) (record { blob = refl; synced = refl; truncations = refl }) fs.opened;
+      named = named_set fs.store fs.files (c.get_mut.follows.lender now) c.args.inode (Some now)
+          (sets_through fs.files (c.get_mut.follows.lender now) c.args.inode was now c.in-Some.ensures.value (c.get_mut.follows.holds now))
+          (subst (λ (n : ℕ). ∥ NamedAtMost (names_of fs) c.args.inode n ∥₁)
+          (ap (λ (o : Option File). pred (links_in o)) (sym c.in-Some.ensures.value) ∙ sym (links_less was now.links c.saturating_sub-file.ensures)) c.requires.fewer) fs.named;
     }
 
 pub invariant_of-self-in_default : goal.invariant_of-self-in_default
-invariant_of-self-in_default g c = record { opened = opened_none c.args.self.now.store c.args.self.now.files _ c.get_mut.follows.holds-at-none c.args.self.now.opened }
+invariant_of-self-in_default g c = record {
+  opened = opened_none c.args.self.now.store c.args.self.now.files _ c.get_mut.follows.holds-at-none c.args.self.now.opened;
+  named = named_none c.args.self.now.store c.args.self.now.files _ c.get_mut.follows.holds-at-none c.args.self.now.named;
+}

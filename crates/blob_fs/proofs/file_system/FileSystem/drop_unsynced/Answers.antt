@@ -1,16 +1,20 @@
-use Rattle.std.proofs.Common.{◌<◌, List, Some, arith, refl, subst, sym}
+use Rattle.std.proofs.Common.{◌<◌, ◌∙◌, List, Some, arith, refl, subst, sym}
 use Rattle.std.specs.Prelude.{All}
 use Rattle.blob_fs.specs.declared.truncation.Truncation.{Truncation}
 use Rattle.blob_journal.specs.Fixed.{KeepsOpen}
 use Rattle.blob_fs.specs.declared.file_system.File.{File}
 use Rattle.blob_fs.proofs.Fixed.{all_none, contents_same, contents_through, fixed_after, opened_after, sets_through, still_twice}
 use Rattle.blob_fs.proofs.Syncing.{fixed_again, opened_again, reopens_after}
+use Rattle.blob_fs.proofs.Named.{at_most_self, links_same, links_set, named_after}
 use Rattle.blob_fs.proofs.file_system.FileSystem.drop_unsynced.Goals as goal
 
 pub invariant_of-self : goal.invariant_of-self
 invariant_of-self g c =
     let fs = c.args.self.now in
-    record { opened = opened_after fs.store c.set_config.new.self fs.files c.get_mut.follows.lender-at-none (contents_same fs.files c.get_mut.follows.lender-at-none c.get_mut.follows.holds-at-none) c.set_config.ensures.still fs.opened }
+    record {
+      opened = opened_after fs.store c.set_config.new.self fs.files c.get_mut.follows.lender-at-none (contents_same fs.files c.get_mut.follows.lender-at-none c.get_mut.follows.holds-at-none) c.set_config.ensures.still fs.opened;
+      named = named_after fs.store c.set_config.new.self fs.files c.get_mut.follows.lender-at-none c.set_config.ensures.names (links_same fs.files c.get_mut.follows.lender-at-none c.get_mut.follows.holds-at-none) fs.named;
+    }
 
 pub invariant_of-self-in-Break-1 : goal.invariant_of-self-in-Break-1
 invariant_of-self-in-Break-1 g c =
@@ -20,6 +24,9 @@ invariant_of-self-in-Break-1 g c =
       opened = opened_after fs.store c.shown_bytes.new.store fs.files (c.get_mut.follows.lender file)
           (contents_through fs.files (c.get_mut.follows.lender file) c.args.inode file file c.in-Some.ensures.value (c.get_mut.follows.holds file) (record { blob = refl; synced = refl; truncations = refl }))
           (still_twice fs.store c.set_config.new.self c.shown_bytes.new.store c.set_config.ensures.still c.shown_bytes.ensures.still) fs.opened;
+      named = named_after fs.store c.shown_bytes.new.store fs.files (c.get_mut.follows.lender file) (c.shown_bytes.ensures.names ∙ c.set_config.ensures.names)
+          (links_set fs.files (c.get_mut.follows.lender file) c.args.inode file file c.in-Some.ensures.value
+          (sets_through fs.files (c.get_mut.follows.lender file) c.args.inode file file c.in-Some.ensures.value (c.get_mut.follows.holds file)) (at_most_self _)) fs.named;
     }
 
 pub returns-in_err-shown-clause-fixed : goal.returns-in_err-shown-clause-fixed
@@ -39,6 +46,9 @@ invariant_of-self-in-Break-branch-2 g c =
       opened = opened_after fs.store c.reopen_file.new.self fs.files (c.get_mut.follows.lender file)
           (contents_through fs.files (c.get_mut.follows.lender file) c.args.inode file file c.in-Some.ensures.value (c.get_mut.follows.holds file) (record { blob = refl; synced = refl; truncations = refl }))
           (still_twice fs.store c.shown_bytes.new.store c.reopen_file.new.self shown c.reopen_file.ensures.still) fs.opened;
+      named = named_after fs.store c.reopen_file.new.self fs.files (c.get_mut.follows.lender file) (c.reopen_file.ensures.names ∙ c.shown_bytes.ensures.names ∙ c.set_config.ensures.names)
+          (links_set fs.files (c.get_mut.follows.lender file) c.args.inode file file c.in-Some.ensures.value
+          (sets_through fs.files (c.get_mut.follows.lender file) c.args.inode file file c.in-Some.ensures.value (c.get_mut.follows.holds file)) (at_most_self _)) fs.named;
     }
 
 pub invariant_of-self-2 : goal.invariant_of-self-2
@@ -53,6 +63,9 @@ invariant_of-self-2 g c =
           (still_twice fs.store c.shown_bytes.new.store c.reopen_file.new.self shown c.reopen_file.ensures.still)
           (reopens_after fs.store c.shown_bytes.new.store c.reopen_file.new.self c.args.inode new.blob shown c.in_ok-file.ensures.reopened)
           fs.opened;
+      named = named_after fs.store c.reopen_file.new.self fs.files (c.get_mut.follows.lender new) (c.reopen_file.ensures.names ∙ c.shown_bytes.ensures.names ∙ c.set_config.ensures.names)
+          (links_set fs.files (c.get_mut.follows.lender new) c.args.inode file new c.in-Some.ensures.value
+          (sets_through fs.files (c.get_mut.follows.lender new) c.args.inode file new c.in-Some.ensures.value (c.get_mut.follows.holds new)) (at_most_self _)) fs.named;
     }
 
 pub returns-clause-fixed : goal.returns-clause-fixed

@@ -1,24 +1,31 @@
 use Rattle.std.proofs.Common.{arith, refl, true}
 use Rattle.blob_fs.specs.declared.file_system.File.{File}
 use Rattle.blob_fs.proofs.Fixed.{contents_same, contents_through, contents_twice, fixed_after, opened_none, opened_through, still_same}
+use Rattle.blob_fs.proofs.Named.{at_most_self, named_none, named_through, no_links}
 use Rattle.blob_fs.proofs.file_system.FileSystem.let_go.Goals as goal
 
 pub invariant_of-self : goal.invariant_of-self
-invariant_of-self g c = record { opened = opened_none c.args.self.now.store c.args.self.now.files _ c.get_mut.follows.holds-at-none c.args.self.now.opened }
+invariant_of-self g c = record {
+  opened = opened_none c.args.self.now.store c.args.self.now.files _ c.get_mut.follows.holds-at-none c.args.self.now.opened;
+  named = named_none c.args.self.now.store c.args.self.now.files _ c.get_mut.follows.holds-at-none c.args.self.now.named;
+}
 
 pub invariant_of-self-then-file-gt0 : goal.invariant_of-self-then-file-gt0
 invariant_of-self-then-file-gt0 g c = record {
   opened = opened_through c.args.self.now.store c.args.self.now.files (c.get_mut.follows.lender c.in-Some.file.now) c.args.inode c.in-Some.file.now c.in-Some.file.now c.in-Some.ensures.value (c.get_mut.follows.holds _) (record { blob = refl; synced = refl; truncations = refl }) c.args.self.now.opened;
+  named = named_through c.args.self.now.store c.args.self.now.files (c.get_mut.follows.lender c.in-Some.file.now) c.args.inode c.in-Some.file.now c.in-Some.file.now c.in-Some.ensures.value (c.get_mut.follows.holds _) (at_most_self _) c.args.self.now.named;
 }
 
 pub invariant_of-self-then-file-gt0-2 : goal.invariant_of-self-then-file-gt0-2
 invariant_of-self-then-file-gt0-2 g c = record {
   opened = opened_through c.args.self.now.store c.args.self.now.files (c.get_mut.follows.lender c.in-Some.file.now) c.args.inode c.in-Some.file.now c.in-Some.file.now c.in-Some.ensures.value (c.get_mut.follows.holds _) (record { blob = refl; synced = refl; truncations = refl }) c.args.self.now.opened;
+  named = named_through c.args.self.now.store c.args.self.now.files (c.get_mut.follows.lender c.in-Some.file.now) c.args.inode c.in-Some.file.now c.in-Some.file.now c.in-Some.ensures.value (c.get_mut.follows.holds _) (at_most_self _) c.args.self.now.named;
 }
 
 pub invariant_of-self-then-file : goal.invariant_of-self-then-file
 invariant_of-self-then-file g c = record {
   opened = opened_through c.args.self.now.store c.args.self.now.files (c.get_mut.follows.lender c.in-Some.file.now) c.args.inode c.in-Some.file.now c.in-Some.file.now c.in-Some.ensures.value (c.get_mut.follows.holds _) (record { blob = refl; synced = refl; truncations = refl }) c.args.self.now.opened;
+  named = named_through c.args.self.now.store c.args.self.now.files (c.get_mut.follows.lender c.in-Some.file.now) c.args.inode c.in-Some.file.now c.in-Some.file.now c.in-Some.ensures.value (c.get_mut.follows.holds _) (at_most_self _) c.args.self.now.named;
 }
 
 pub invariant_of-self-2 : goal.invariant_of-self-2
@@ -26,6 +33,7 @@ invariant_of-self-2 g c =
     let gone : File = record c.in-Some.file.now { is_gone = true } in
     record {
       opened = opened_through c.args.self.now.store c.args.self.now.files (c.get_mut.follows.lender gone) c.args.inode c.in-Some.file.now gone c.in-Some.ensures.value (c.get_mut.follows.holds gone) (record { blob = refl; synced = refl; truncations = refl }) c.args.self.now.opened;
+      named = named_through c.args.self.now.store c.args.self.now.files (c.get_mut.follows.lender gone) c.args.inode c.in-Some.file.now gone c.in-Some.ensures.value (c.get_mut.follows.holds gone) (no_links c.in-Some.file.now (omega (arith, c.if-file-gt0.false))) c.args.self.now.named;
     }
 
 pub returns-clause-fixed : goal.returns-clause-fixed

@@ -1,7 +1,40 @@
+use Rattle.std.proofs.Common.{◌≡◌, IsSome, Option, Some, ap, arith, option_copied, refl, subst, sym, ◌∙◌}
+use Rattle.blob_fs.specs.declared.file_system.File.{File}
+use Rattle.blob_fs.specs.Files.{file_of, names_of, table_of}
+use Rattle.blob_fs.proofs.Named.{edit_is, linked, linked_most, most_more, most_same, most_table}
 use Rattle.blob_fs.proofs.file_system.FileSystem.link_at.Goals as goal
 
-pub returns-in_err-make-clause-fixed : goal.returns-in_err-make-clause-fixed
-returns-in_err-make-clause-fixed g c = λ inode at byte below f. c.make.ensures.fixed inode at byte below (c.begin_call.ensures.fixed inode at byte below f)
+pub set_links-requires : goal.set_links-requires
+set_links-requires g c =
+    let one = c.begin_call.new.self in
+    let file : File = c.in-Some.file.now in
+    let is : file_of one c.args.inode ≡ Some file = sym c.file.ensures ∙ ap option_copied c.in-Some.is in
+    record { fits = most_more (names_of one) c.args.inode file.links _ (omega arith) (linked_most one c.args.inode file is) }
+
+pub make-requires : goal.make-requires
+make-requires g c =
+    let one = c.begin_call.new.self in
+    let two = c.set_links.new.self in
+    let file : File = c.in-Some.file.now in
+    let is : file_of one c.args.inode ≡ Some file = sym c.file.ensures ∙ ap option_copied c.in-Some.is in
+    let most = most_table (table_of one) (table_of two) c.args.inode file.links c.set_links.ensures.names (linked_most one c.args.inode file is) in
+    let set = c.set_links.ensures.set (subst (λ (o : Option File). IsSome o) (sym is) refl) in
+    record { fits = linked (names_of two) _ two.files _ c.args.inode file.links most (omega (arith, set)) (edit_is (names_of two) _ _ c.one-edit.ensures) two.named }
+
+pub set_links-requires-in-Err : goal.set_links-requires-in-Err
+set_links-requires-in-Err g c =
+    let one = c.begin_call.new.self in
+    let two = c.set_links.new.self in
+    let file : File = c.in-Some.file.now in
+    let is : file_of one c.args.inode ≡ Some file = sym c.file.ensures ∙ ap option_copied c.in-Some.is in
+    let most = most_table (table_of one) (table_of two) c.args.inode file.links c.set_links.ensures.names (linked_most one c.args.inode file is) in
+    record { fits = most_same (names_of two) (names_of c.make.new.self) c.args.inode file.links c.in-Err.ensures.refused most }
+
+pub returns-in-Err-clause-fixed : goal.returns-in-Err-clause-fixed
+returns-in-Err-clause-fixed g c = λ inode at byte below f.
+    c.set_links-in-Err.ensures.fixed inode at byte below (c.make.ensures.fixed inode at byte below
+    (c.set_links.ensures.fixed inode at byte below (c.begin_call.ensures.fixed inode at byte below f)))
 
 pub returns-clause-fixed : goal.returns-clause-fixed
-returns-clause-fixed g c = λ inode at byte below f. c.set_links.ensures.fixed inode at byte below (c.make.ensures.fixed inode at byte below (c.begin_call.ensures.fixed inode at byte below f))
+returns-clause-fixed g c = λ inode at byte below f.
+    c.make.ensures.fixed inode at byte below (c.set_links.ensures.fixed inode at byte below (c.begin_call.ensures.fixed inode at byte below f))

@@ -1,4 +1,6 @@
 use Rattle.std.proofs.Common.{arith}
+use Rattle.blob_fs.specs.Files.{names_of}
+use Rattle.blob_fs.proofs.Named.{edit_is, placed}
 use Rattle.blob_fs.proofs.file_system.FileSystem.make_directory_at.Goals as goal
 
 pub returns-in_err-insert-clause-fixed : goal.returns-in_err-insert-clause-fixed
@@ -17,3 +19,10 @@ returns-clause-fixed g c = λ inode at byte below f.
     let one = c.begin_call.ensures.fixed inode at byte below f in
     let two = c.make.ensures.fixed inode at byte below (record { numbered = one.numbered; synced = one.synced; fixed = one.fixed }) in
     record { numbered = omega (arith, two.numbered, c.max-self.ensures); synced = two.synced; fixed = two.fixed }
+
+pub make-requires : goal.make-requires
+make-requires g c =
+    let one = c.begin_call.new.self in
+    record {
+      fits = placed (names_of one) _ one.files _ c.args.self.now.next_inode (edit_is (names_of one) _ _ c.one-edit.ensures) one.named;
+    }

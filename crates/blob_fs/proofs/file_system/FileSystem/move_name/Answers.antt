@@ -1,4 +1,13 @@
+use Rattle.blob_fs.specs.Files.{names_of}
+use Rattle.blob_fs.proofs.Named.{edit_is, moved_on}
 use Rattle.blob_fs.proofs.file_system.FileSystem.move_name.Goals as goal
 
 pub returns-clause-fixed : goal.returns-clause-fixed
 returns-clause-fixed g c = λ inode at byte below f. c.place.ensures.fixed inode at byte below (c.make.ensures.fixed inode at byte below f)
+
+pub make-requires : goal.make-requires
+make-requires g c =
+    let fs = c.args.self.now in
+    record {
+      fits = moved_on (names_of fs) _ fs.files _ _ c.args.moved c.requires.bound (edit_is (names_of fs) _ _ c.moving.ensures) fs.named;
+    }

@@ -1,4 +1,5 @@
 use Rattle.blob_fs.proofs.Fixed.{opened_store}
+use Rattle.blob_fs.proofs.Named.{named_store}
 use Rattle.blob_fs.proofs.file_system.FileSystem.read.Goals as goal
 
 pub returns-in_default-clause-fixed : goal.returns-in_default-clause-fixed
@@ -14,6 +15,7 @@ returns-then-count-eq0-clause-fixed g c = λ inode at byte below f.
 pub invariant_of-self-2 : goal.invariant_of-self-2
 invariant_of-self-2 g c = record {
   opened = opened_store c.begin_call.new.self.store c.read_into.new.store c.begin_call.new.self.files c.read_into.ensures.still c.begin_call.new.self.opened;
+  named = named_store c.begin_call.new.self.store c.read_into.new.store c.begin_call.new.self.files c.read_into.ensures.names c.begin_call.new.self.named;
 }
 
 pub returns-in_err-read_into-clause-fixed : goal.returns-in_err-read_into-clause-fixed

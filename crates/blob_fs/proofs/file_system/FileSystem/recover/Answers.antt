@@ -18,44 +18,45 @@ use Rattle.blob_fs.specs.Open.{AllOpen}
 use Rattle.blob_fs.specs.declared.file_system.File.{File}
 use Rattle.blob_fs.proofs.Crashed.{found_is, opened_handles}
 use Rattle.blob_fs.proofs.Fixed.{opened_store}
-use Rattle.blob_fs.proofs.Recovering.{all_open, has_bytes, left_stays, no_orphan}
-use Rattle.blob_fs.proofs.Fixing.{fixes_found, whole_after}
+use Rattle.blob_fs.proofs.Counting.{all_named}
+use Rattle.blob_fs.proofs.Recovering.{has_bytes, left_stays, no_orphan}
+use Rattle.blob_fs.proofs.Fixing.{fixes_found}
+use Rattle.blob_fs.proofs.Named.{named_store}
 use Rattle.blob_fs.proofs.file_system.FileSystem.recover.Goals as goal
 
 pub returns-clause-found : goal.returns-clause-found
 returns-clause-found g c =
-    let taken : table_of c.begin_life.new.self ≡ c.in_ok-tree.tree.names = c.begin_life.ensures.names ∙ c.in_ok-directories.ensures.done in
+    let taken : table_of c.begin_life.new.self ≡ c.in_ok-tree.tree.names = c.in_ok-begin_life.ensures.names in
     subst (λ (t : Table). FindsNames c.args.self.now.store (keeps_of c.args.self.now) (bound t)) (sym taken) c.in_ok-tree.ensures.found
 
 pub returns-clause-gives : goal.returns-clause-gives
-returns-clause-gives g c = λ r. c.begin_life.ensures.gives (c.in_ok-directories.ensures.gives c.in_ok-tree.ensures.fits (c.reopen_all.ensures.files (c.find_names.ensures.files r)))
+returns-clause-gives g c = λ r. c.in_ok-begin_life.ensures.gives c.in_ok-tree.ensures.fits (c.reopen_all.ensures.files (c.find_names.ensures.files r))
 
 pub returns-clause-again : goal.returns-clause-again
 returns-clause-again g c = λ gives.
-    let taken : table_of c.begin_life.new.self ≡ c.in_ok-tree.tree.names = c.begin_life.ensures.names ∙ c.in_ok-directories.ensures.done in
+    let taken : table_of c.begin_life.new.self ≡ c.in_ok-tree.tree.names = c.in_ok-begin_life.ensures.names in
     subst (λ (t : Table). Finds (bound t) (names_of c.args.self.now)) (sym taken) (c.in_ok-tree.ensures.again gives)
 
 pub returns-clause-kept : goal.returns-clause-kept
 returns-clause-kept g c =
-    let taken : table_of c.begin_life.new.self ≡ c.in_ok-tree.tree.names = c.begin_life.ensures.names ∙ c.in_ok-directories.ensures.done in
+    let taken : table_of c.begin_life.new.self ≡ c.in_ok-tree.tree.names = c.in_ok-begin_life.ensures.names in
     subst (λ (t : Table). FindsTold c.args.self.now.store (keeps_of c.args.self.now) (bound t)) (sym taken) c.in_ok-tree.ensures.kept
 
 pub returns-clause-told : goal.returns-clause-told
-returns-clause-told g c = c.begin_life.ensures.settled (c.in_ok-directories.ensures.told c.in_ok-tree.ensures.fits)
+returns-clause-told g c = c.in_ok-begin_life.ensures.told c.in_ok-tree.ensures.fits
 
 pub returns-clause-bytes : goal.returns-clause-bytes
 returns-clause-bytes g c = λ name inode below named.
     let fs = c.args.self.now in
     let searched = c.find_names.new.self in
     let opened = c.reopen_all.new.store in
-    let renewed = c.renew.new.self in
     let new = c.begin_life.new.self in
     let tree = c.in_ok-tree.tree in
-    let taken : table_of new ≡ tree.names = c.begin_life.ensures.names ∙ c.in_ok-directories.ensures.done in
+    let taken : table_of new ≡ tree.names = c.in_ok-begin_life.ensures.names in
     let linked : has_link tree inode ≡ true = c.in_ok-tree.ensures.links name inode (ap (λ (t : Table). bound t name) (sym taken) ∙ named) in
     let d = c.in_ok-files.ensures.left inode below linked in
     let l = d.left in
-    let same = c.blobs.ensures.twice opened renewed new.store inode (c.in_ok-directories.ensures.same inode) (c.begin_life.ensures.kept inode l.file below l.at) in
+    let same = c.in_ok-begin_life.ensures.kept inode l.file below l.at in
     let found : IsFound (current_file fs.store inode) d.bytes = λ bytes is. d.is bytes (c.blobs.ensures.current fs.store searched inode (c.in_ok-tree.ensures.same inode) ∙ is) in
     let kept = c.args.kept.now in
     let lost : c.in_ok-lost.lost.items ≡ lost_of c.args.numbers.now c.in_ok-tree.edits.items = c.in_ok-lost.ensures ∙ ap (λ (l : List Bool). lost_of c.args.numbers.now l) c.deref.ensures.value in
@@ -66,55 +67,50 @@ returns-clause-bytes g c = λ name inode below named.
       is = found;
       was = found_is c.blobs.ensures.durable fs.store inode d.bytes found fs.files below fs.opened;
       has = subst (λ (n : List ℕ). HasBytes new inode (bytes_found fs kept n inode d.bytes) (bytes_left fs n inode (bytes_found fs kept n inode d.bytes))) lost
-          (has_bytes c.blobs.ensures.found c.blobs.ensures.reads new inode _ _ l.file (ap (λ (m : BTreeMap ℕ File). get nat_cmp m inode) c.begin_life.ensures.files ∙ l.at) left);
+          (has_bytes c.blobs.ensures.found c.blobs.ensures.reads new inode _ _ l.file (ap (λ (m : BTreeMap ℕ File). get nat_cmp m inode) c.in_ok-begin_life.ensures.files ∙ l.at) left);
     }
 
 pub returns-clause-orphans : goal.returns-clause-orphans
 returns-clause-orphans g c =
     let new = c.begin_life.new.self in
     let tree = c.in_ok-tree.tree in
-    let taken : table_of new ≡ tree.names = c.begin_life.ensures.names ∙ c.in_ok-directories.ensures.done in
+    let taken : table_of new ≡ tree.names = c.in_ok-begin_life.ensures.names in
     no_orphan new tree (λ name. ap (λ (t : Table). bound t name) taken) c.in_ok-tree.ensures.named
-    (subst (HasOnlyLinked tree) (sym c.begin_life.ensures.files) c.in_ok-files.ensures.linked)
+    (subst (HasOnlyLinked tree) (sym c.in_ok-begin_life.ensures.files) c.in_ok-files.ensures.linked)
 
 pub returns-clause-opened : goal.returns-clause-opened
-returns-clause-opened g c =
-    let opened = c.reopen_all.new.store in
-    let new = c.begin_life.new.self in
-    let files = c.in_ok-files.files in
-    subst (AllOpen new.store) (sym c.begin_life.ensures.files)
-    (all_open c.blobs.ensures.stays c.find_names.new.self opened new.store c.args.self.now.files c.in_ok-tree.tree c.args.kept.now _ files
-    c.in_ok-files.ensures.left c.in_ok-files.ensures.linked
-    (λ inode file below at. c.blobs.ensures.twice opened c.renew.new.self new.store inode (c.in_ok-directories.ensures.same inode) (c.begin_life.ensures.kept inode file below at)))
+returns-clause-opened g c = subst (AllOpen c.begin_life.new.self.store) (sym c.in_ok-begin_life.ensures.files) c.in_ok-begin_life.ensures.opened
 
 pub invariant_of-self : goal.invariant_of-self
-invariant_of-self g c = record { opened = opened_store c.args.self.now.store c.find_names.new.self c.args.self.now.files c.find_names.ensures.still c.args.self.now.opened }
-
-pub invariant_of-self-in-Break-branch-3 : goal.invariant_of-self-in-Break-branch-3
-invariant_of-self-in-Break-branch-3 g c =
-    let fs = c.args.self.now in
-    record {
-      opened = opened_handles c.find_names.new.self c.reopen_all.new.store fs.files c.reopen_all.ensures.handles
-          (opened_store fs.store c.find_names.new.self fs.files c.find_names.ensures.still fs.opened);
-    }
+invariant_of-self g c = record {
+  opened = opened_store c.args.self.now.store c.find_names.new.self c.args.self.now.files c.find_names.ensures.still c.args.self.now.opened;
+  named = named_store c.args.self.now.store c.find_names.new.self c.args.self.now.files c.find_names.ensures.names c.args.self.now.named;
+}
 
 pub invariant_of-self-2 : goal.invariant_of-self-2
 invariant_of-self-2 g c =
     let fs = c.args.self.now in
-    let reopened = opened_handles c.find_names.new.self c.reopen_all.new.store fs.files c.reopen_all.ensures.handles
-    (opened_store fs.store c.find_names.new.self fs.files c.find_names.ensures.still fs.opened) in
-    record { opened = opened_store c.reopen_all.new.store c.renew.new.self fs.files c.renew.ensures.still reopened }
+    record {
+      opened = opened_handles c.find_names.new.self c.reopen_all.new.store fs.files c.reopen_all.ensures.handles
+          (opened_store fs.store c.find_names.new.self fs.files c.find_names.ensures.still fs.opened);
+      named = named_store fs.store c.reopen_all.new.store fs.files (c.reopen_all.ensures.names ∙ c.find_names.ensures.names) fs.named;
+    }
 
 pub begin_life-requires : goal.begin_life-requires
-begin_life-requires g c = record { opened = λ inode file below at. c.renew.ensures.still.still inode file.blob (c.in_ok-files.ensures.opened inode file below at) }
+begin_life-requires g c = record {
+  opened = c.in_ok-files.ensures.opened;
+  named = all_named c.in_ok-tree.tree c.in_ok-files.files c.in_ok-tree.ensures.counts c.in_ok-files.ensures.counted;
+}
 
 pub invariant_of-self-in-Break-branch-2 : goal.invariant_of-self-in-Break-branch-2
 invariant_of-self-in-Break-branch-2 g c =
     let fs = c.args.self.now in
-    record { opened = opened_store fs.store c.find_names.new.self fs.files c.find_names.ensures.still fs.opened }
+    record {
+      opened = opened_store fs.store c.find_names.new.self fs.files c.find_names.ensures.still fs.opened;
+      named = named_store fs.store c.find_names.new.self fs.files c.find_names.ensures.names fs.named;
+    }
 
 pub returns-clause-fixes : goal.returns-clause-fixes
 returns-clause-fixes g c =
-    let files = c.in_ok-files.files in
-    fixes_found c.args.self.now c.begin_life.new.self files c.begin_life.ensures.numbers c.begin_life.ensures.files
-    (c.begin_life.ensures.whole (whole_after c.reopen_all.new.store c.renew.new.self files c.renew.ensures.still c.in_ok-files.ensures.whole))
+    let done = c.in_ok-begin_life.ensures in
+    fixes_found c.args.self.now c.begin_life.new.self c.in_ok-files.files done.numbers done.files (done.whole c.in_ok-files.ensures.whole)

@@ -1,6 +1,7 @@
-use Rattle.std.proofs.Common.{◌≤◌, arith}
+use Rattle.std.proofs.Common.{◌≤◌, ◌∙◌, arith}
 use Rattle.blob_fs.specs.declared.file_system.FileSystem.{FileSystem}
 use Rattle.blob_fs.proofs.Fixed.{contents_self, fixed_after, fixed_twice, fixed_without, opened_store, opened_without}
+use Rattle.blob_fs.proofs.Named.{named_store, named_without}
 use Rattle.blob_fs.proofs.file_system.FileSystem.remove_file.Goals as goal
 
 pub returns-clause-journal : goal.returns-clause-journal
@@ -10,12 +11,14 @@ pub invariant_of-self : goal.invariant_of-self
 invariant_of-self g c = record {
   opened = opened_without c.set_config.new.self c.remove_file.new.self c.args.self.now.files c.remove.new.self c.args.inode c.remove.ensures.updates c.remove_file.ensures.still
       (opened_store c.args.self.now.store c.set_config.new.self c.args.self.now.files c.set_config.ensures.still c.args.self.now.opened);
+  named = named_without c.args.self.now.store c.remove_file.new.self c.args.self.now.files c.remove.new.self c.args.inode c.remove.ensures.updates
+      (c.remove_file.ensures.names ∙ c.set_config.ensures.names) c.requires.unnamed c.args.self.now.named;
 }
 
 pub returns-clause-fixed : goal.returns-clause-fixed
 returns-clause-fixed g c =
     let fs = c.args.self.now in
-    let ready : FileSystem g.row.R.Denot = record fs { store = c.set_config.new.self; opened = opened_store fs.store c.set_config.new.self fs.files c.set_config.ensures.still fs.opened } in
+    let ready : FileSystem g.row.R.Denot = record fs { store = c.set_config.new.self; opened = opened_store fs.store c.set_config.new.self fs.files c.set_config.ensures.still fs.opened; named = named_store fs.store c.set_config.new.self fs.files c.set_config.ensures.names fs.named } in
     let more : fs.next_inode ≤ fs.next_inode = omega arith in
     fixed_twice fs ready _
     (fixed_after fs ready more (contents_self fs.files) c.set_config.ensures.still)

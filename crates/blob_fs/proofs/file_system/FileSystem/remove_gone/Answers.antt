@@ -12,10 +12,10 @@ loop-i-init g c = record {
 
 pub loop-i-preserved : goal.loop-i-preserved
 loop-i-preserved g c = record {
-  names = c.remove_file.ensures.names ∙ c.loop-i.invariant.names;
-  journal = c.settling.ensures.twice c.args.self.now.store c.loop-i.self.store c.remove_file.new.self.store c.loop-i.invariant.journal c.remove_file.ensures.journal;
-  told = c.remove_file.ensures.told ∙ c.loop-i.invariant.told;
-  fixed = fixed_twice c.args.self.now c.loop-i.self c.remove_file.new.self c.loop-i.invariant.fixed c.remove_file.ensures.fixed;
+  names = c.remove_unlinked.ensures.names ∙ c.loop-i.invariant.names;
+  journal = c.settling.ensures.twice c.args.self.now.store c.loop-i.self.store c.remove_unlinked.new.self.store c.loop-i.invariant.journal c.remove_unlinked.ensures.journal;
+  told = c.remove_unlinked.ensures.told ∙ c.loop-i.invariant.told;
+  fixed = fixed_twice c.args.self.now c.loop-i.self c.remove_unlinked.new.self c.loop-i.invariant.fixed c.remove_unlinked.ensures.fixed;
 }
 
 pub returns-clause-fixed : goal.returns-clause-fixed

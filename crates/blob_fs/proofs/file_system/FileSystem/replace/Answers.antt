@@ -1,3 +1,19 @@
+use Rattle.std.proofs.Common.{◌≡◌, ℕ, Some, pred, subst, sym}
+use Rattle.std.specs.BTreeMap.{BTreeMap, get}
+use Rattle.std.specs.Ordering.{nat_cmp}
+use Rattle.blob_directory.specs.Counts.{NamedAtMost}
+use Rattle.blob_directory.specs.Names.{file}
+use Rattle.blob_fs.specs.declared.file_system.File as fs_file
+use Rattle.blob_fs.specs.Named.{links_in}
+use Rattle.blob_fs.proofs.Naming.{file_is}
+use Rattle.std.proofs.Common.{ap, ◌∙◌}
+use Rattle.blob_directory.specs.declared.table.Table.{Table}
+use Rattle.blob_directory.specs.Tables.{bound}
+use Rattle.blob_fs.specs.Files.{names_of}
+use Rattle.blob_fs.proofs.Named.{one_replaced}
+use Rattle.blob_fs.specs.declared.file_system.FileSystem.{FileSystem}
+use Rattle.blob_fs.specs.Fixed.{IsFixed}
+use Rattle.blob_fs.proofs.file_system.FileSystem.replace.Goals.{in-File, in-Directory}
 use Rattle.blob_fs.proofs.file_system.FileSystem.replace.Goals as goal
 
 pub returns-in_err-move_name-clause-fixed : goal.returns-in_err-move_name-clause-fixed
@@ -5,5 +21,26 @@ returns-in_err-move_name-clause-fixed g c = λ inode at byte below f. c.move_nam
 
 pub returns-clause-fixed : goal.returns-clause-fixed
 returns-clause-fixed g c = λ inode at byte below f.
-    let last = c.drop_link.ensures.fixed inode at byte below (c.move_name.ensures.fixed inode at byte below (c.flush_by_profile.ensures.fixed inode at byte below f)) in
-    record { numbered = last.numbered; synced = last.synced; fixed = last.fixed }
+    let moved = c.move_name.ensures.fixed inode at byte below (c.flush_by_profile.ensures.fixed inode at byte below f) in
+    elim c.match-was.branch [
+      | in-File w ↦ subst (λ (fs : FileSystem g.row.R.Denot). IsFixed fs inode at byte) (sym w.self-is) (w.drop_link.ensures.fixed inode at byte below moved)
+      | in-Directory w ↦ subst (λ (fs : FileSystem g.row.R.Denot). IsFixed fs inode at byte) (sym w.self-is) (record { numbered = moved.numbered; synced = moved.synced; fixed = moved.fixed })
+    ]
+
+pub move_name-requires : goal.move_name-requires
+move_name-requires g c =
+    record {
+      bound = ap (λ (t : Table). bound t c.args.from.0.items) c.flush_by_profile.ensures.names ∙ c.requires.bound;
+    }
+
+pub drop_link-requires : goal.drop_link-requires
+drop_link-requires g c =
+    let two = c.flush_by_profile.new.self in
+    let three = c.move_name.new.self in
+    let was = c.args.was in
+    let is = file_is was c.in-File.is in
+    let taken : names_of two c.args.to.0.items ≡ Some (file was.inode) = ap (λ (t : Table). bound t c.args.to.0.items) c.flush_by_profile.ensures.names ∙ c.requires.taken ∙ ap Some is in
+    record {
+      fewer = subst (λ (m : BTreeMap ℕ fs_file.File). ∥ NamedAtMost (names_of three) was.inode (pred (links_in (get nat_cmp m was.inode))) ∥₁) (sym c.move_name.ensures.files.files)
+          (one_replaced (names_of two) (names_of three) two.files c.args.from.0.items c.args.to.0.items c.args.moved was.inode taken (λ e. c.requires.differ (is ∙ e)) c.in_ok-move_name.ensures.made two.named);
+    }

@@ -1,6 +1,7 @@
 use Rattle.std.proofs.Common.{refl, true}
 use Rattle.blob_fs.specs.declared.file_system.File.{File}
 use Rattle.blob_fs.proofs.Fixed.{opened_none, opened_through}
+use Rattle.blob_fs.proofs.Named.{at_most_self, named_none, named_through}
 use Rattle.blob_fs.proofs.file_system.FileSystem.set_truncated.Goals as goal
 
 pub invariant_of-self : goal.invariant_of-self
@@ -10,7 +11,11 @@ invariant_of-self g c =
     let now : File = record was { is_truncated = true } in
     record {
       opened = opened_through fs.store fs.files (c.get_mut.follows.lender now) c.args.inode was now c.in-Some.ensures.value (c.get_mut.follows.holds now) (record { blob = refl; synced = refl; truncations = refl }) fs.opened;
+      named = named_through fs.store fs.files (c.get_mut.follows.lender now) c.args.inode was now c.in-Some.ensures.value (c.get_mut.follows.holds now) (at_most_self _) fs.named;
     }
 
 pub invariant_of-self-in_default : goal.invariant_of-self-in_default
-invariant_of-self-in_default g c = record { opened = opened_none c.args.self.now.store c.args.self.now.files _ c.get_mut.follows.holds-at-none c.args.self.now.opened }
+invariant_of-self-in_default g c = record {
+  opened = opened_none c.args.self.now.store c.args.self.now.files _ c.get_mut.follows.holds-at-none c.args.self.now.opened;
+  named = named_none c.args.self.now.store c.args.self.now.files _ c.get_mut.follows.holds-at-none c.args.self.now.named;
+}

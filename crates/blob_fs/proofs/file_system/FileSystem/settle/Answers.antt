@@ -7,6 +7,7 @@ use Rattle.blob_fs.specs.Fixed.{ListsFiles}
 use Rattle.blob_fs.proofs.Calls.{always_ok, on_ok}
 use Rattle.blob_fs.proofs.Fixed.{contents_self, fixed_after, fixed_twice, opened_store}
 use Rattle.blob_fs.proofs.Syncing.{done_after, done_all, done_more, seen_same, seen_twice}
+use Rattle.blob_fs.proofs.Named.{named_store}
 use Rattle.blob_fs.proofs.file_system.FileSystem.settle.Goals as goal
 
 pub loop-inode-init : goal.loop-inode-init
@@ -26,7 +27,10 @@ loop-inode-init g c = record {
 pub invariant_of-self : goal.invariant_of-self
 invariant_of-self g c =
     let one = c.begin_call.new.self in
-    record { opened = opened_store one.store c.set_config.new.self one.files c.set_config.ensures.still one.opened }
+    record {
+      opened = opened_store one.store c.set_config.new.self one.files c.set_config.ensures.still one.opened;
+      named = named_store one.store c.set_config.new.self one.files c.set_config.ensures.names one.named;
+    }
 
 pub loop-inode-preserved : goal.loop-inode-preserved
 loop-inode-preserved g c = record {

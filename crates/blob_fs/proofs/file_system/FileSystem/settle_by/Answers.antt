@@ -1,6 +1,7 @@
 use Rattle.std.proofs.Common.{◌≤◌, arith}
 use Rattle.blob_fs.proofs.Fixed.{contents_self, fixed_after, fixed_twice, opened_store}
 use Rattle.blob_fs.proofs.Settling.{settles_then}
+use Rattle.blob_fs.proofs.Named.{named_store}
 use Rattle.blob_fs.proofs.file_system.FileSystem.settle_by.Goals as goal
 
 pub returns-clause-settled : goal.returns-clause-settled
@@ -10,7 +11,10 @@ pub returns-clause-some : goal.returns-clause-some
 returns-clause-some g c = settles_then _ _ _ c.settle.ensures.some c.remove_gone.ensures.told
 
 pub invariant_of-self : goal.invariant_of-self
-invariant_of-self g c = record { opened = opened_store c.args.self.now.store c.settle.new.self c.args.self.now.files c.settle.ensures.still c.args.self.now.opened }
+invariant_of-self g c = record {
+  opened = opened_store c.args.self.now.store c.settle.new.self c.args.self.now.files c.settle.ensures.still c.args.self.now.opened;
+  named = named_store c.args.self.now.store c.settle.new.self c.args.self.now.files c.settle.ensures.names c.args.self.now.named;
+}
 
 pub returns-clause-fixed : goal.returns-clause-fixed
 returns-clause-fixed g c =

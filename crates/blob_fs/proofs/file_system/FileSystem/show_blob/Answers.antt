@@ -3,16 +3,23 @@ use Rattle.std.specs.BTreeMap.{BTreeMap}
 use Rattle.blob_fs.specs.declared.file_system.File.{File}
 use Rattle.blob_fs.proofs.Fixed.{Sets, contents_same, contents_through, contents_twice, fixed_after, opened_none, opened_through, sets_through, still_same}
 use Rattle.blob_fs.proofs.Syncing.{seen_same, seen_set}
+use Rattle.blob_fs.proofs.Named.{at_most_self, named_none, named_through}
+use Rattle.std.proofs.Common.{◌∙◌}
+use Rattle.blob_fs.proofs.Named.{links_kept, links_through}
 use Rattle.blob_fs.proofs.file_system.FileSystem.show_blob.Goals as goal
 
 pub invariant_of-self : goal.invariant_of-self
-invariant_of-self g c = record { opened = opened_none c.args.self.now.store c.args.self.now.files c.get_mut.follows.lender-at-none c.get_mut.follows.holds-at-none c.args.self.now.opened }
+invariant_of-self g c = record {
+  opened = opened_none c.args.self.now.store c.args.self.now.files c.get_mut.follows.lender-at-none c.get_mut.follows.holds-at-none c.args.self.now.opened;
+  named = named_none c.args.self.now.store c.args.self.now.files c.get_mut.follows.lender-at-none c.get_mut.follows.holds-at-none c.args.self.now.named;
+}
 
 pub invariant_of-self-2 : goal.invariant_of-self-2
 invariant_of-self-2 g c =
     let new : File = record c.in-Some.file.now { shown = None } in
     record {
       opened = opened_through c.args.self.now.store c.args.self.now.files (c.get_mut.follows.lender new) c.args.inode c.in-Some.file.now new c.in-Some.ensures.value (c.get_mut.follows.holds new) (record { blob = refl; synced = refl; truncations = refl }) c.args.self.now.opened;
+      named = named_through c.args.self.now.store c.args.self.now.files (c.get_mut.follows.lender new) c.args.inode c.in-Some.file.now new c.in-Some.ensures.value (c.get_mut.follows.holds new) (at_most_self _) c.args.self.now.named;
     }
 
 pub returns-clause-fixed : goal.returns-clause-fixed
@@ -38,3 +45,14 @@ returns-clause-seen g c =
 
 pub returns-in_default-clause-seen : goal.returns-in_default-clause-seen
 returns-in_default-clause-seen g c = seen_same c.args.self.now _ c.get_mut.follows.holds-at-none
+
+pub returns-clause-links : goal.returns-clause-links
+returns-clause-links g c = λ inode.
+    let fs = c.args.self.now in
+    let was : File = c.in-Some.file.now in
+    let new : File = record was { shown = None } in
+    links_kept (c.get_mut.follows.lender new) c.count.new.self.files c.count.ensures.files.files inode
+    ∙ links_through fs.files (c.get_mut.follows.lender new) c.args.inode was new c.in-Some.ensures.value (c.get_mut.follows.holds new) refl inode
+
+pub returns-in_default-clause-links : goal.returns-in_default-clause-links
+returns-in_default-clause-links g c = links_kept c.args.self.now.files _ c.get_mut.follows.holds-at-none

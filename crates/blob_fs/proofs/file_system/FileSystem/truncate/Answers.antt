@@ -13,6 +13,7 @@ use Rattle.blob_fs.specs.declared.truncation.Truncation.{Truncation}
 use Rattle.blob_fs.specs.Fixed.{KeepsFixed}
 use Rattle.blob_fs.specs.Files.{descriptor_number}
 use Rattle.blob_fs.proofs.Fixed.{changes_after, changes_again, changes_less, contents_same, contents_through, fixed_after, fixed_twice, keeps_spared, opened_after, opened_changed, opened_none, opened_through, sets_through, still_self, still_twice, synced_kept, synced_more}
+use Rattle.blob_fs.proofs.Named.{links_set, named_after, named_none, named_through, same_at_most}
 use Rattle.blob_fs.proofs.file_system.FileSystem.truncate.Goals as goal
 
 pub returns-in_err-begin_call-clause-fixed : goal.returns-in_err-begin_call-clause-fixed
@@ -40,7 +41,10 @@ returns-then-not-is_failed-clause-fixed g c =
 pub invariant_of-self : goal.invariant_of-self
 invariant_of-self g c =
     let one = c.draw_truncation.new.self in
-    record { opened = opened_none one.store one.files c.get_mut.follows.lender-at-none c.get_mut.follows.holds-at-none one.opened }
+    record {
+      opened = opened_none one.store one.files c.get_mut.follows.lender-at-none c.get_mut.follows.holds-at-none one.opened;
+      named = named_none one.store one.files c.get_mut.follows.lender-at-none c.get_mut.follows.holds-at-none one.named;
+    }
 
 pub returns-in_default-clause-fixed : goal.returns-in_default-clause-fixed
 returns-in_default-clause-fixed g c =
@@ -56,7 +60,10 @@ invariant_of-self-in-Break-branch-6 g c =
     let one = c.draw_truncation.new.self in
     let was = c.in-Some.found.now in
     let new : File = c.reserve_shown.new.self in
-    record { opened = opened_through one.store one.files (c.get_mut.follows.lender new) c.in_ok-inode.inode was new c.in-Some.ensures.value (c.get_mut.follows.holds new) c.reserve_shown.ensures one.opened }
+    record {
+      opened = opened_through one.store one.files (c.get_mut.follows.lender new) c.in_ok-inode.inode was new c.in-Some.ensures.value (c.get_mut.follows.holds new) c.reserve_shown.ensures.content one.opened;
+      named = named_through one.store one.files (c.get_mut.follows.lender new) c.in_ok-inode.inode was new c.in-Some.ensures.value (c.get_mut.follows.holds new) (same_at_most (sym c.reserve_shown.ensures.links)) one.named;
+    }
 
 pub returns-in_err-reserve_shown-clause-fixed : goal.returns-in_err-reserve_shown-clause-fixed
 returns-in_err-reserve_shown-clause-fixed g c =
@@ -68,7 +75,7 @@ returns-in_err-reserve_shown-clause-fixed g c =
     let new : File = c.reserve_shown.new.self in
     λ inode at byte below spared f.
     fixed_after one _ more
-    (contents_through one.files (c.get_mut.follows.lender new) c.in_ok-inode.inode was new c.in-Some.ensures.value (c.get_mut.follows.holds new) c.reserve_shown.ensures)
+    (contents_through one.files (c.get_mut.follows.lender new) c.in_ok-inode.inode was new c.in-Some.ensures.value (c.get_mut.follows.holds new) c.reserve_shown.ensures.content)
     (still_self one.store) inode at byte below (keeps inode at byte below f)
 
 pub invariant_of-self-in-Break-branch-7 : goal.invariant_of-self-in-Break-branch-7
@@ -78,7 +85,8 @@ invariant_of-self-in-Break-branch-7 g c =
     let new : File = record c.reserve_shown.new.self { truncations = c.reserve.new.self } in
     record {
       opened = opened_through one.store one.files (c.get_mut.follows.lender new) c.in_ok-inode.inode was new c.in-Some.ensures.value (c.get_mut.follows.holds new)
-          (record { blob = c.reserve_shown.ensures.blob; synced = c.reserve_shown.ensures.synced; truncations = c.reserve.ensures.items ∙ c.reserve_shown.ensures.truncations }) one.opened;
+          (record { blob = c.reserve_shown.ensures.content.blob; synced = c.reserve_shown.ensures.content.synced; truncations = c.reserve.ensures.items ∙ c.reserve_shown.ensures.content.truncations }) one.opened;
+      named = named_through one.store one.files (c.get_mut.follows.lender new) c.in_ok-inode.inode was new c.in-Some.ensures.value (c.get_mut.follows.holds new) (same_at_most (sym c.reserve_shown.ensures.links)) one.named;
     }
 
 pub returns-in_err-reserve-clause-fixed : goal.returns-in_err-reserve-clause-fixed
@@ -91,7 +99,7 @@ returns-in_err-reserve-clause-fixed g c =
     let new : File = record c.reserve_shown.new.self { truncations = c.reserve.new.self } in
     λ inode at byte below spared f.
     fixed_after one _ more
-    (contents_through one.files (c.get_mut.follows.lender new) c.in_ok-inode.inode was new c.in-Some.ensures.value (c.get_mut.follows.holds new) (record { blob = c.reserve_shown.ensures.blob; synced = c.reserve_shown.ensures.synced; truncations = c.reserve.ensures.items ∙ c.reserve_shown.ensures.truncations }))
+    (contents_through one.files (c.get_mut.follows.lender new) c.in_ok-inode.inode was new c.in-Some.ensures.value (c.get_mut.follows.holds new) (record { blob = c.reserve_shown.ensures.content.blob; synced = c.reserve_shown.ensures.content.synced; truncations = c.reserve.ensures.items ∙ c.reserve_shown.ensures.content.truncations }))
     (still_self one.store) inode at byte below (keeps inode at byte below f)
 
 pub invariant_of-self-in-Break-branch-8 : goal.invariant_of-self-in-Break-branch-8
@@ -101,7 +109,9 @@ invariant_of-self-in-Break-branch-8 g c =
     let new : File = record c.reserve_shown.new.self { truncations = c.reserve.new.self } in
     record {
       opened = opened_after one.store c.record_truncation.new.self one.files (c.get_mut.follows.lender new)
-          (contents_through one.files (c.get_mut.follows.lender new) c.in_ok-inode.inode was new c.in-Some.ensures.value (c.get_mut.follows.holds new) (record { blob = c.reserve_shown.ensures.blob; synced = c.reserve_shown.ensures.synced; truncations = c.reserve.ensures.items ∙ c.reserve_shown.ensures.truncations })) c.record_truncation.ensures.still one.opened;
+          (contents_through one.files (c.get_mut.follows.lender new) c.in_ok-inode.inode was new c.in-Some.ensures.value (c.get_mut.follows.holds new) (record { blob = c.reserve_shown.ensures.content.blob; synced = c.reserve_shown.ensures.content.synced; truncations = c.reserve.ensures.items ∙ c.reserve_shown.ensures.content.truncations })) c.record_truncation.ensures.still one.opened;
+      named = named_after one.store c.record_truncation.new.self one.files (c.get_mut.follows.lender new) c.record_truncation.ensures.names
+          (links_set one.files (c.get_mut.follows.lender new) c.in_ok-inode.inode was new c.in-Some.ensures.value (sets_through one.files (c.get_mut.follows.lender new) c.in_ok-inode.inode was new c.in-Some.ensures.value (c.get_mut.follows.holds new)) (same_at_most (sym c.reserve_shown.ensures.links))) one.named;
     }
 
 pub returns-in_err-edit-clause-fixed : goal.returns-in_err-edit-clause-fixed
@@ -114,7 +124,7 @@ returns-in_err-edit-clause-fixed g c =
     let new : File = record c.reserve_shown.new.self { truncations = c.reserve.new.self } in
     λ inode at byte below spared f.
     fixed_after one _ more
-    (contents_through one.files (c.get_mut.follows.lender new) c.in_ok-inode.inode was new c.in-Some.ensures.value (c.get_mut.follows.holds new) (record { blob = c.reserve_shown.ensures.blob; synced = c.reserve_shown.ensures.synced; truncations = c.reserve.ensures.items ∙ c.reserve_shown.ensures.truncations }))
+    (contents_through one.files (c.get_mut.follows.lender new) c.in_ok-inode.inode was new c.in-Some.ensures.value (c.get_mut.follows.holds new) (record { blob = c.reserve_shown.ensures.content.blob; synced = c.reserve_shown.ensures.content.synced; truncations = c.reserve.ensures.items ∙ c.reserve_shown.ensures.content.truncations }))
     c.record_truncation.ensures.still inode at byte below (keeps inode at byte below f)
 
 pub invariant_of-self-in-Break-branch-9 : goal.invariant_of-self-in-Break-branch-9
@@ -129,9 +139,12 @@ invariant_of-self-in-Break-branch-9 g c =
     changes_less (λ at. at < c.in_ok-reached.reached) spares c.set_config.new.self c.resize_file.new.self c.reserve_shown.new.self.blob c.resize_file.new.file
     (λ at low. omega (arith, low, c.in_ok-reached.ensures.reached)) c.resize_file.ensures.still in
     let changes : ChangesOpen spares one.store was.blob c.resize_file.new.self new.blob =
-    changes_again spares one.store c.resize_file.new.self c.reserve_shown.new.self.blob c.resize_file.new.file was.blob new.blob c.reserve_shown.ensures.blob refl
+    changes_again spares one.store c.resize_file.new.self c.reserve_shown.new.self.blob c.resize_file.new.file was.blob new.blob c.reserve_shown.ensures.content.blob refl
     (changes_after spares one.store c.set_config.new.self c.resize_file.new.self c.reserve_shown.new.self.blob c.resize_file.new.file still resized) in
-    record { opened = opened_changed spares one.store c.resize_file.new.self one.files (c.get_mut.follows.lender new) c.in_ok-inode.inode was new (omega arith) c.in-Some.ensures.value sets changes one.opened }
+    record {
+      opened = opened_changed spares one.store c.resize_file.new.self one.files (c.get_mut.follows.lender new) c.in_ok-inode.inode was new (omega arith) c.in-Some.ensures.value sets changes one.opened;
+      named = named_after one.store c.resize_file.new.self one.files (c.get_mut.follows.lender new) (c.resize_file.ensures.names ∙ c.set_config.ensures.names ∙ c.record_truncation.ensures.names) (links_set one.files (c.get_mut.follows.lender new) c.in_ok-inode.inode was new c.in-Some.ensures.value sets (same_at_most (sym c.reserve_shown.ensures.links))) one.named;
+    }
 
 pub returns-in_err-resize_file-clause-fixed : goal.returns-in_err-resize_file-clause-fixed
 returns-in_err-resize_file-clause-fixed g c =
@@ -147,12 +160,12 @@ returns-in_err-resize_file-clause-fixed g c =
     changes_less (λ at. at < c.in_ok-reached.reached) spares c.set_config.new.self c.resize_file.new.self c.reserve_shown.new.self.blob c.resize_file.new.file
     (λ at low. omega (arith, low, c.in_ok-reached.ensures.reached)) c.resize_file.ensures.still in
     let changes : ChangesOpen spares one.store was.blob c.resize_file.new.self new.blob =
-    changes_again spares one.store c.resize_file.new.self c.reserve_shown.new.self.blob c.resize_file.new.file was.blob new.blob c.reserve_shown.ensures.blob refl
+    changes_again spares one.store c.resize_file.new.self c.reserve_shown.new.self.blob c.resize_file.new.file was.blob new.blob c.reserve_shown.ensures.content.blob refl
     (changes_after spares one.store c.set_config.new.self c.resize_file.new.self c.reserve_shown.new.self.blob c.resize_file.new.file still resized) in
     let opens = ap (λ (m : BTreeMap ℕ ℕ). get nat_cmp m (descriptor_number c.args.file)) (sym c.begin_call.ensures.files.opens) ∙ c.in_ok-inode.ensures in
     let small : c.in_ok-inode.inode < 2 ^ 64 = omega arith in
     keeps_spared fs one _ c.args.file spares c.resize_file.new.self (c.get_mut.follows.lender new) c.in_ok-inode.inode was new opens keeps refl refl refl small c.in-Some.ensures.value sets changes
-    (λ at low is. synced_kept at was new c.reserve_shown.ensures.synced (c.reserve.ensures.items ∙ c.reserve_shown.ensures.truncations) is) one.opened
+    (λ at low is. synced_kept at was new c.reserve_shown.ensures.content.synced (c.reserve.ensures.items ∙ c.reserve_shown.ensures.content.truncations) is) one.opened
 
 pub invariant_of-self-2 : goal.invariant_of-self-2
 invariant_of-self-2 g c =
@@ -166,9 +179,12 @@ invariant_of-self-2 g c =
     changes_less (λ at. at < c.in_ok-reached.reached) spares c.set_config.new.self c.resize_file.new.self c.reserve_shown.new.self.blob c.resize_file.new.file
     (λ at low. omega (arith, low, c.in_ok-reached.ensures.reached)) c.resize_file.ensures.still in
     let changes : ChangesOpen spares one.store was.blob c.resize_file.new.self new.blob =
-    changes_again spares one.store c.resize_file.new.self c.reserve_shown.new.self.blob c.resize_file.new.file was.blob new.blob c.reserve_shown.ensures.blob c.end_truncate-now.ensures.blob
+    changes_again spares one.store c.resize_file.new.self c.reserve_shown.new.self.blob c.resize_file.new.file was.blob new.blob c.reserve_shown.ensures.content.blob c.end_truncate-now.ensures.content.blob
     (changes_after spares one.store c.set_config.new.self c.resize_file.new.self c.reserve_shown.new.self.blob c.resize_file.new.file still resized) in
-    record { opened = opened_changed spares one.store c.resize_file.new.self one.files (c.get_mut.follows.lender new) c.in_ok-inode.inode was new (omega arith) c.in-Some.ensures.value sets changes one.opened }
+    record {
+      opened = opened_changed spares one.store c.resize_file.new.self one.files (c.get_mut.follows.lender new) c.in_ok-inode.inode was new (omega arith) c.in-Some.ensures.value sets changes one.opened;
+      named = named_after one.store c.resize_file.new.self one.files (c.get_mut.follows.lender new) (c.resize_file.ensures.names ∙ c.set_config.ensures.names ∙ c.record_truncation.ensures.names) (links_set one.files (c.get_mut.follows.lender new) c.in_ok-inode.inode was new c.in-Some.ensures.value sets (same_at_most (sym (c.end_truncate-now.ensures.links ∙ c.reserve_shown.ensures.links)))) one.named;
+    }
 
 pub returns-then-is_failed-clause-fixed : goal.returns-then-is_failed-clause-fixed
 returns-then-is_failed-clause-fixed g c =
@@ -184,13 +200,13 @@ returns-then-is_failed-clause-fixed g c =
     changes_less (λ at. at < c.in_ok-reached.reached) spares c.set_config.new.self c.resize_file.new.self c.reserve_shown.new.self.blob c.resize_file.new.file
     (λ at low. omega (arith, low, c.in_ok-reached.ensures.reached)) c.resize_file.ensures.still in
     let changes : ChangesOpen spares one.store was.blob c.resize_file.new.self new.blob =
-    changes_again spares one.store c.resize_file.new.self c.reserve_shown.new.self.blob c.resize_file.new.file was.blob new.blob c.reserve_shown.ensures.blob c.end_truncate-now.ensures.blob
+    changes_again spares one.store c.resize_file.new.self c.reserve_shown.new.self.blob c.resize_file.new.file was.blob new.blob c.reserve_shown.ensures.content.blob c.end_truncate-now.ensures.content.blob
     (changes_after spares one.store c.set_config.new.self c.resize_file.new.self c.reserve_shown.new.self.blob c.resize_file.new.file still resized) in
     let opens = ap (λ (m : BTreeMap ℕ ℕ). get nat_cmp m (descriptor_number c.args.file)) (sym c.begin_call.ensures.files.opens) ∙ c.in_ok-inode.ensures in
     let small : c.in_ok-inode.inode < 2 ^ 64 = omega arith in
     let t : Truncation = record { edit = c.in_ok-edit.edit; length = c.in_ok-reached.reached; next_write = c.next_write-next_write.result } in
-    let synced = c.end_truncate-now.ensures.synced ∙ c.reserve_shown.ensures.synced in
-    let noted = c.end_truncate-now.ensures.truncations ∙ c.push_reserved.ensures.items ∙ ap (λ (l : List Truncation). l ++ t ∷ []) (c.reserve.ensures.items ∙ c.reserve_shown.ensures.truncations) in
+    let synced = c.end_truncate-now.ensures.content.synced ∙ c.reserve_shown.ensures.content.synced in
+    let noted = c.end_truncate-now.ensures.content.truncations ∙ c.push_reserved.ensures.items ∙ ap (λ (l : List Truncation). l ++ t ∷ []) (c.reserve.ensures.items ∙ c.reserve_shown.ensures.content.truncations) in
     keeps_spared fs one c.count.new.self c.args.file spares c.resize_file.new.self (c.get_mut.follows.lender new) c.in_ok-inode.inode was new opens keeps
     c.count.ensures.number c.count.ensures.files.files c.count.ensures.store small c.in-Some.ensures.value sets changes
     (λ at low is. synced_more at was new t synced noted (omega (arith, low, c.in_ok-reached.ensures.reached)) is) one.opened
@@ -209,13 +225,13 @@ returns-clause-fixed g c =
     changes_less (λ at. at < c.in_ok-reached.reached) spares c.set_config.new.self c.resize_file.new.self c.reserve_shown.new.self.blob c.resize_file.new.file
     (λ at low. omega (arith, low, c.in_ok-reached.ensures.reached)) c.resize_file.ensures.still in
     let changes : ChangesOpen spares one.store was.blob c.resize_file.new.self new.blob =
-    changes_again spares one.store c.resize_file.new.self c.reserve_shown.new.self.blob c.resize_file.new.file was.blob new.blob c.reserve_shown.ensures.blob c.end_truncate-now.ensures.blob
+    changes_again spares one.store c.resize_file.new.self c.reserve_shown.new.self.blob c.resize_file.new.file was.blob new.blob c.reserve_shown.ensures.content.blob c.end_truncate-now.ensures.content.blob
     (changes_after spares one.store c.set_config.new.self c.resize_file.new.self c.reserve_shown.new.self.blob c.resize_file.new.file still resized) in
     let opens = ap (λ (m : BTreeMap ℕ ℕ). get nat_cmp m (descriptor_number c.args.file)) (sym c.begin_call.ensures.files.opens) ∙ c.in_ok-inode.ensures in
     let small : c.in_ok-inode.inode < 2 ^ 64 = omega arith in
     let t : Truncation = record { edit = c.in_ok-edit.edit; length = c.in_ok-reached.reached; next_write = c.next_write-next_write.result } in
-    let synced = c.end_truncate-now.ensures.synced ∙ c.reserve_shown.ensures.synced in
-    let noted = c.end_truncate-now.ensures.truncations ∙ c.push_reserved.ensures.items ∙ ap (λ (l : List Truncation). l ++ t ∷ []) (c.reserve.ensures.items ∙ c.reserve_shown.ensures.truncations) in
+    let synced = c.end_truncate-now.ensures.content.synced ∙ c.reserve_shown.ensures.content.synced in
+    let noted = c.end_truncate-now.ensures.content.truncations ∙ c.push_reserved.ensures.items ∙ ap (λ (l : List Truncation). l ++ t ∷ []) (c.reserve.ensures.items ∙ c.reserve_shown.ensures.content.truncations) in
     keeps_spared fs one c.count.new.self c.args.file spares c.resize_file.new.self (c.get_mut.follows.lender new) c.in_ok-inode.inode was new opens keeps
     c.count.ensures.number c.count.ensures.files.files c.count.ensures.store small c.in-Some.ensures.value sets changes
     (λ at low is. synced_more at was new t synced noted (omega (arith, low, c.in_ok-reached.ensures.reached)) is) one.opened
@@ -245,7 +261,7 @@ returns-clause-noted g c =
     let before = c.begin_call.ensures.files in
     let sets = sets_through one.files (c.get_mut.follows.lender new) inode was new c.in-Some.ensures.value (c.get_mut.follows.holds new) in
     let t : Truncation = record { edit = c.in_ok-edit.edit; length = c.in_ok-reached.reached; next_write = c.next_write-next_write.result } in
-    let noted = c.end_truncate-now.ensures.truncations ∙ c.push_reserved.ensures.items ∙ ap (λ (l : List Truncation). l ++ t ∷ []) (c.reserve.ensures.items ∙ c.reserve_shown.ensures.truncations) in
+    let noted = c.end_truncate-now.ensures.content.truncations ∙ c.push_reserved.ensures.items ∙ ap (λ (l : List Truncation). l ++ t ∷ []) (c.reserve.ensures.items ∙ c.reserve_shown.ensures.content.truncations) in
     let added = c.in_ok-edit.ensures.noted in
     let there : file_in fs inode ≡ Some was = ap (λ (m : BTreeMap ℕ File). get nat_cmp m inode) (sym (drawn.files.files ∙ before.files)) ∙ sym c.in-Some.ensures.value in
     let now : file_in c.count.new.self inode ≡ Some new =

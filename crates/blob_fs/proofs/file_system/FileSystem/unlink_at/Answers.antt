@@ -1,7 +1,37 @@
+use Rattle.std.proofs.Common.{◌≡◌, ◌∷◌, [], ℕ, None, Some, ap, pred, subst, sym, ◌∙◌}
+use Rattle.std.specs.BTreeMap.{BTreeMap, get}
+use Rattle.std.specs.Ordering.{nat_cmp}
+use Rattle.blob_directory.specs.Counts.{NamedAtMost}
+use Rattle.blob_directory.specs.Names.{Same, edited, file}
+use Rattle.blob_fs.specs.declared.file_system.File as fs_file
+use Rattle.blob_fs.specs.Named.{links_in}
+use Rattle.blob_fs.proofs.Naming.{file_is}
+use Rattle.blob_fs.specs.Files.{names_of}
+use Rattle.blob_fs.proofs.Named.{edit_is, freed, one_freed}
 use Rattle.blob_fs.proofs.file_system.FileSystem.unlink_at.Goals as goal
 
-pub returns-in_err-make-clause-fixed : goal.returns-in_err-make-clause-fixed
-returns-in_err-make-clause-fixed g c = λ inode at byte below f. c.make.ensures.fixed inode at byte below (c.begin_call.ensures.fixed inode at byte below f)
+pub returns-in_err-make-in-File-clause-fixed : goal.returns-in_err-make-in-File-clause-fixed
+returns-in_err-make-in-File-clause-fixed g c = λ inode at byte below f. c.make.ensures.fixed inode at byte below (c.begin_call.ensures.fixed inode at byte below f)
 
-pub returns-clause-fixed : goal.returns-clause-fixed
-returns-clause-fixed g c = λ inode at byte below f. c.drop_link.ensures.fixed inode at byte below (c.make.ensures.fixed inode at byte below (c.begin_call.ensures.fixed inode at byte below f))
+pub returns-in_ok-make-in-File-clause-fixed : goal.returns-in_ok-make-in-File-clause-fixed
+returns-in_ok-make-in-File-clause-fixed g c = λ inode at byte below f.
+    c.drop_link.ensures.fixed inode at byte below (c.make.ensures.fixed inode at byte below (c.begin_call.ensures.fixed inode at byte below f))
+
+pub make-requires : goal.make-requires
+make-requires g c =
+    let one = c.begin_call.new.self in
+    record {
+      fits = freed (names_of one) _ one.files _ (edit_is (names_of one) _ _ c.one.ensures) one.named;
+    }
+
+pub drop_link-requires : goal.drop_link-requires
+drop_link-requires g c =
+    let one = c.begin_call.new.self in
+    let two = c.make.new.self in
+    let was = c.in_ok-was.was' in
+    let bound : names_of one c.in_ok-entry.entry.items ≡ Some (file was.inode) = ap (names_of one) (sym c.deref.ensures.value) ∙ c.in_ok-was.ensures ∙ ap Some (file_is was c.in-File.is) in
+    let made : Same (names_of two) (edited (names_of one) ((c.in_ok-entry.entry.items, None) ∷ [])) = λ e. c.in_ok-make-in-File.ensures.made e ∙ edit_is (names_of one) _ _ c.one.ensures e in
+    record {
+      fewer = subst (λ (m : BTreeMap ℕ fs_file.File). ∥ NamedAtMost (names_of two) was.inode (pred (links_in (get nat_cmp m was.inode))) ∥₁) (sym c.make.ensures.files.files)
+          (one_freed (names_of one) (names_of two) one.files c.in_ok-entry.entry.items was.inode bound made one.named);
+    }

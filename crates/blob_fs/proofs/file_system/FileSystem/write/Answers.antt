@@ -16,6 +16,7 @@ use Rattle.blob_fs.specs.declared.file_system.Options.{Options}
 use Rattle.blob_fs.specs.Files.{descriptor_number}
 use Rattle.blob_fs.proofs.Calls.{was_ok}
 use Rattle.blob_fs.proofs.Fixed.{changes_again, contents_same, contents_through, fixed_after, fixed_twice, keeps_spared, opened_changed, opened_none, opened_through, sets_through, still_self, synced_kept}
+use Rattle.blob_fs.proofs.Named.{links_set, named_after, named_none, named_through, same_at_most}
 use Rattle.blob_fs.proofs.file_system.FileSystem.write.Goals as goal
 
 pub returns-in_err-begin_call-clause-fixed : goal.returns-in_err-begin_call-clause-fixed
@@ -36,7 +37,10 @@ returns-in_err-how-clause-fixed g c = λ inode at byte below spared f. c.draw_wr
 pub invariant_of-self : goal.invariant_of-self
 invariant_of-self g c =
     let one = c.draw_write.new.self in
-    record { opened = opened_none one.store one.files c.get_mut.follows.lender-at-none c.get_mut.follows.holds-at-none one.opened }
+    record {
+      opened = opened_none one.store one.files c.get_mut.follows.lender-at-none c.get_mut.follows.holds-at-none one.opened;
+      named = named_none one.store one.files c.get_mut.follows.lender-at-none c.get_mut.follows.holds-at-none one.named;
+    }
 
 pub returns-in_default-clause-fixed : goal.returns-in_default-clause-fixed
 returns-in_default-clause-fixed g c =
@@ -51,7 +55,10 @@ invariant_of-self-in-Break-branch-6 g c =
     let one = c.draw_write.new.self in
     let was = c.in-Some.found.now in
     let new : File = c.reserve_shown.new.self in
-    record { opened = opened_through one.store one.files (c.get_mut.follows.lender new) c.in_ok-inode.inode was new c.in-Some.ensures.value (c.get_mut.follows.holds new) c.reserve_shown.ensures one.opened }
+    record {
+      opened = opened_through one.store one.files (c.get_mut.follows.lender new) c.in_ok-inode.inode was new c.in-Some.ensures.value (c.get_mut.follows.holds new) c.reserve_shown.ensures.content one.opened;
+      named = named_through one.store one.files (c.get_mut.follows.lender new) c.in_ok-inode.inode was new c.in-Some.ensures.value (c.get_mut.follows.holds new) (same_at_most (sym c.reserve_shown.ensures.links)) one.named;
+    }
 
 pub returns-in_err-reserve_shown-clause-fixed : goal.returns-in_err-reserve_shown-clause-fixed
 returns-in_err-reserve_shown-clause-fixed g c =
@@ -60,7 +67,7 @@ returns-in_err-reserve_shown-clause-fixed g c =
     let new : File = c.reserve_shown.new.self in
     let more : one.next_inode ≤ one.next_inode = omega arith in
     λ inode at byte below spared f.
-    fixed_after one _ more (contents_through one.files (c.get_mut.follows.lender new) c.in_ok-inode.inode was new c.in-Some.ensures.value (c.get_mut.follows.holds new) c.reserve_shown.ensures)
+    fixed_after one _ more (contents_through one.files (c.get_mut.follows.lender new) c.in_ok-inode.inode was new c.in-Some.ensures.value (c.get_mut.follows.holds new) c.reserve_shown.ensures.content)
     (still_self one.store) inode at byte below (c.draw_write.ensures.drawn.fixed inode at byte below (c.begin_call.ensures.fixed inode at byte below f))
 
 pub invariant_of-self-2 : goal.invariant_of-self-2
@@ -72,8 +79,11 @@ invariant_of-self-2 g c =
     let sets = sets_through one.files (c.get_mut.follows.lender new) c.in_ok-inode.inode was new c.in-Some.ensures.value (c.get_mut.follows.holds new) in
     let changes : ChangesOpen spares one.store was.blob c.write_blob-written.new.store new.blob =
     changes_again spares one.store c.write_blob-written.new.store c.reserve_shown.new.self.blob c.write_blob-written.new.blob was.blob new.blob
-    c.reserve_shown.ensures.blob c.end_write-now.ensures.blob c.write_blob-written.ensures.still in
-    record { opened = opened_changed spares one.store c.write_blob-written.new.store one.files (c.get_mut.follows.lender new) c.in_ok-inode.inode was new (omega arith) c.in-Some.ensures.value sets changes one.opened }
+    c.reserve_shown.ensures.content.blob c.end_write-now.ensures.content.blob c.write_blob-written.ensures.still in
+    record {
+      opened = opened_changed spares one.store c.write_blob-written.new.store one.files (c.get_mut.follows.lender new) c.in_ok-inode.inode was new (omega arith) c.in-Some.ensures.value sets changes one.opened;
+      named = named_after one.store c.write_blob-written.new.store one.files (c.get_mut.follows.lender new) c.write_blob-written.ensures.names (links_set one.files (c.get_mut.follows.lender new) c.in_ok-inode.inode was new c.in-Some.ensures.value sets (same_at_most (sym (c.end_write-now.ensures.links ∙ c.reserve_shown.ensures.links)))) one.named;
+    }
 
 pub returns-in-Ok-clause-recorded : goal.returns-in-Ok-clause-recorded
 returns-in-Ok-clause-recorded g c = λ by_mode.
@@ -99,7 +109,7 @@ returns-in-Ok-clause-recorded g c = λ by_mode.
           ap (λ (j : Journaled g.row.R.Denot). crashed_file j kept inode) c.count.ensures.store
           ∙ ∥∥₁_elim one.opened (Coded-set (coded_option (coded_list coded_ℕ)) _ _) (λ each.
           written.left inode kept
-          (subst (λ (b : FileBlob). IsCurrent one.store inode b) (sym c.reserve_shown.ensures.blob) (each inode found small (sym c.in-Some.ensures.value)).is.current))
+          (subst (λ (b : FileBlob). IsCurrent one.store inode b) (sym c.reserve_shown.ensures.content.blob) (each inode found small (sym c.in-Some.ensures.value)).is.current))
           ∙ ap (option_map (λ x. replay_log x written.entries (chosen_by (table_of kept)))) (c.draw_write.ensures.drawn.crashes.left inode kept ∙ crashes.left inode kept);
     })
 
@@ -112,12 +122,12 @@ returns-in-Ok-clause-fixed g c =
     let sets = sets_through one.files (c.get_mut.follows.lender new) c.in_ok-inode.inode was new c.in-Some.ensures.value (c.get_mut.follows.holds new) in
     let changes : ChangesOpen spares one.store was.blob c.write_blob-written.new.store new.blob =
     changes_again spares one.store c.write_blob-written.new.store c.reserve_shown.new.self.blob c.write_blob-written.new.blob was.blob new.blob
-    c.reserve_shown.ensures.blob c.end_write-now.ensures.blob c.write_blob-written.ensures.still in
+    c.reserve_shown.ensures.content.blob c.end_write-now.ensures.content.blob c.write_blob-written.ensures.still in
     let opens = ap (λ (m : BTreeMap ℕ ℕ). get nat_cmp m (descriptor_number c.args.file)) (sym c.begin_call.ensures.files.opens) ∙ c.in_ok-inode.ensures in
     let small : c.in_ok-inode.inode < 2 ^ 64 = omega arith in
     keeps_spared c.args.self.now one c.count.new.self c.args.file spares c.write_blob-written.new.store (c.get_mut.follows.lender new) c.in_ok-inode.inode was new opens (fixed_twice c.args.self.now c.begin_call.new.self one c.begin_call.ensures.fixed c.draw_write.ensures.drawn.fixed)
     c.count.ensures.number c.count.ensures.files.files c.count.ensures.store small c.in-Some.ensures.value sets changes
-    (λ at s. synced_kept at was new (c.end_write-now.ensures.synced ∙ c.reserve_shown.ensures.synced) (c.end_write-now.ensures.truncations ∙ c.reserve_shown.ensures.truncations)) one.opened
+    (λ at s. synced_kept at was new (c.end_write-now.ensures.content.synced ∙ c.reserve_shown.ensures.content.synced) (c.end_write-now.ensures.content.truncations ∙ c.reserve_shown.ensures.content.truncations)) one.opened
 
 pub returns-in-Err-clause-fixed : goal.returns-in-Err-clause-fixed
 returns-in-Err-clause-fixed g c =
@@ -128,9 +138,9 @@ returns-in-Err-clause-fixed g c =
     let sets = sets_through one.files (c.get_mut.follows.lender new) c.in_ok-inode.inode was new c.in-Some.ensures.value (c.get_mut.follows.holds new) in
     let changes : ChangesOpen spares one.store was.blob c.write_blob-written.new.store new.blob =
     changes_again spares one.store c.write_blob-written.new.store c.reserve_shown.new.self.blob c.write_blob-written.new.blob was.blob new.blob
-    c.reserve_shown.ensures.blob c.end_write-now.ensures.blob c.write_blob-written.ensures.still in
+    c.reserve_shown.ensures.content.blob c.end_write-now.ensures.content.blob c.write_blob-written.ensures.still in
     let opens = ap (λ (m : BTreeMap ℕ ℕ). get nat_cmp m (descriptor_number c.args.file)) (sym c.begin_call.ensures.files.opens) ∙ c.in_ok-inode.ensures in
     let small : c.in_ok-inode.inode < 2 ^ 64 = omega arith in
     keeps_spared c.args.self.now one c.count.new.self c.args.file spares c.write_blob-written.new.store (c.get_mut.follows.lender new) c.in_ok-inode.inode was new opens (fixed_twice c.args.self.now c.begin_call.new.self one c.begin_call.ensures.fixed c.draw_write.ensures.drawn.fixed)
     c.count.ensures.number c.count.ensures.files.files c.count.ensures.store small c.in-Some.ensures.value sets changes
-    (λ at s. synced_kept at was new (c.end_write-now.ensures.synced ∙ c.reserve_shown.ensures.synced) (c.end_write-now.ensures.truncations ∙ c.reserve_shown.ensures.truncations)) one.opened
+    (λ at s. synced_kept at was new (c.end_write-now.ensures.content.synced ∙ c.reserve_shown.ensures.content.synced) (c.end_write-now.ensures.content.truncations ∙ c.reserve_shown.ensures.content.truncations)) one.opened
