@@ -16,3 +16,10 @@ pub mod Named
 pub mod Unreached
 pub mod Syncing
 pub mod Fixing
+pub mod PlaceMaps
+pub mod Needed
+pub mod Numbered
+pub mod Pended
+pub mod Placed
+pub mod Drawn
+pub mod Sizing

@@ -14,6 +14,7 @@ use Rattle.blob_fs.specs.declared.switches.FailedWrite.TheVariants.{ByMode}
 use Rattle.blob_fs.specs.declared.file_system.Descriptor.{Descriptor}
 use Rattle.blob_fs.specs.Bytes.{FindsBytes}
 use Rattle.blob_fs.specs.Fixed.{FindsFixed, FixesFound, KeepsUnreached}
+use Rattle.blob_fs.specs.Places.{FindsPlaces}
 use Rattle.blob_fs.specs.Writes.{RecordsWrite, failed_write_of}
 use Rattle.blob_fs.specs.Files.{AddsTold, FindsKept, FindsTold, GrowsTold, KeepsNames, KeepsTold, MakesEdit, MayResize, MayTruncate, SameNames, SettlesSome, SyncsAll, SyncsDirectory, SyncsFile, fresh_inode, names_of, syncs_of}
 
@@ -111,3 +112,4 @@ pub record RunsAndCrashes {R : Type 0} (fs : FileSystem R) (calls : List Call) (
   pub bytes : FindsBytes between crash fs'
   pub fixed : FindsFixed between fs'
   pub fixes : FixesFound between fs'
+  pub places : FindsPlaces between crash.rows crash.places.items

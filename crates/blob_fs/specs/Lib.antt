@@ -1,4 +1,6 @@
 pub mod Draws
+pub mod Places
+pub mod PlaceMaps
 pub mod Files
 pub mod Truncations
 pub mod Bytes

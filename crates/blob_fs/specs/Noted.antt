@@ -1,8 +1,9 @@
 -- Sizes that calls see, and what a truncation that returned Ok leaves of its file and its edit.
 use Rattle.std.specs.Prelude.{◌≡◌, ◌⊎◌, ℕ, List, [], ◌∷◌, ◌++◌, length, Option, None, Some}
-use Rattle.blob_faulty.specs.Wrapper.{size_of}
+use Rattle.blob_faulty.specs.Wrapper.{next_write_of, size_of}
 use Rattle.blob_directory.specs.Names.{resizes}
 use Rattle.blob_directory.specs.Syncs.{of_truncation}
+use Rattle.blob_journal.specs.Journals.{store_of}
 use Rattle.blob_journal.specs.Settling.{AddsUnsettled}
 use Rattle.blob_fs.specs.declared.file_system.Descriptor.{Descriptor}
 use Rattle.blob_fs.specs.declared.file_system.File.{File}
@@ -27,6 +28,13 @@ pub record HasSize {R : Type 0} (fs : FileSystem R) (file : Descriptor) (n : ℕ
   pub is : IsFile fs file inode was
   pub size : size_read was ≡ n
 
+-- a file shows this size, if its blob has it; the rest of its content is the same
+pub record ShowsSize (n : ℕ) (was now : File) : Type 0 where
+  pub blob : now.blob ≡ was.blob
+  pub synced : now.synced ≡ was.synced
+  pub truncations : now.truncations.items ≡ was.truncations.items
+  pub size : size_of was.blob.blob ≡ n → size_read now ≡ n
+
 -- its truncations that no sync made durable
 abbrev pub truncations_in : Option File → List Truncation
 truncations_in None = []
@@ -35,11 +43,12 @@ truncations_in (Some file) = file.truncations.items
 abbrev pub truncations_of : {R : Type 0} → FileSystem R → ℕ → List Truncation
 truncations_of fs inode = truncations_in (file_in fs inode)
 
--- one more, of this length, by an edit that nothing has settled
+-- one more, of this length, by an edit that nothing has settled, before the write that the store records next
 pub record Notes {R : Type 0} (inode length : ℕ) (fs fs' : FileSystem R) : Type 0 where
   pub truncation : Truncation
   pub long : truncation.length ≡ length
   pub edit : AddsUnsettled (resizes inode) (of_truncation inode) truncation.edit (journaled_of fs) (journaled_of fs')
+  pub next : truncation.next_write ≡ next_write_of (store_of (journaled_of fs'))
   pub noted : truncations_of fs' inode ≡ truncations_of fs inode ++ truncation ∷ []
 
 -- A truncation that returned Ok: the file had this length, or its edit was recorded, and the file notes the edit's number and the length.

@@ -3,6 +3,7 @@ ghost use Rattle.std.specs.Prelude.{◌≡◌, IfOk, OnErr, OnOk, unwrap_or};
 ghost use Rattle.blob_fs.specs.Bytes.{FindsBytes, FindsEdits, HasNoOrphan};
 ghost use Rattle.blob_fs.specs.Fixed.{FindsFixed, FixesFound};
 ghost use Rattle.blob_fs.specs.Files.{FindsKept, FindsTold, GivesNames, GivesTold, IsRecovered, KeepsNames, KeepsTold, SameNames};
+ghost use Rattle.blob_fs.specs.Places.{FindsPlaces};
 
 use crate::error::FsError;
 use crate::file_system::FileSystem;
@@ -49,7 +50,7 @@ impl<R: Rng + Drop> FileSystem<R> {
     /// every descriptor is stale. A file that a name reaches has the bytes that the layer's crash leaves of it, with the
     /// truncations that were kept, cut as the profile says: each byte that a sync fixed, and that no later call reached, is still
     /// there. Each byte that is found is fixed from then on. A file that no name reaches is deleted. Another crash straight after it
-    /// finds the same names.
+    /// finds the same names. Of each row, the place is that of the one pending write with its number.
     ///
     /// # Errors
     ///
@@ -69,6 +70,7 @@ impl<R: Rng + Drop> FileSystem<R> {
         ensures orphans { OnOk result (HasNoOrphan self.new) }
         ensures fixed { OnOk result (FindsFixed self.old self.new) }
         ensures fixes { OnOk result (FixesFound self.old self.new) }
+        ensures places { IfOk result (λ crash. FindsPlaces self.old crash.rows crash.places.items) }
     {
         found();
         blobs::<R>();

@@ -3,6 +3,7 @@ ghost use Rattle.std.specs.Prelude.{◌≡◌};
 ghost use Rattle.blob_fs.specs.Files.{KeepsNames, KeepsTold, SameLinks, SameOpens, journaled_of};
 ghost use Rattle.blob_fs.specs.Fixed.{KeepsFixed, KeepsSeen};
 ghost use Rattle.blob_fs.specs.Named.{links_of};
+ghost use Rattle.blob_fs.specs.Noted.{ShowsSize};
 ghost use Rattle.blob_fs.specs.Open.{SameContent};
 ghost use Rattle.blob_journal.specs.Fixed.{KeepsOpen};
 ghost use Rattle.blob_journal.specs.Keeping.{KeepsTable, KeepsTold as keeps_told};
@@ -88,13 +89,16 @@ impl File {
         }
     }
 
-    /// Shows a truncation that returned Ok. There is capacity for it.
+    /// Shows a truncation that returned Ok. There is capacity for it; if that failed, reads would return the blob's bytes.
     pub(crate) fn show_size(&mut self, length: u64)
-        ensures content { SameContent self.old self.new }
+        ensures content { ShowsSize length self.old self.new }
         ensures links { links_of self.new ≡ links_of self.old }
     {
-        if let Some(shown) = &mut self.shown {
-            let _ = shown.resize(length as usize, 0);
+        let Some(shown) = &mut self.shown else {
+            return;
+        };
+        if shown.resize(length as usize, 0).is_err() {
+            self.shown = None;
         }
     }
 }

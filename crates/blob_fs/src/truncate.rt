@@ -1,9 +1,8 @@
 //! Truncations of open files.
 ghost use Rattle.std.specs.Prelude.{◌≡◌, ◌<◌, OnOk};
 ghost use Rattle.blob_fs.specs.Fixed.{KeepsFixed, KeepsSpared};
-ghost use Rattle.blob_fs.specs.Noted.{NotesTruncation};
 ghost use Rattle.blob_fs.specs.Named.{links_of};
-ghost use Rattle.blob_fs.specs.Open.{SameContent};
+ghost use Rattle.blob_fs.specs.Noted.{HasSize, NotesTruncation, ShowsSize};
 ghost use Rattle.blob_fs.specs.Files.{KeepsNames, KeepsTold, MayTruncate};
 
 use crate::error::FsError;
@@ -16,7 +15,7 @@ use rand_core::Rng;
 impl File {
     /// Shows a truncation, by the number of its edit. Returns the size. There is capacity for it.
     fn end_truncate(&mut self, length: u64, edit: u64) -> u64
-        ensures content { SameContent self.old self.new }
+        ensures content { ShowsSize length self.old self.new }
         ensures links { links_of self.new ≡ links_of self.old }
     {
         self.is_changed = true;
@@ -39,6 +38,7 @@ impl<R: Rng + Drop> FileSystem<R> {
         ensures names { KeepsNames self.old self.new }
         ensures told { MayTruncate file self.old self.new }
         ensures noted { OnOk result (NotesTruncation file length self.old self.new) }
+        ensures size { OnOk result (HasSize self.new file length) }
         ensures fixed { KeepsSpared file (λ at. at < length) self.old self.new }
     {
         self.begin_call()?;
@@ -56,9 +56,9 @@ impl<R: Rng + Drop> FileSystem<R> {
         found.reserve_shown(reached)?;
         found.truncations.reserve(1)?;
         let edit = self.store.record_truncation(inode, rate)?;
-        let next_write = self.store.next_write();
         self.store.set_config(Config::default());
         self.store.resize_file(&mut found.blob, reached)?;
+        let next_write = self.store.next_write();
         found.truncations.push_reserved(Truncation {
             edit,
             length: reached,

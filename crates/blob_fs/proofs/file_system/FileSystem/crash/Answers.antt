@@ -16,6 +16,12 @@ use Rattle.blob_fs.specs.Truncations.{lost_of}
 use Rattle.blob_fs.proofs.Crashed.{finds_byte}
 use Rattle.blob_fs.proofs.Fixed.{opened_store}
 use Rattle.blob_fs.proofs.Named.{named_store}
+use Rattle.std.proofs.Common.{◌≤◌, arith, length}
+use Rattle.blob_draws.specs.Rows.{rows_of}
+use Rattle.blob_journal.specs.Journals.{store_of}
+use Rattle.blob_fs.specs.declared.crash.Place.{Place}
+use Rattle.blob_fs.specs.Places.{FindsPlaces}
+use Rattle.blob_fs.proofs.Drawn.{rows_fit, rows_found}
 use Rattle.blob_fs.proofs.file_system.FileSystem.crash.Goals as goal
 
 pub returns-clause-found : goal.returns-clause-found
@@ -97,3 +103,16 @@ pub returns-clause-fixes : goal.returns-clause-fixes
 returns-clause-fixes g c = λ inode at byte below numbered f.
     let is = c.in-Ok.ensures.fixes inode at byte below numbered (record { bytes = f.bytes; durable = f.durable; read = f.read; has = f.has }) in
     record { numbered = is.numbered; synced = is.synced; fixed = is.fixed }
+
+pub find_places-requires-clause-room : goal.find_places-requires-clause-room
+find_places-requires-clause-room g c =
+    let many : length (rows_of c.in_ok-rows.rows) ≤ length c.in_ok-pending.pending.entries =
+    rows_fit g.R.Rng.stream c.args.self.now (store_of c.crash.new.self) c.in_ok-rows.rows c.in_ok-pending.pending c.in_ok-pending.ensures c.in_ok-rows.ensures.rows in
+    omega (arith, many, c.in_ok-places.ensures.capacity)
+
+pub returns-clause-places : goal.returns-clause-places
+returns-clause-places g c =
+    let fs = c.args.self.now in
+    let rows = c.in_ok-rows.rows in
+    subst (λ (places : List Place). FindsPlaces fs rows places) (sym c.find_places.ensures)
+    (rows_found g.R.Rng.stream fs (store_of c.crash.new.self) rows c.in_ok-pending.pending c.in_ok-pending.ensures c.in_ok-rows.ensures.rows)

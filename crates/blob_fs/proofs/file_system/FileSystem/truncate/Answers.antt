@@ -14,6 +14,12 @@ use Rattle.blob_fs.specs.Fixed.{KeepsFixed}
 use Rattle.blob_fs.specs.Files.{descriptor_number}
 use Rattle.blob_fs.proofs.Fixed.{changes_after, changes_again, changes_less, contents_same, contents_through, fixed_after, fixed_twice, keeps_spared, opened_after, opened_changed, opened_none, opened_through, sets_through, still_self, still_twice, synced_kept, synced_more}
 use Rattle.blob_fs.proofs.Named.{links_set, named_after, named_none, named_through, same_at_most}
+use Rattle.blob_faulty.specs.Wrapper.{next_write_of, size_of}
+use Rattle.blob_journal.specs.Blobs.{ResizesFile}
+use Rattle.blob_journal.specs.Journals.{store_of}
+use Rattle.blob_journal.specs.declared.store.FileBlob.{FileBlob}
+use Rattle.blob_fs.proofs.Sizing.{resized_size}
+use Rattle.std.proofs.Common.{subst}
 use Rattle.blob_fs.proofs.file_system.FileSystem.truncate.Goals as goal
 
 pub returns-in_err-begin_call-clause-fixed : goal.returns-in_err-begin_call-clause-fixed
@@ -284,6 +290,46 @@ returns-clause-noted g c =
           about = added.about;
           number = added.number;
         };
+        next = c.next_write-next_write.ensures ∙ ap (λ j. next_write_of (store_of j)) (sym c.count.ensures.store);
         noted = ap truncations_in now ∙ noted ∙ ap (λ (l : List Truncation). l ++ t ∷ []) (sym (ap truncations_in there));
       });
+    }
+
+pub returns-then-not-is_failed-clause-size : goal.returns-then-not-is_failed-clause-size
+returns-then-not-is_failed-clause-size g c =
+    let has = c.in_ok-size.ensures in
+    let drawn = c.draw_truncation.ensures.drawn.files in
+    record {
+      inode = has.inode;
+      was = has.was;
+      is = record {
+        opened = ap (λ (m : BTreeMap ℕ ℕ). get nat_cmp m (descriptor_number c.args.file)) drawn.opens ∙ has.is.opened;
+        there = ap (λ (m : BTreeMap ℕ File). get nat_cmp m has.inode) drawn.files ∙ has.is.there;
+      };
+      size = has.size ∙ sym c.if-length-size.true;
+    }
+
+pub returns-clause-size : goal.returns-clause-size
+returns-clause-size g c =
+    let one = c.draw_truncation.new.self in
+    let was = c.in-Some.found.now in
+    let new : File = c.end_truncate-now.new.self in
+    let inode = c.in_ok-inode.inode in
+    let reached = c.in_ok-reached.reached in
+    let drawn = c.draw_truncation.ensures.drawn.files in
+    let small : inode < 2 ^ 64 = omega arith in
+    let sets = sets_through one.files (c.get_mut.follows.lender new) inode was new c.in-Some.ensures.value (c.get_mut.follows.holds new) in
+    let still : KeepsOpen one.store c.set_config.new.self = still_twice one.store c.record_truncation.new.self c.set_config.new.self c.record_truncation.ensures.still c.set_config.ensures.still in
+    let resizes : ResizesFile reached c.set_config.new.self was.blob c.resize_file.new.self c.resize_file.new.file =
+    subst (λ (b : FileBlob). ResizesFile reached c.set_config.new.self b c.resize_file.new.self c.resize_file.new.file) c.reserve_shown.ensures.content.blob c.in_ok-resize_file.ensures.resized in
+    let sized : size_of c.resize_file.new.file.blob ≡ reached =
+    resized_size one.store c.set_config.new.self c.resize_file.new.self one.files inode reached was c.resize_file.new.file small (sym c.in-Some.ensures.value) still resizes one.opened in
+    record {
+      inode = inode;
+      was = new;
+      is = record {
+        opened = ap (λ (m : BTreeMap ℕ ℕ). get nat_cmp m (descriptor_number c.args.file)) (c.count.ensures.files.opens ∙ drawn.opens) ∙ c.in_ok-inode.ensures;
+        there = ap (λ (m : BTreeMap ℕ File). get nat_cmp m inode) c.count.ensures.files.files ∙ sets inode ∙ cond-true (is_eq (nat_cmp inode inode)) (Some new) (get nat_cmp one.files inode) (key_self inode);
+      };
+      size = c.end_truncate-now.ensures.content.size sized ∙ c.in_ok-reached.ensures.whole c.if-is_failed.false;
     }
