@@ -19,7 +19,6 @@ use Rattle.blob_journal.specs.Keeping.{Edits, KeepsTable, SameBindings, names_in
 use Rattle.blob_fs.specs.declared.file_system.FileSystem.{FileSystem}
 use Rattle.blob_fs.specs.Bytes.{file_in}
 use Rattle.blob_fs.specs.Files.{file_of, names_of, shown}
-use Rattle.blob_fs.specs.Fixed.{FindsFixed, FindsNamed}
 use Rattle.blob_fs.specs.Named.{AllNamed, links_in, links_of}
 use Rattle.blob_fs.proofs.Fixed.{Sets, sets_through, some_same}
 use Rattle.blob_fs.proofs.Recovering.{key_is}
@@ -220,10 +219,3 @@ some_is (Some f) n = by f.is_gone n
 pub named_there : {R : Type 0} (fs : FileSystem R) (name : List ℕ) (inode : ℕ) → names_of fs name ≡ Some (file inode) → is_some (file_of fs inode) ≡ true
 named_there fs name inode is = ∥∥₁_elim fs.named (Coded-set coded_bool _ true)
     (λ each. some_is (file_in fs inode) (λ none. unnamed (names_of fs) inode _ (sym none) (each inode) name is))
-
-is_file_in : (o : Option of_fs.File) → is_some (option_and_then shown o) ≡ true → is_some o ≡ true
-is_file_in None e = absurd (false≢true e)
-is_file_in (Some f) e = refl
-
-pub named_found : {R : Type 0} (fs fs' : FileSystem R) → FindsFixed fs fs' → FindsNamed fs fs'
-named_found fs fs' finds was name inode at byte below is now fixed = finds name inode at byte below now (is_file_in (file_in fs inode) (named_there fs was inode is)) fixed

@@ -22,7 +22,7 @@ use Rattle.blob_fs.specs.declared.truncations.Loss.{Loss}
 use Rattle.blob_fs.specs.declared.file_system.File.{File}
 use Rattle.blob_fs.specs.declared.file_system.FileSystem.{FileSystem}
 use Rattle.blob_fs.specs.Files.{file_of, journaled_of, names_of, shown}
-use Rattle.blob_fs.specs.Bytes.{HasBytes, HasNoOrphan, HasOnlyLinked, IsLeft, Reopens, ReopensAll, ReopensIn, bytes_read, left_after}
+use Rattle.blob_fs.specs.Bytes.{HasBytes, HasNoOrphan, HasOnlyKnown, HasOnlyLinked, IsLeft, Reopens, ReopensAll, ReopensIn, bytes_read, left_after}
 
 -- Keys of a map.
 
@@ -147,6 +147,13 @@ module _ {R : Type 0} (j : Journaled R) (old : BTreeMap ℕ File) (tree : Tree) 
 pub only_more : (tree : Tree) (before after : BTreeMap ℕ File) (k : ℕ) (new : File) → Updates nat_cmp before after k (Some new) → has_link tree k ≡ true → HasOnlyLinked tree before → HasOnlyLinked tree after
 only_more tree before after k new u linked h i there = ⊎_elim
     (λ y. subst (λ x. has_link tree x ≡ true) (key_is k i y) linked)
+    (λ n. h i (ap is_some (sym (u.2 i n)) ∙ there))
+    (cases_Bool (is_at (nat_cmp k) i))
+
+-- and one that an earlier map has
+pub known_more : (old before after : BTreeMap ℕ File) (k : ℕ) (new : File) → Updates nat_cmp before after k (Some new) → is_some (get nat_cmp old k) ≡ true → HasOnlyKnown old before → HasOnlyKnown old after
+known_more old before after k new u known h i there = ⊎_elim
+    (λ y. subst (λ x. is_some (get nat_cmp old x) ≡ true) (key_is k i y) known)
     (λ n. h i (ap is_some (sym (u.2 i n)) ∙ there))
     (cases_Bool (is_at (nat_cmp k) i))
 

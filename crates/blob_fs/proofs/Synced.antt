@@ -8,6 +8,7 @@ use Rattle.blob_fs.specs.Bytes.{HasBytes, bytes_found, bytes_left, common_length
 use Rattle.blob_fs.specs.Truncations.{cut_start, truncated}
 use Rattle.blob_fs.specs.Synced.{SyncedIsFound}
 use Rattle.blob_fs.proofs.Cutting.{uncut}
+use Rattle.blob_fs.proofs.Fixed.{some_same}
 
 -- a file of which exactly the seen bytes are found isn't cut
 
@@ -31,7 +32,7 @@ synced_is_found R fs fs' crash name inode bytes below finds synced named =
     let lost = lost_by fs crash in
     let was = synced.was in
     let f = finds name inode below named in
-    let same : f.bytes ≡ bytes = sym (f.is bytes (synced.left crash.rows)) in
+    let same : f.bytes ≡ bytes = some_same (sym f.was ∙ synced.left crash.rows) in
     let whole : bytes_found fs kept lost inode bytes ≡ bytes =
     ap (λ (old : Option File). found_of kept lost inode old bytes) synced.at
     ∙ ap (λ (ts : List Truncation). truncated kept lost inode ts bytes) synced.whole in

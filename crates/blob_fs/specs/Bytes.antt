@@ -76,12 +76,10 @@ pub record HasBytes {R : Type 0} (fs : FileSystem R) (inode : ℕ) (found bytes 
 abbrev pub IsFound : Option (List ℕ) → List ℕ → Type 0
 IsFound left found = (bytes : List ℕ) → left ≡ Some bytes → bytes ≡ found
 
--- The file has its blob's bytes, if it had a blob, with the kept truncations, cut as the profile says. A file that was there
--- had one.
+-- the file has the bytes that were left of its blob, with the kept truncations, cut as the profile says
 pub record FindsFile {R : Type 0} (fs : FileSystem R) (kept : Kept) (lost : List ℕ) (left : Option (List ℕ)) (inode : ℕ) (fs' : FileSystem R) : Type 0 where
   pub bytes : List ℕ
-  pub is : IsFound left bytes
-  pub was : is_some (file_in fs inode) ≡ true → left ≡ Some bytes
+  pub was : left ≡ Some bytes
   pub has : HasBytes fs' inode (bytes_found fs kept lost inode bytes) (bytes_left fs lost inode (bytes_found fs kept lost inode bytes))
 
 -- the rows and places by which truncations are applied: those of the last crash, if its recovery failed
@@ -104,6 +102,10 @@ lost_by fs crash = lost_of (unsettled_numbers fs) crash.edits.items
 abbrev pub FindsBytes : {R : Type 0} → FileSystem R → Crash → FileSystem R → Type 0
 FindsBytes fs crash fs' = (name : List ℕ) (inode : ℕ) → inode < 2 ^ 64 → names_of fs' name ≡ Some (file inode)
     → FindsFile fs (kept_by fs crash) (lost_by fs crash) (crashed_file fs crash.rows inode) inode fs'
+
+-- the file system had each file that a name reaches
+abbrev pub FindsKnown : {R : Type 0} → FileSystem R → FileSystem R → Type 0
+FindsKnown fs fs' = (name : List ℕ) (inode : ℕ) → inode < 2 ^ 64 → names_of fs' name ≡ Some (file inode) → is_some (file_in fs inode) ≡ true
 
 -- there is no file that no name reaches
 abbrev pub HasNoOrphan : {R : Type 0} → FileSystem R → Type 0
@@ -189,6 +191,10 @@ pub record ReopensIn {R : Type 0} (j : Journaled R) (inode : ℕ) (old : BTreeMa
 -- each file that the tree counts is
 abbrev pub ReopensAll : {R : Type 0} → Journaled R → BTreeMap ℕ File → Tree → Kept → Loss → Journaled R → BTreeMap ℕ File → Type 0
 ReopensAll {R} j old tree kept loss j' files = (inode : ℕ) → inode < 2 ^ 64 → has_link tree inode ≡ true → ReopensIn j inode old kept loss j' files
+
+-- each file of a map was in an earlier one
+abbrev pub HasOnlyKnown : BTreeMap ℕ File → BTreeMap ℕ File → Type 0
+HasOnlyKnown old files = (inode : ℕ) → is_some (get nat_cmp files inode) ≡ true → is_some (get nat_cmp old inode) ≡ true
 
 -- it counts each file of a map
 abbrev pub HasOnlyLinked : Tree → BTreeMap ℕ File → Type 0

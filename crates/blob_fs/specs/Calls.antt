@@ -12,7 +12,7 @@ use Rattle.blob_fs.specs.declared.run.Call.TheVariants as call
 use Rattle.blob_fs.specs.declared.switches.Syncs.TheVariants.{Honest}
 use Rattle.blob_fs.specs.declared.switches.FailedWrite.TheVariants.{ByMode}
 use Rattle.blob_fs.specs.declared.file_system.Descriptor.{Descriptor}
-use Rattle.blob_fs.specs.Bytes.{FindsBytes}
+use Rattle.blob_fs.specs.Bytes.{FindsBytes, FindsKnown}
 use Rattle.blob_fs.specs.Fixed.{FindsFixed, FixesFound, KeepsUnreached}
 use Rattle.blob_fs.specs.Places.{FindsPlaces}
 use Rattle.blob_fs.specs.Writes.{RecordsWrite, failed_write_of}
@@ -110,6 +110,7 @@ pub record RunsAndCrashes {R : Type 0} (fs : FileSystem R) (calls : List Call) (
   pub kept : FindsKept between crash.rows fs'
   pub finds : FindsTold between fs'
   pub bytes : FindsBytes between crash fs'
+  pub known : FindsKnown between fs'
   pub fixed : FindsFixed between fs'
   pub fixes : FixesFound between fs'
   pub places : FindsPlaces between crash.rows crash.places.items

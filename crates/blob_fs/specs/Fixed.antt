@@ -92,22 +92,14 @@ pub record FindsByte {R : Type 0} (fs : FileSystem R) (inode at byte : ℕ) : Ty
   pub read : option_map bytes_read (file_of fs inode) ≡ Some bytes
   pub has : has_byte at byte bytes ≡ true
 
--- each fixed byte of a file that was there is found, if a name reaches the file
+-- each fixed byte of a file that a name reaches is found
 abbrev pub FindsFixed : {R : Type 0} → FileSystem R → FileSystem R → Type 0
 FindsFixed fs fs' = (name : List ℕ) (inode at byte : ℕ) → inode < 2 ^ 64 → names_of fs' name ≡ Some (file inode)
-    → is_some (file_in fs inode) ≡ true → IsFixed fs inode at byte → FindsByte fs' inode at byte
-
--- the same of a file that a name of before reached
-abbrev pub FindsNamed : {R : Type 0} → FileSystem R → FileSystem R → Type 0
-FindsNamed fs fs' = (was name : List ℕ) (inode at byte : ℕ) → inode < 2 ^ 64 → names_of fs was ≡ Some (file inode) → names_of fs' name ≡ Some (file inode)
     → IsFixed fs inode at byte → FindsByte fs' inode at byte
 
--- Laws: the file of each name exists, so a crash finds its fixed bytes.
+-- Law: the file of each name exists.
 abbrev pub NamedIsThere : Type 0 → Type 0
 NamedIsThere R = (fs : FileSystem R) (name : List ℕ) (inode : ℕ) → names_of fs name ≡ Some (file inode) → is_some (file_of fs inode) ≡ true
-
-abbrev pub NamedIsFound : Type 0 → Type 0
-NamedIsFound R = (fs fs' : FileSystem R) → FindsFixed fs fs' → FindsNamed fs fs'
 
 -- all that calls see of a file's blob is fixed
 abbrev pub AllFixed : {R : Type 0} → Journaled R → FileBlob → Type 0

@@ -1,6 +1,6 @@
 //! The crash, and the recovery after it.
 ghost use Rattle.std.specs.Prelude.{◌≡◌, IfOk, OnErr, OnOk, unwrap_or};
-ghost use Rattle.blob_fs.specs.Bytes.{FindsBytes, FindsEdits, HasNoOrphan};
+ghost use Rattle.blob_fs.specs.Bytes.{FindsBytes, FindsEdits, FindsKnown, HasNoOrphan};
 ghost use Rattle.blob_fs.specs.Fixed.{FindsFixed, FixesFound};
 ghost use Rattle.blob_fs.specs.Files.{FindsKept, FindsTold, GivesNames, GivesTold, IsRecovered, KeepsNames, KeepsTold, SameNames};
 ghost use Rattle.blob_fs.specs.Places.{FindsPlaces};
@@ -55,7 +55,8 @@ impl<R: Rng + Drop> FileSystem<R> {
     /// # Errors
     ///
     /// `Memory`. If the layer's crash ran out, nothing has changed. If the recovery did, all other calls return `Crashed` until a
-    /// crash returns Ok, which applies truncations by the writes that this one kept.
+    /// crash returns Ok, which applies truncations by the writes that this one kept. `Closed` if a name reaches a file that the file
+    /// system has no more, which no call leaves.
     pub fn crash(&mut self) -> Result<Crash, FsError>
         ensures found { IfOk result (λ crash. FindsKept self.old crash.rows self.new) }
         ensures gives { OnOk result (GivesNames self.new) }
@@ -66,6 +67,7 @@ impl<R: Rng + Drop> FileSystem<R> {
         ensures told { OnOk result (GivesTold self.new) }
         ensures untold { OnErr result (KeepsTold self.old self.new) }
         ensures bytes { IfOk result (λ crash. FindsBytes self.old crash self.new) }
+        ensures known { OnOk result (FindsKnown self.old self.new) }
         ensures edits { IfOk result (λ crash. FindsEdits self.old crash) }
         ensures orphans { OnOk result (HasNoOrphan self.new) }
         ensures fixed { OnOk result (FindsFixed self.old self.new) }

@@ -1,5 +1,5 @@
 //! Laws about the bytes of files.
-ghost use Rattle.blob_fs.specs.Fixed.{NamedIsFound, NamedIsThere};
+ghost use Rattle.blob_fs.specs.Fixed.{NamedIsThere};
 ghost use Rattle.blob_fs.specs.Synced.{SyncedIsFound};
 ghost use Rattle.blob_fs.specs.Unreached.{UnreachedStaysFixed};
 
@@ -8,10 +8,9 @@ pub fn synced_files<R>()
     ensures found { SyncedIsFound R }
 {}
 
-/// The file of each name that calls see exists. If a crash finds a name of it, it finds each fixed byte of the file.
+/// The file of each name that calls see exists.
 pub fn named_files<R>()
-    ensures there { NamedIsThere R }
-    ensures found { NamedIsFound R }
+    ensures { NamedIsThere R }
 {}
 
 /// A byte that is fixed stays so through a list of calls none of which reaches it. A crash after them leaves it (`FindsFixed`),

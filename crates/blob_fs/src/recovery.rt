@@ -1,10 +1,10 @@
 //! The recovery: the names from the journal, and the files from their blobs.
-ghost use Rattle.std.specs.Prelude.{◌≡◌, Some, IfOk, OnOk, OnErr, length, min};
+ghost use Rattle.std.specs.Prelude.{◌≡◌, Some, IfOk, OnOk, OnErr, is_some, length, min, true};
 ghost use Rattle.std.specs.BTreeMap.{Updates, get};
 ghost use Rattle.std.specs.Ordering.{nat_cmp};
 ghost use Rattle.blob_directory.specs.Checkpoints.{FitsJournal};
 ghost use Rattle.blob_directory.specs.Tables.{bound};
-ghost use Rattle.blob_fs.specs.Bytes.{ChangesOnly, CutsFile, CutsFrom, CutsTo, HasNoOrphan, HasOnlyLinked, KeepsBlobsOf, OpensLeft, RecoversBytes, Reopens, ReopensAll, Rewrites, Truncates, kept_length as length_kept};
+ghost use Rattle.blob_fs.specs.Bytes.{ChangesOnly, CutsFile, CutsFrom, CutsTo, FindsKnown, HasNoOrphan, HasOnlyKnown, HasOnlyLinked, KeepsBlobsOf, OpensLeft, RecoversBytes, Reopens, ReopensAll, Rewrites, Truncates, kept_length as length_kept};
 ghost use Rattle.blob_fs.specs.Truncations.{lost_of};
 ghost use Rattle.blob_fs.specs.Fixed.{AllFixed, AreWhole, FixesFound, IsWhole};
 ghost use Rattle.blob_fs.specs.Open.{AllOpen, MayChange};
@@ -173,8 +173,9 @@ fn cut<R: Rng + Drop>(
     cut_from(store, blob, &old.blob, start)
 }
 
-/// Opens the blob of a file after a crash. If the file was there, its kept truncations are applied, and it is cut if the profile
-/// does. Returns it with the size that was found: after the truncations, before the cut.
+/// Opens the blob of a file after a crash, applies its kept truncations, and cuts it if the profile does. Returns it with the size
+/// that was found: after the truncations, before the cut. Refuses a file that the file system didn't have before the crash with
+/// `Closed`: it keeps each file of which a crash may find a name, which isn't proved.
 fn open_cut<R: Rng + Drop>(
     store: &mut Journaled<R>,
     inode: u64,
@@ -186,16 +187,16 @@ fn open_cut<R: Rng + Drop>(
     ensures told { keeps_told store.old store.new }
     ensures files { KeepsFiles (store_of store.old) (store_of store.new) }
     ensures left { IfOk result (λ r. OpensLeft store.old inode old.now kept.now loss.now store.new r.0 r.1) }
+    ensures known { OnOk result (is_some (get nat_cmp old.now inode) ≡ true) }
     ensures others { OnOk result (SameFilesBut inode store.old store.new) }
     ensures handles { KeepsHandles store.old store.new }
     ensures still { OnOk result (KeepsOpenBut inode store.old store.new) }
 {
     blobs::<R>();
-    let mut blob = store.open_file(inode)?;
     let Some(was) = old.get(&inode) else {
-        let found = blob.size();
-        return Ok((blob, found));
+        return Err(Error::Closed);
     };
+    let mut blob = store.open_file(inode)?;
     truncate_left(store, &mut blob, inode, was, kept, loss)?;
     let found = blob.size();
     cut(store, &mut blob, was, loss)?;
@@ -214,6 +215,7 @@ fn open_left<R: Rng + Drop>(
     ensures told { keeps_told store.old store.new }
     ensures files { KeepsFiles (store_of store.old) (store_of store.new) }
     ensures left { IfOk result (λ r. OpensLeft store.old inode old.now kept.now loss.now store.new r.0 r.1) }
+    ensures known { OnOk result (is_some (get nat_cmp old.now inode) ≡ true) }
     ensures others { OnOk result (SameFilesBut inode store.old store.new) }
     ensures handles { KeepsHandles store.old store.new }
     ensures still { OnOk result (KeepsOpenBut inode store.old store.new) }
@@ -238,6 +240,7 @@ fn reopen<R: Rng + Drop>(
     ensures told { keeps_told store.old store.new }
     ensures files { KeepsFiles (store_of store.old) (store_of store.new) }
     ensures left { IfOk result (λ file. Reopens store.old inode old.now kept.now loss.now store.new file) }
+    ensures known { OnOk result (is_some (get nat_cmp old.now inode) ≡ true) }
     ensures others { OnOk result (SameFilesBut inode store.old store.new) }
     ensures handles { KeepsHandles store.old store.new }
     ensures still { OnOk result (KeepsOpenBut inode store.old store.new) }
@@ -273,6 +276,7 @@ fn reopen_all<R: Rng + Drop>(
     ensures told { keeps_told store.old store.new }
     ensures files { KeepsFiles (store_of store.old) (store_of store.new) }
     ensures left { IfOk result (λ files. ReopensAll store.old old.now tree.now kept.now loss.now store.new files) }
+    ensures known { IfOk result (HasOnlyKnown old.now) }
     ensures linked { IfOk result (HasOnlyLinked tree.now) }
     ensures opened { IfOk result (AllOpen store.new) }
     ensures handles { KeepsHandles store.old store.new }
@@ -332,6 +336,7 @@ impl<R: Rng + Drop> FileSystem<R> {
         ensures told { OnOk result (GivesTold self.new) }
         ensures untold { OnErr result (KeepsTold self.old self.new) }
         ensures bytes { IfOk result (λ e. RecoversBytes kept.now (lost_of numbers.now e.items) self.old self.new) }
+        ensures known { OnOk result (FindsKnown self.old self.new) }
         ensures edits { IfOk result (λ e. FindsEdits (journaled_of self.old) (keeps_of self.old) e.items) }
         ensures orphans { OnOk result (HasNoOrphan self.new) }
         ensures opened { OnOk result (AllOpen (journaled_of self.new) self.new.files) }

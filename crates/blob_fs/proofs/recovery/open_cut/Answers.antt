@@ -18,23 +18,6 @@ pub returns-clause-files : goal.returns-clause-files
 returns-clause-files g c = λ r.
     c.cut.ensures.files (c.truncate_left.ensures.given c.in_ok-blob.ensures.given) (c.truncate_left.ensures.files c.in_ok-blob.ensures.given (c.in_ok-blob.ensures.files r))
 
-pub returns-in_default-clause-left : goal.returns-in_default-clause-left
-returns-in_default-clause-left g c =
-    let o = c.in_ok-blob.ensures.opened in
-    let inode = c.args.inode in
-    let kept = c.args.kept.now in
-    let loss = c.args.loss.now in
-    let none : get nat_cmp c.args.old.now inode ≡ None = search rules in
-    let left : (x : Option File) → x ≡ None → HasDurable c.open_file.new.self inode c.in_ok-blob.blob (left_after kept loss inode x o.bytes) =
-    λ x e. subst (λ (y : Option File). HasDurable c.open_file.new.self inode c.in_ok-blob.blob (left_after kept loss inode y o.bytes)) (sym e) o.has in
-    record {
-      bytes = o.bytes;
-      is = o.found;
-      has = left (get nat_cmp c.args.old.now inode) none;
-      size = c.size-found.ensures ∙ o.has.seen.size
-          ∙ ap (λ (y : Option File). length (found_after kept loss inode y o.bytes)) (sym none);
-    }
-
 pub returns-clause-left : goal.returns-clause-left
 returns-clause-left g c =
     let o = c.in_ok-blob.ensures.opened in
@@ -50,7 +33,7 @@ returns-clause-left g c =
       bytes = o.bytes;
       is = o.found;
       has = subst (λ (x : Option File). HasDurable c.cut.new.store inode c.cut.new.blob (left_after kept loss inode x o.bytes)) (sym there) left;
-      size = c.size-found-2.ensures ∙ truncated.seen.size ∙ ap (λ (x : Option File). length (found_after kept loss inode x o.bytes)) (sym there);
+      size = c.size-found.ensures ∙ truncated.seen.size ∙ ap (λ (x : Option File). length (found_after kept loss inode x o.bytes)) (sym there);
     }
 
 pub returns-clause-others : goal.returns-clause-others
@@ -67,9 +50,6 @@ returns-clause-others g c = λ other below apart.
 pub returns-in_err-blob-clause-handles : goal.returns-in_err-blob-clause-handles
 returns-in_err-blob-clause-handles g c = c.open_file.ensures.still.still
 
-pub returns-in_default-clause-handles : goal.returns-in_default-clause-handles
-returns-in_default-clause-handles g c = c.open_file.ensures.still.still
-
 pub returns-in_err-truncate_left-clause-handles : goal.returns-in_err-truncate_left-clause-handles
 returns-in_err-truncate_left-clause-handles g c = λ inode file h. c.truncate_left.ensures.handles inode file (c.open_file.ensures.still.still inode file h)
 
@@ -78,9 +58,6 @@ returns-in_err-cut-clause-handles g c = λ inode file h. c.cut.ensures.handles i
 
 pub returns-clause-handles : goal.returns-clause-handles
 returns-clause-handles g c = λ inode file h. c.cut.ensures.handles inode file (c.truncate_left.ensures.handles inode file (c.open_file.ensures.still.still inode file h))
-
-pub returns-in_default-clause-still : goal.returns-in_default-clause-still
-returns-in_default-clause-still g c = but_keeps c.args.inode c.args.store.now c.open_file.new.self c.open_file.ensures.still
 
 pub returns-clause-still : goal.returns-clause-still
 returns-clause-still g c =

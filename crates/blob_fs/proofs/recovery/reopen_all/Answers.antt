@@ -4,7 +4,7 @@ use Rattle.std.proofs.lemmas.Map.Iter.{rest_all, rest_more}
 use Rattle.blob_journal.specs.Fixed.{IsOpen}
 use Rattle.blob_fs.proofs.Counting.{CountsAllBut, counts_all, counts_more}
 use Rattle.blob_fs.proofs.Fixing.{open_more, whole_more}
-use Rattle.blob_fs.proofs.Recovering.{AreLinked, Ascend, Stands, ascend_rest, ends, linked_first, linked_rest, only_more, takes}
+use Rattle.blob_fs.proofs.Recovering.{AreLinked, Ascend, Stands, ascend_rest, ends, known_more, linked_first, linked_rest, only_more, takes}
 use Rattle.blob_fs.proofs.recovery.reopen_all.Goals as goal
 
 pub loop-inode-preserved : goal.loop-inode-preserved
@@ -34,6 +34,7 @@ loop-inode-preserved g c =
       linked = only_more tree c.loop-inode.files c.put.new.files k c.in_ok-file.file c.in_ok-put.ensures (linked_first tree k links rest counted) i.linked;
       opened = open_more c.loop-inode.store c.reopen.new.store c.loop-inode.files c.put.new.files k file c.in_ok-put.ensures.0 c.in_ok-file.ensures.still i.opened own;
       whole = whole_more c.loop-inode.store c.reopen.new.store c.loop-inode.files c.put.new.files k file c.in_ok-put.ensures.0 c.in_ok-file.ensures.still i.opened i.whole c.in_ok-file.ensures.whole;
+      known = known_more old c.loop-inode.files c.put.new.files k c.in_ok-file.file c.in_ok-put.ensures c.in_ok-file.ensures.known i.known;
       counts = counts_more tree k links rest (subst Ascend is i.ascend) c.loop-inode.files c.put.new.files file c.in_ok-put.ensures.0 c.in_ok-file.ensures.links c.in_ok-file.ensures.left.left.there
           (subst (λ (l : List (ℕ × ℕ)). CountsAllBut tree l c.loop-inode.files) is i.counts);
     }

@@ -3,7 +3,7 @@ use Rattle.blob_journal.specs.Currents.{KeepsFiles}
 use Rattle.blob_journal.specs.Fixed.{KeepsHandles}
 use Rattle.blob_journal.specs.Journals.{store_of}
 use Rattle.blob_journal.specs.Keeping.{table_in, told_in}
-use Rattle.blob_fs.specs.Bytes.{HasOnlyLinked}
+use Rattle.blob_fs.specs.Bytes.{HasOnlyKnown, HasOnlyLinked}
 use Rattle.blob_fs.specs.Fixed.{AreWhole}
 use Rattle.blob_fs.specs.Open.{AllOpen}
 use Rattle.blob_fs.proofs.Counting.{CountsAllBut}
@@ -22,5 +22,6 @@ invariant-loop-inode g l = record {
   linked : HasOnlyLinked l.tree l.files;
   opened : AllOpen l.store l.files;
   whole : AreWhole l.store l.files;
+  known : HasOnlyKnown l.old l.files;
   counts : CountsAllBut l.tree l.inode-iterator l.files;
 }

@@ -14,7 +14,7 @@ use Rattle.blob_fs.specs.declared.truncation.Kept.{Kept}
 use Rattle.blob_fs.specs.Bytes.{HasBytes, bytes_found, bytes_left, unsettled_numbers}
 use Rattle.blob_fs.specs.Truncations.{lost_of}
 use Rattle.blob_fs.proofs.Crashed.{finds_byte}
-use Rattle.blob_fs.proofs.Fixed.{opened_store}
+use Rattle.blob_fs.proofs.Fixed.{opened_store, some_same}
 use Rattle.blob_fs.proofs.Named.{named_store}
 use Rattle.std.proofs.Common.{◌≤◌, arith, length}
 use Rattle.blob_draws.specs.Rows.{rows_of}
@@ -62,8 +62,7 @@ returns-clause-bytes g c = λ name inode below named.
     let b : leaves (unwrap_or fs.kept own) (unsettled_numbers fs) = subst (λ (n : List ℕ). leaves (unwrap_or fs.kept own) n) numbers (subst (λ (k : Kept). leaves k c.deref.result.now) used has) in
     record {
       bytes = d.bytes;
-      is = λ bytes is. d.is bytes (c.in_ok-rows.ensures.bytes inode ∙ is);
-      was = λ there. sym (c.in_ok-rows.ensures.bytes inode) ∙ d.was there;
+      was = sym (c.in_ok-rows.ensures.bytes inode) ∙ d.was;
       has = record { durable = b.durable; read = b.read; synced = b.synced; size = b.size };
     }
 
@@ -74,16 +73,17 @@ pub returns-clause-orphans : goal.returns-clause-orphans
 returns-clause-orphans g c = λ inode none. c.in-Ok.ensures.orphans inode none
 
 pub returns-clause-fixed : goal.returns-clause-fixed
-returns-clause-fixed g c = λ name inode at byte below named there f.
+returns-clause-fixed g c = λ name inode at byte below named f.
     let fs = c.args.self.now in
     let crashed = c.crash.new.self in
     let still = c.in_ok-rows.ensures.still in
     let d = c.in-Ok.ensures.bytes name inode below named in
+    let there = c.in-Ok.ensures.known name inode below named in
     record {
       bytes = _;
       durable = d.has.durable;
       read = d.has.read;
-      has = finds_byte c.blobs.ensures.durable crashed inode d.bytes d.is c.fixed.ensures at byte fs.options.profile.cuts c.used.result.now (lost_of c.deref.result.now c.in-Ok.edits.items) fs.files below
+      has = finds_byte c.blobs.ensures.durable crashed inode d.bytes (λ bytes e. some_same (sym e ∙ d.was)) c.fixed.ensures at byte fs.options.profile.cuts c.used.result.now (lost_of c.deref.result.now c.in-Ok.edits.items) fs.files below
           (opened_store fs.store crashed fs.files still fs.opened) there f.synced (λ was here. still.fixed was.blob at byte (f.fixed was here));
     }
 
@@ -116,3 +116,6 @@ returns-clause-places g c =
     let rows = c.in_ok-rows.rows in
     subst (λ (places : List Place). FindsPlaces fs rows places) (sym c.find_places.ensures)
     (rows_found g.R.Rng.stream fs (store_of c.crash.new.self) rows c.in_ok-pending.pending c.in_ok-pending.ensures c.in_ok-rows.ensures.rows)
+
+pub returns-clause-known : goal.returns-clause-known
+returns-clause-known g c = λ name inode below named. c.in-Ok.ensures.known name inode below named

@@ -10,6 +10,7 @@ use Rattle.blob_directory.specs.Trees.{has_link}
 use Rattle.std.proofs.Common.{ℕ}
 use Rattle.std.specs.BTreeMap.{BTreeMap, get}
 use Rattle.std.specs.Ordering.{nat_cmp}
+use Rattle.std.specs.Prelude.{is_some}
 use Rattle.std.proofs.Common.{Bool, List, Option}
 use Rattle.blob_journal.specs.Blobs.{current_file}
 use Rattle.blob_fs.specs.Bytes.{HasBytes, HasOnlyLinked, IsFound, IsLeft, bytes_found, bytes_left, file_in}
@@ -64,11 +65,17 @@ returns-clause-bytes g c = λ name inode below named.
     let left : IsLeft new.store inode l.file _ _ = left_stays c.blobs.ensures.stays opened new.store inode l.file _ _ same l.left in
     record {
       bytes = d.bytes;
-      is = found;
-      was = found_is c.blobs.ensures.durable fs.store inode d.bytes found fs.files below fs.opened;
+      was = found_is c.blobs.ensures.durable fs.store inode d.bytes found fs.files below fs.opened (c.in_ok-files.ensures.known inode (ap is_some l.at));
       has = subst (λ (n : List ℕ). HasBytes new inode (bytes_found fs kept n inode d.bytes) (bytes_left fs n inode (bytes_found fs kept n inode d.bytes))) lost
           (has_bytes c.blobs.ensures.found c.blobs.ensures.reads new inode _ _ l.file (ap (λ (m : BTreeMap ℕ File). get nat_cmp m inode) c.in_ok-begin_life.ensures.files ∙ l.at) left);
     }
+
+pub returns-clause-known : goal.returns-clause-known
+returns-clause-known g c = λ name inode below named.
+    let tree = c.in_ok-tree.tree in
+    let taken : table_of c.begin_life.new.self ≡ tree.names = c.in_ok-begin_life.ensures.names in
+    let linked : has_link tree inode ≡ true = c.in_ok-tree.ensures.links name inode (ap (λ (t : Table). bound t name) (sym taken) ∙ named) in
+    c.in_ok-files.ensures.known inode (ap is_some (c.in_ok-files.ensures.left inode below linked).left.at)
 
 pub returns-clause-orphans : goal.returns-clause-orphans
 returns-clause-orphans g c =
