@@ -14,3 +14,5 @@ pub mod Blobs
 pub mod Telling
 pub mod Writes
 pub mod Fixed
+pub mod Limits
+pub mod Ready

@@ -31,7 +31,7 @@ generator_in j = rng_of j.store
 
 -- with another generator; all else stays
 abbrev pub with_generator : {R : Type 0} → Journaled R → R → Journaled R
-with_generator j rng = record j { store = with_rng j.store rng; current = j.current; given = j.given; kept = with_kept j.store rng j.journal j.unsettled.items j.kept }
+with_generator j rng = record j { store = with_rng j.store rng; current = j.current; given = j.given; accepted = j.accepted; kept = with_kept j.store rng j.journal j.unsettled.items j.kept }
 
 -- nothing has happened to the names
 abbrev pub KeepsTable : {R : Type 0} → Journaled R → Journaled R → Type 0

@@ -10,3 +10,5 @@ pub mod Incarnations
 pub mod Settling
 pub mod Writes
 pub mod Fixed
+pub mod Limits
+pub mod Errors

@@ -1,6 +1,6 @@
 //! The blobs of files, beside the journal. Each call says, whatever it returns, which open files stay open, and which of their
 //! bytes that no crash changes stay so.
-ghost use Rattle.std.specs.Prelude.{◌≡◌, ◌<◌, IfOk, OnOk, length};
+ghost use Rattle.std.specs.Prelude.{◌≡◌, ◌≢◌, ◌<◌, ◌≤◌, ◌-◌, ◌^◌, IfOk, OnErr, OnOk, length};
 ghost use Rattle.blob_memory.specs.Store.{place};
 ghost use Rattle.blob_memory.specs.Contents.{items_of};
 ghost use Rattle.blob_faulty.specs.Wrapper.{inside, size_of};
@@ -32,6 +32,7 @@ fn number_of<R: Rng>(blob: &Handle) -> u64
 impl<R: Rng + Drop> Journaled<R> {
     ghost use Rattle.blob_journal.specs.Blobs.{ChangesFile, FixesFile, OpensFile, ResizesFile, SameFiles, SameFilesBut, SyncsFile, WritesFile, bytes_of};
     ghost use Rattle.blob_journal.specs.Currents.{IsGiven, KeepsFiles};
+    ghost use Rattle.blob_journal.specs.Errors.{FailsAtLimits, IsFaultless, IsReady, KeepsAllReady, KeepsReady, TracksSize};
     ghost use Rattle.blob_journal.specs.Fixed.{ChangesOpen, FixesOpen, IsBeside, KeepsHandles, KeepsOpen, KeepsOpenBut, ReopensFile};
     ghost use Rattle.blob_journal.specs.Journals.{GivesNames, HasFile, KeepsFile, KeepsFilesOf, KeepsGiven, durable_file, store_of};
     ghost use Rattle.blob_journal.specs.Keeping.{KeepsTable, KeepsTold, NotesOpened};
@@ -42,7 +43,7 @@ impl<R: Rng + Drop> Journaled<R> {
     ///
     /// # Errors
     ///
-    /// Those of the layer's open.
+    /// Those of the layer's open. If no fault rate is set, none but `Memory`, `GenerationsExhausted` and `OffsetOverflow`.
     pub fn open_file(&mut self, inode: u64) -> Result<FileBlob, Error>
         ensures names { KeepsTable self.old self.new }
         ensures told { KeepsTold self.old self.new }
@@ -52,6 +53,8 @@ impl<R: Rng + Drop> Journaled<R> {
         ensures others { OnOk result (SameFilesBut inode self.old self.new) }
         ensures still { KeepsOpen self.old self.new }
         ensures reopened { IfOk result (λ file. ReopensFile self.old inode self.new file) }
+        ensures ready { IsFaultless self.old → IfOk result (IsReady self.new) }
+        ensures errors { IsFaultless self.old → FailsAtLimits result }
     {
         let (blob, _) = open(&mut self.store, FILES, &inode.to_be_bytes())?;
         self.note(&blob);
@@ -85,13 +88,15 @@ impl<R: Rng + Drop> Journaled<R> {
     fn note(&mut self, blob: &Handle)
         requires { IsGiven (store_of self.old) (place (inside blob.now)) }
         ensures noted { NotesOpened self.old self.new }
+        ensures known { (place (inside blob.now)).number ≢ 2 ^ 64 - 1 → (place (inside blob.now)).number < self.new.opened }
     {
         self.opened = self.opened.max(number_of::<R>(blob).saturating_add(1));
     }
 
     /// Refuses a blob with a number that this store hasn't given.
     fn check(&self, file: &FileBlob) -> Result<(), Error>
-        ensures { OnOk result (HasFile self.now file.now) }
+        ensures given { OnOk result (HasFile self.now file.now) }
+        ensures refused { OnErr result (self.now.opened ≤ (place (inside file.now.blob)).number) }
     {
         if number_of::<R>(&file.blob) >= self.opened {
             return Err(Error::Closed);
@@ -119,7 +124,8 @@ impl<R: Rng + Drop> Journaled<R> {
     ///
     /// # Errors
     ///
-    /// Those of the layer's read, and `Memory`.
+    /// Those of the layer's read, and `Memory`. If no fault rate is set and its size is that of its bytes, none but `Memory`,
+    /// `GenerationsExhausted` and `OffsetOverflow`.
     pub fn read_whole(&mut self, file: &FileBlob) -> Result<Vec<u8>, Error>
         ensures names { KeepsTable self.old self.new }
         ensures told { KeepsTold self.old self.new }
@@ -128,6 +134,8 @@ impl<R: Rng + Drop> Journaled<R> {
         ensures bytes { IfOk result (λ bytes. bytes.items ≡ bytes_of file.now) }
         ensures same { OnOk result (SameFiles self.old self.new) }
         ensures still { KeepsOpen self.old self.new }
+        ensures ready { KeepsAllReady self.old self.new }
+        ensures errors { IsFaultless self.old → TracksSize file.now → FailsAtLimits result }
     {
         let size = file.size();
         read_all(self.alloc, &mut self.store, &file.blob, size)
@@ -183,6 +191,8 @@ impl<R: Rng + Drop> Journaled<R> {
         ensures recorded { OnOk result (RecordsWrite offset bytes.now self.old file.old self.new file.new) }
         ensures still { ChangesOpen (IsBeside offset (length bytes.now)) self.old file.old self.new file.new }
         ensures handles { KeepsHandles self.old self.new }
+        ensures ready { KeepsReady self.old file.old self.new file.new }
+        ensures errors { IsReady self.old file.old → FailsAtLimits result }
     {
         self.check(file)?;
         leaves::other_blobs::<blob_memory::Storage, R>();
@@ -210,6 +220,8 @@ impl<R: Rng + Drop> Journaled<R> {
         ensures same { OnOk result (SameFiles self.old self.new) }
         ensures still { ChangesOpen (λ at. at < length) self.old file.old self.new file.new }
         ensures handles { KeepsHandles self.old self.new }
+        ensures ready { KeepsReady self.old file.old self.new file.new }
+        ensures errors { IsReady self.old file.old → FailsAtLimits result }
     {
         self.check(file)?;
         leaves::other_blobs::<blob_memory::Storage, R>();
@@ -235,6 +247,8 @@ impl<R: Rng + Drop> Journaled<R> {
         ensures still { ChangesOpen (λ at. Unit) self.old file.old self.new file.new }
         ensures handles { KeepsHandles self.old self.new }
         ensures fixes { OnOk result (FixesOpen self.old file.old self.new file.new) }
+        ensures ready { KeepsReady self.old file.old self.new file.new }
+        ensures errors { IsReady self.old file.old → FailsAtLimits result }
     {
         self.check(file)?;
         leaves::other_blobs::<blob_memory::Storage, R>();

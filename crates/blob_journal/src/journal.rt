@@ -13,6 +13,7 @@ ghost use Rattle.blob_journal.specs.Currents.{BeginsAs, FindsNoMore, FindsNoMore
 ghost use Rattle.blob_journal.specs.Draws.{DrawsSectors};
 ghost use Rattle.blob_journal.specs.Found.{HasSectors};
 ghost use Rattle.blob_journal.specs.Keeping.{bytes_in, told_by, with_sector};
+ghost use Rattle.blob_journal.specs.Limits.{AcceptsOpens, DrawsNothing, FailsAtLimits, KeepsAccepted, SameFaults};
 ghost use Rattle.blob_journal.specs.Settling.{Changes, with_settled};
 
 use crate::store::{Handle, JOURNALS, Store, open, read_all};
@@ -77,6 +78,9 @@ impl Journal {
         ensures next { KeepsNext store.old store.new }
         ensures blobs { OnOk result (KeepsPartition (codes "f") store.old store.new) }
         ensures incarnations { KeepsIncarnations store.old store.new }
+        ensures accepted { KeepsAccepted store.old store.new }
+        ensures faults { SameFaults store.old store.new }
+        ensures errors { DrawsNothing store.old → AcceptsOpens (directory (inner_of store.old)) → FailsAtLimits result }
     {
         let (blob, size) = open(store, JOURNALS, &generation.to_be_bytes())?;
         let bytes = read_all(alloc, store, &blob, size)?;
@@ -176,6 +180,7 @@ impl Journal {
         ensures sectors { OnOk result (self.new.sectors ≡ length bytes.now / 1024) }
         ensures left { FindsNoMoreBut (place (inside self.old.blob)) store.old store.new }
         ensures only { OnOk result (ChangesOnly (place (inside self.old.blob)) store.old store.new) }
+        ensures errors { DrawsNothing store.old → is_current (directory (inner_of store.old)) (place (inside self.old.blob)) ≡ true → FailsAtLimits result }
     {
         writes::<blob_memory::Storage, R, blob_memory::Blob>();
         recorded::<blob_memory::Storage, R>();

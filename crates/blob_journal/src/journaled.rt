@@ -5,6 +5,7 @@ ghost use Rattle.blob_model.specs.Directory.{is_current};
 ghost use Rattle.blob_memory.specs.Store.{directory, place};
 ghost use Rattle.blob_faulty.specs.Wrapper.{inner_of, inside};
 ghost use Rattle.blob_journal.specs.Found.{IsKept};
+ghost use Rattle.blob_journal.specs.Limits.{AcceptsOpens};
 
 use crate::journal::Journal;
 use crate::store::Store;
@@ -30,6 +31,8 @@ pub struct Journaled<R> {
     ghost current: { is_current (directory (inner_of store)) (place (inside journal.blob)) ≡ true },
     // the numbers up to there were given in this store
     ghost given: { opened ≤ (directory (inner_of store)).next },
+    // no open declines a file, and none has the last number
+    ghost accepted: { AcceptsOpens (directory (inner_of store)) },
     // of the journal's blob no more may be found than its sectors, each whole or lost, the settled ones always,
     // and each edit that nothing settled has a sector of its own, in order
     ghost kept: { ∥ IsKept store journal unsettled.items ∥₁ },

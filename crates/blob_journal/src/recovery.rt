@@ -21,6 +21,7 @@ use std::collections::BTreeMap;
 impl<R: Rng + Drop> Journaled<R> {
     ghost use Rattle.blob_journal.specs.Blobs.{SameFiles};
     ghost use Rattle.blob_journal.specs.Currents.{KeepsFiles, Represents};
+    ghost use Rattle.blob_journal.specs.Errors.{FailsAtLimits, IsFaultless};
     ghost use Rattle.blob_journal.specs.Fixed.{KeepsOpen};
     ghost use Rattle.blob_journal.specs.Journals.{FindsNames, GivesNames, store_of};
     ghost use Rattle.blob_journal.specs.Settling.{FindsEdits, KeepsUnsettled, counted, unsettled_of};
@@ -47,6 +48,8 @@ impl<R: Rng + Drop> Journaled<R> {
         ensures counts { IfOk result (λ r. CountsNames r.0) }
         ensures same { OnOk result (SameFiles self.old self.new) }
         ensures still { KeepsOpen self.old self.new }
+        ensures faultless { IsFaultless self.new }
+        ensures errors { FailsAtLimits result }
     {
         self.store.set_config(Config::default());
         let generation = self.journal.generation;
@@ -84,6 +87,7 @@ impl<R: Rng + Drop> Journaled<R> {
         ensures untold { OnErr result (KeepsTold self.old self.new) }
         ensures same { OnOk result (SameFiles self.old self.new) }
         ensures still { KeepsOpen self.old self.new }
+        ensures errors { IsFaultless self.old → FailsAtLimits result }
     {
         leaves::same_bytes::<blob_memory::Storage, R>();
         let old = self.journal.generation;

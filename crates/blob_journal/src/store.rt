@@ -1,10 +1,12 @@
 //! The store below files, and the blob of a file in it.
-ghost use Rattle.std.specs.Prelude.{◌≡◌, codes, length, take, IfOk, None, Some, [], true};
+ghost use Rattle.std.specs.Prelude.{◌≡◌, ◌≤◌, codes, length, take, IfOk, None, Some, [], true};
 ghost use Rattle.blob_model.specs.Directory.{current, is_current};
 ghost use Rattle.blob_model.specs.Places.{Place};
 ghost use Rattle.blob_memory.specs.Store.{directory, durable, live, place};
 ghost use Rattle.blob_faulty.specs.Wrapper.{inner_of, inside, size_of};
 ghost use Rattle.blob_journal.specs.Incarnations.{IsIncarnation, KeepsIncarnations, KeepsOtherBlobs};
+ghost use Rattle.blob_header.specs.PartitionName.{is_partition_name};
+ghost use Rattle.blob_journal.specs.Limits.{AcceptsOpens, DrawsNothing, FailsAtLimits, KeepsAccepted, SameFaults};
 ghost use Rattle.blob_journal.specs.Currents.{FindsNoMore, FindsNoMoreBeside, IsGiven, KeepsBytes, KeepsCurrent, KeepsFiles, KeepsNext, KeepsOthers, KeepsPending, SamePending};
 
 use blob_base::laws::opens::{accepted_opens, numbers_are_given};
@@ -49,6 +51,9 @@ pub(crate) fn open<R: Rng>(
     ensures incarnation { IfOk result (λ r. IsIncarnation store.new partition.now name.now (place (inside r.0))) }
     ensures tracked { IfOk result (λ r. size_of r.0 ≡ length (live (inside r.0))) }
     ensures incarnations { KeepsIncarnations store.old store.new }
+    ensures accepted { KeepsAccepted store.old store.new }
+    ensures faults { SameFaults store.old store.new }
+    ensures errors { DrawsNothing store.old → AcceptsOpens (directory (inner_of store.old)) → is_partition_name partition.now ≡ true → FailsAtLimits result }
 {
     accepted_opens();
     numbers_are_given::<blob_memory::Storage>();
@@ -74,6 +79,7 @@ pub(crate) fn reopen<R: Rng>(
     ensures durable { IfOk result (λ blob. durable (inner_of store.new) (place (inside blob)) ≡ Some (live (inside blob))) }
     ensures tracked { IfOk result (λ blob. size_of blob ≡ length (live (inside blob))) }
     ensures incarnations { KeepsIncarnations store.old store.new }
+    ensures accepted { KeepsAccepted store.old store.new }
 {
     leaves::same_bytes::<blob_memory::Storage, R>();
     let (blob, _) = open(store, partition, name)?;
@@ -94,6 +100,7 @@ pub(crate) fn remove<R: Rng>(
     ensures left { FindsNoMoreBeside partition.now name.now store.old store.new }
     ensures next { KeepsNext store.old store.new }
     ensures others { KeepsOtherBlobs partition.now name.now store.old store.new }
+    ensures accepted { KeepsAccepted store.old store.new }
 {
     leaves::same_bytes::<blob_memory::Storage, R>();
     removals::<blob_memory::Storage, R>();
@@ -114,6 +121,8 @@ pub(crate) fn read_all<R: Rng>(
     ensures files { KeepsFiles store.old store.new }
     ensures pending { SamePending store.old store.new }
     ensures left { FindsNoMore store.old store.new }
+    ensures faults { SameFaults store.old store.new }
+    ensures errors { DrawsNothing store.old → size ≤ length (live (inside blob.now)) → FailsAtLimits result }
 {
     leaves::same_bytes::<blob_memory::Storage, R>();
     let mut bytes = Vec::new(alloc);

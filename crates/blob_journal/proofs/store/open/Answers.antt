@@ -7,7 +7,14 @@ use Rattle.blob_model.specs.Files.{after_open}
 use Rattle.blob_journal.proofs.Currents.{named_current, opened_keeps}
 use Rattle.blob_journal.proofs.Standing.{unrecorded}
 use Rattle.blob_journal.proofs.Blobs.{blob_same, opened_incarnation, opened_others}
+use Rattle.blob_journal.proofs.Limits.{open_answers, opened_accepted, still_accepted, unrefused}
 use Rattle.blob_journal.proofs.Fixed.{incarnations_same, opened_incarnations}
+use Rattle.blob_header.specs.Refusals.{error_of}
+use Rattle.blob_faulty.specs.Wrapper.{config_of, rng_of}
+use Rattle.std.proofs.Common.{rules}
+use Rattle.blob_journal.specs.Limits.{IsLimit}
+use Rattle.std.proofs.Common.{◌≡◌, subst, sym}
+use Rattle.blob_draws.specs.Faults.{draw}
 use Rattle.blob_journal.proofs.store.open.Goals as goal
 
 pub returns-in_err-blob-clause-kept : goal.returns-in_err-blob-clause-kept
@@ -76,3 +83,16 @@ returns-in_err-blob-clause-incarnations g c = incarnations_same c.args.store.now
 
 pub returns-clause-incarnations : goal.returns-clause-incarnations
 returns-clause-incarnations g c = opened_incarnations c.args.store.now c.open.new.self c.args.partition.now c.args.name.now (place (inside c.in_ok-blob.blob)) (live (inside c.in_ok-blob.blob)) 0 c.in_ok-blob.ensures.opened
+
+pub returns-in_err-blob-clause-accepted : goal.returns-in_err-blob-clause-accepted
+returns-in_err-blob-clause-accepted g c = still_accepted c.args.store.now c.open.new.self c.in_err-blob.ensures.err.0
+
+pub returns-clause-accepted : goal.returns-clause-accepted
+returns-clause-accepted g c = opened_accepted _ _ _ _ _ _ _ _ c.in_ok-blob.ensures.opened
+    (unrefused (draw (config_of c.args.store.now).open_rate (g.R.Rng.stream (rng_of c.args.store.now))).0 (directory (inner_of c.args.store.now)) c.args.partition.now c.args.name.now c.in_ok-blob.ensures.allowed)
+
+pub returns-in_err-blob-clause-errors : goal.returns-in_err-blob-clause-errors
+returns-in_err-blob-clause-errors g c = λ quiet accepted valid.
+    let old = c.args.store.now in
+    let said : error_of c.from_residual.result ≡ error_of c.open.result = search rules in
+    subst IsLimit (sym said) (open_answers (config_of old) (g.R.Rng.stream (rng_of old)) (directory (inner_of old)) c.args.partition.now c.args.name.now (error_of c.open.result) quiet valid accepted c.open.ensures.allowed)

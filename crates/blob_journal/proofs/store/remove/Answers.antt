@@ -12,6 +12,7 @@ use Rattle.blob_model.specs.Files.{after_remove}
 use Rattle.blob_journal.proofs.Currents.{removed_keeps}
 use Rattle.blob_journal.proofs.Standing.{unrecorded}
 use Rattle.blob_journal.proofs.Blobs.{blob_same, removed_others}
+use Rattle.blob_journal.proofs.Limits.{removed_accepted, still_accepted}
 use Rattle.blob_journal.proofs.store.remove.Goals as goal
 
 pub returns-in_err-remove-clause-current : goal.returns-in_err-remove-clause-current
@@ -67,3 +68,9 @@ returns-in_err-remove-clause-others g c = λ q m other. blob_same q m c.args.sto
 
 pub returns-clause-others : goal.returns-clause-others
 returns-clause-others g c = removed_others c.args.store.now c.remove.new.self c.args.partition.now c.args.name.now c.in_ok-remove.ensures.directory c.in_ok-remove.ensures.durable
+
+pub returns-in_err-remove-clause-accepted : goal.returns-in_err-remove-clause-accepted
+returns-in_err-remove-clause-accepted g c = still_accepted c.args.store.now c.remove.new.self c.in_err-remove.ensures.err.0
+
+pub returns-clause-accepted : goal.returns-clause-accepted
+returns-clause-accepted g c = removed_accepted (directory (inner_of c.args.store.now)) (directory (inner_of c.remove.new.self)) c.args.partition.now c.args.name.now c.in_ok-remove.ensures.directory

@@ -18,6 +18,12 @@ use Rattle.blob_journal.specs.Currents.{left_at}
 use Rattle.blob_journal.proofs.Overlays.{over_nothing}
 use Rattle.blob_journal.proofs.Standing.{fixed_by, kept_left}
 use Rattle.std.proofs.lemmas.Bool.{cond-false}
+use Rattle.blob_journal.proofs.Limits.{write_allowed}
+use Rattle.blob_header.specs.Refusals.{error_of}
+use Rattle.blob_memory.specs.Store.{directory}
+use Rattle.std.proofs.Common.{rules}
+use Rattle.blob_journal.specs.Limits.{IsLimit}
+use Rattle.std.proofs.Common.{subst, sym}
 use Rattle.blob_journal.proofs.journal.Journal.begin.Goals as goal
 
 pub returns-clause-bytes : goal.returns-clause-bytes
@@ -73,3 +79,10 @@ returns-clause-live g c = λ empty. live_begun (live (inside c.args.self.now.blo
 
 pub returns-clause-only : goal.returns-clause-only
 returns-clause-only g c = λ o other. ap (λ (d : Durable). d o) (c.in_ok-write_from.ensures.synced refl) ∙ cond-false (same_place (place (inside c.args.self.now.blob)) o) _ _ other
+
+pub returns-in_err-write_from-clause-errors : goal.returns-in_err-write_from-clause-errors
+returns-in_err-write_from-clause-errors g c = λ quiet here.
+    let old = c.args.store.now in
+    let said : error_of c.from_residual.result ≡ error_of c.write_from.result = search rules in
+    subst IsLimit (sym said) (write_allowed (config_of old) _ _ (next_write_of old) (g.R.Rng.stream (rng_of old)) (directory (inner_of old)) (place (inside c.args.self.now.blob)) _ 0 c.args.bytes.now true (error_of c.write_from.result)
+    quiet (λ s. here) c.write_from.ensures.allowed)

@@ -7,6 +7,13 @@ use Rattle.blob_memory.specs.Store.{directory, durable, place}
 use Rattle.blob_memory.specs.declared.storage.Storage as memory
 use Rattle.blob_faulty.specs.Wrapper.{inner_of, inside}
 use Rattle.blob_journal.proofs.Blobs.{blob_same, blob_twice, partition_beside}
+use Rattle.blob_journal.proofs.Limits.{still_accepted}
+use Rattle.std.proofs.Common.{arith, refl}
+use Rattle.std.proofs.Common.{rules}
+use Rattle.blob_journal.specs.Limits.{IsLimit}
+use Rattle.blob_header.specs.Refusals.{error_of}
+use Rattle.std.proofs.Common.{◌≡◌}
+use Rattle.blob_journal.proofs.Fixed.{incarnations_same}
 use Rattle.blob_journal.proofs.journal.Journal.open.Goals as goal
 
 pub returns-in_err-bytes-clause-kept : goal.returns-in_err-bytes-clause-kept
@@ -53,3 +60,25 @@ returns-clause-blobs g c = λ m.
     let inner = c.read_all.ensures.inner in
     blob_twice (codes "f") m c.args.store.now c.open.new.store c.read_all.new.store (partition_beside c.args.store.now c.open.new.store c.to_be_bytes.result c.open.ensures.others m)
     (blob_same (codes "f") m c.open.new.store c.read_all.new.store (ap (λ (s : memory.Storage). directory s) inner) (ap (λ (s : memory.Storage). durable s) inner))
+
+pub returns-in_err-bytes-clause-accepted : goal.returns-in_err-bytes-clause-accepted
+returns-in_err-bytes-clause-accepted g c = λ all. still_accepted c.open.new.store c.read_all.new.store (ap (λ (s : memory.Storage). directory s) c.read_all.ensures.inner) (c.open.ensures.accepted all)
+
+pub returns-clause-accepted : goal.returns-clause-accepted
+returns-clause-accepted g c = λ all. still_accepted c.open.new.store c.read_all.new.store (ap (λ (s : memory.Storage). directory s) c.read_all.ensures.inner) (c.open.ensures.accepted all)
+
+pub returns-in_err-blob-clause-errors : goal.returns-in_err-blob-clause-errors
+returns-in_err-blob-clause-errors g c = λ quiet accepted.
+    let said : error_of c.from_residual.result ≡ error_of c.open.result = search rules in
+    subst IsLimit (sym said) (c.open.ensures.errors quiet accepted refl)
+
+pub returns-in_err-bytes-clause-errors : goal.returns-in_err-bytes-clause-errors
+returns-in_err-bytes-clause-errors g c = λ quiet accepted.
+    let said : error_of c.from_residual-in_err-bytes.result ≡ error_of c.read_all.result = search rules in
+    subst IsLimit (sym said) (c.read_all.ensures.errors (c.open.ensures.faults ∙ quiet) (omega (arith, c.in_ok-blob.ensures.size)))
+
+pub returns-in_err-bytes-clause-incarnations : goal.returns-in_err-bytes-clause-incarnations
+returns-in_err-bytes-clause-incarnations g c = λ p n o is. incarnations_same c.open.new.store c.read_all.new.store (ap (λ (s : memory.Storage). directory s) c.read_all.ensures.inner) p n o (c.open.ensures.incarnations p n o is)
+
+pub returns-clause-incarnations : goal.returns-clause-incarnations
+returns-clause-incarnations g c = λ p n o is. incarnations_same c.open.new.store c.read_all.new.store (ap (λ (s : memory.Storage). directory s) c.read_all.ensures.inner) p n o (c.open.ensures.incarnations p n o is)

@@ -2,6 +2,7 @@ use Rattle.std.proofs.Common.{List, [], ◌∷◌, ◌++◌, false, refl}
 use Rattle.blob_directory.specs.declared.unsettled.Unsettled.{Unsettled}
 use Rattle.std.proofs.Math.Logic.{∥∥₁_elim}
 use Rattle.blob_directory.specs.Profiles.{found_in_all}
+use Rattle.blob_journal.proofs.Limits.{still_accepted}
 use Rattle.blob_journal.proofs.Growing.{told_prop}
 use Rattle.blob_journal.proofs.Found.{on_err}
 use Rattle.std.proofs.Math.Logic.{∥∥₁_map}
@@ -25,6 +26,7 @@ invariant_of-self-in-Break-branch-2 g c = record {
   name = ap (λ (o : Place). o.name) c.add.ensures.place ∙ c.args.self.now.name ∙ ap (λ (n : ℕ). to_be_bytes w64 n) (sym c.add.ensures.generation);
   current = ap₂ (λ (d : Directory) (o : Place). is_current d o) c.add.ensures.directory c.add.ensures.place ∙ c.args.self.now.current;
   given = still_given c.args.self.now.store c.add.new.store c.args.self.now.opened (same_next (directory (inner_of c.args.self.now.store)) (directory (inner_of c.add.new.store)) c.add.ensures.directory) c.args.self.now.given;
+  accepted = still_accepted c.args.self.now.store c.add.new.store c.add.ensures.directory c.args.self.now.accepted;
   kept = ∥∥₁_map c.args.self.now.kept (λ k. refused_add c.args.self.now.store c.add.new.store c.args.self.now.journal c.add.new.self c.args.self.now.unsettled.items c.reserve.new.self.items
       c.reserve.ensures.items c.in_err-sector.ensures.refused c.in_err-sector.ensures.unmoved (c.add.ensures.left k.sectors) k);
 }
@@ -35,6 +37,7 @@ invariant_of-self-2 g c = record {
   name = ap (λ (o : Place). o.name) c.add.ensures.place ∙ c.args.self.now.name ∙ ap (λ (n : ℕ). to_be_bytes w64 n) (sym c.add.ensures.generation);
   current = ap₂ (λ (d : Directory) (o : Place). is_current d o) c.add.ensures.directory c.add.ensures.place ∙ c.args.self.now.current;
   given = still_given c.args.self.now.store c.add.new.store c.args.self.now.opened (same_next (directory (inner_of c.args.self.now.store)) (directory (inner_of c.add.new.store)) c.add.ensures.directory) c.args.self.now.given;
+  accepted = still_accepted c.args.self.now.store c.add.new.store c.add.ensures.directory c.args.self.now.accepted;
   kept = ∥∥₁_map c.args.self.now.kept (λ k. done_add c.args.self.now.store c.add.new.store c.args.self.now.journal c.add.new.self c.args.self.now.unsettled.items _ c.push_reserved.new.self.items _
       c.push_reserved.ensures.items c.reserve.ensures.items
       c.in_ok-sector.ensures.bytes c.in_ok-sector.ensures.sectors c.in_ok-sector.ensures.sector (c.add.ensures.left k.sectors) k);

@@ -3,6 +3,7 @@ use Rattle.blob_header.specs.declared.error.Error.{Error}
 use Rattle.blob_draws.specs.declared.selections.Selections.{Selections}
 use Rattle.blob_memory.specs.Store.{directory}
 use Rattle.blob_faulty.specs.Wrapper.{inner_of}
+use Rattle.blob_journal.proofs.Limits.{still_accepted}
 use Rattle.blob_journal.proofs.Found.{same_next, still_given, still_kept}
 use Rattle.std.proofs.Common.{List, ℕ, [], ap, sym, ◌∙◌, ◌≡◌}
 use Rattle.std.specs.Prelude.{codes}
@@ -42,6 +43,7 @@ invariant_of-self g c =
       name = self.name;
       current = ap (λ (d : Directory). is_current d at) same ∙ self.current;
       given = still_given self.store new self.opened (same_next (directory (inner_of self.store)) (directory (inner_of new)) same) self.given;
+      accepted = still_accepted self.store new same self.accepted;
       kept = still_kept self.store new self.journal self.unsettled.items (λ test k. by_result c.crash.result c.crash.ensures.rows c.crash.ensures.stands c.crash.ensures.same_files
           (λ rows drawn left. c.crashed.ensures self.store new at test rows same drawn left k)
           (λ steps. c.same_bytes.ensures.same self.store new at test same steps k)) self.kept;

@@ -5,6 +5,7 @@ use Rattle.blob_journal.specs.Keeping.{told_in}
 use Rattle.blob_journal.specs.Sectors.{may_be_found}
 use Rattle.blob_journal.specs.Settling.{counted}
 use Rattle.blob_journal.specs.Told.{chosen_of, names_kept}
+use Rattle.blob_journal.proofs.Limits.{still_accepted}
 use Rattle.blob_journal.proofs.Telling.{found_now, whole_of}
 use Rattle.blob_journal.proofs.Told.{found_edits}
 use Rattle.std.proofs.Common.{◌≤◌, subst}
@@ -111,6 +112,7 @@ invariant_of-self g c =
       name = self.name;
       current = c.open.ensures.kept at (ap (λ (s : memory.Storage). is_current (directory s) at) inner ∙ self.current);
       given = still_given self.store new self.opened next self.given;
+      accepted = c.open.ensures.accepted (still_accepted self.store mid (ap (λ (s : memory.Storage). directory s) inner) self.accepted);
       kept = still_kept self.store new self.journal self.unsettled.items (λ test k. c.open.ensures.left at test (no_more_set self.store mid c.default.result c.set_config.ensures.set at test k)) self.kept;
     }
 

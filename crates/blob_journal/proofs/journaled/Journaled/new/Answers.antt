@@ -9,6 +9,8 @@ use Rattle.blob_memory.specs.Store.{directory, live, place}
 use Rattle.blob_memory.specs.declared.storage.Storage as memory
 use Rattle.blob_faulty.specs.Wrapper.{inner_of, inside}
 use Rattle.blob_journal.specs.Currents.{IsFixed, Represents, pending_at}
+use Rattle.blob_journal.specs.Limits.{AcceptsOpens}
+use Rattle.std.proofs.Common.{subst, sym}
 use Rattle.blob_journal.proofs.Found.{fixed_kept}
 use Rattle.blob_journal.proofs.Standing.{fixed_by}
 use Rattle.blob_journal.proofs.journaled.Journaled.new.Goals as goal
@@ -32,6 +34,7 @@ invariant_of-result g c =
       name = o.name;
       current = o.current;
       given = omega arith;
+      accepted = c.open.ensures.accepted (subst (λ (d : Directory). AcceptsOpens d) (sym (ap directory c.new-store.ensures.inner ∙ c.new-memory.ensures.directory)) (λ p n. refl));
       kept = ∣ fixed_kept opened journal _ [] files o.current o.given fixed (o.bytes ∙ none) refl (o.sectors ∙ ap (λ (l : List ℕ). length l / 1024) none) c.new-2.ensures.items ∣₁;
     }
 

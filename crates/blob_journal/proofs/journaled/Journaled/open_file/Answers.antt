@@ -14,6 +14,15 @@ use Rattle.blob_journal.proofs.Blobs.{current_is, file_beside}
 use Rattle.blob_journal.specs.Currents.{FindsNoMore}
 use Rattle.blob_journal.specs.Incarnations.{KeepsIncarnations}
 use Rattle.blob_journal.proofs.Fixed.{keeps_open, reopens}
+use Rattle.blob_journal.proofs.Fixed.{is_open}
+use Rattle.blob_faulty.specs.Wrapper.{config_of}
+use Rattle.std.proofs.Common.{rules}
+use Rattle.blob_journal.specs.Limits.{IsLimit}
+use Rattle.blob_header.specs.Refusals.{error_of}
+use Rattle.std.proofs.Common.{◌-◌, ◌^◌}
+use Rattle.std.proofs.lemmas.Bool.{eq-eqb, false≢true}
+use Rattle.blob_model.specs.Places.{Place}
+use Rattle.blob_journal.proofs.Limits.{not_last}
 use Rattle.blob_journal.proofs.journaled.Journaled.open_file.Goals as goal
 
 pub invariant_of-self : goal.invariant_of-self
@@ -22,6 +31,7 @@ invariant_of-self g c = record {
   name = c.args.self.now.name;
   current = c.open.ensures.kept (place (inside c.args.self.now.journal.blob)) c.args.self.now.current;
   given = still_given c.args.self.now.store c.open.new.store c.args.self.now.opened c.open.ensures.next c.args.self.now.given;
+  accepted = c.open.ensures.accepted c.args.self.now.accepted;
   kept = still_kept c.args.self.now.store c.open.new.store c.args.self.now.journal c.args.self.now.unsettled.items (λ test k. c.open.ensures.left _ test k) c.args.self.now.kept;
 }
 
@@ -83,3 +93,23 @@ returns-clause-reopened g c =
     (subst (λ (s : OverMemory g.row.R.Denot). IsIncarnation s (codes "f") (file_name c.args.inode) at) same there)
     (subst (λ (s : OverMemory g.row.R.Denot). durable (inner_of s) at ≡ Some bytes) same o.durable)
     o.tracked
+
+pub returns-in_err-blob-clause-errors : goal.returns-in_err-blob-clause-errors
+returns-in_err-blob-clause-errors g c = λ quiet.
+    let said : error_of c.from_residual.result ≡ error_of c.open.result = search rules in
+    subst IsLimit (sym said) (c.open.ensures.errors quiet c.args.self.now.accepted refl)
+
+pub returns-clause-ready : goal.returns-clause-ready
+returns-clause-ready g c = λ quiet.
+    let store = c.open.new.store in
+    let o = c.in_ok-blob.ensures in
+    let at = place (inside c.in_ok-blob.blob) in
+    let same = sym c.note.ensures.noted.0 in
+    let there : IsIncarnation store (codes "f") (file_name c.args.inode) at = subst (λ (n : List ℕ). IsIncarnation store (codes "f") n at) c.to_be_bytes.ensures o.incarnation in
+    record {
+      faultless = ap (λ (s : OverMemory g.row.R.Denot). config_of s) c.note.ensures.noted.0 ∙ c.open.ensures.faults ∙ quiet;
+      inode = c.args.inode;
+      is = is_open _ c.args.inode _ (subst (λ (s : OverMemory g.row.R.Denot). IsIncarnation s (codes "f") (file_name c.args.inode) at) same there) o.tracked;
+      known = c.note.ensures.known (λ last. absurd (false≢true (sym (not_last (directory (inner_of store)) (codes "f") (file_name c.args.inode) there.number there.layout (c.open.ensures.accepted c.args.self.now.accepted) there.file)
+          ∙ eq-eqb there.number (2 ^ 64 - 1) (sym (ap (λ (o : Place). o.number) there.is) ∙ last))));
+    }

@@ -4,6 +4,7 @@ use Rattle.blob_model.specs.Directory.{Directory, is_current}
 use Rattle.blob_memory.specs.Store.{directory, durable, place}
 use Rattle.blob_memory.specs.declared.storage.Storage as memory
 use Rattle.blob_faulty.specs.Wrapper.{inner_of, inside}
+use Rattle.blob_journal.proofs.Limits.{still_accepted}
 use Rattle.blob_journal.proofs.Found.{same_next, still_given, still_kept}
 use Rattle.std.specs.Prelude.{codes}
 use Rattle.blob_model.specs.Draws.{chosen_by}
@@ -25,6 +26,7 @@ invariant_of-self g c =
       name = self.name;
       current = ap (λ (d : Directory). is_current d (place (inside self.journal.blob))) same ∙ self.current;
       given = still_given self.store new self.opened (same_next (directory (inner_of self.store)) (directory (inner_of new)) same) self.given;
+      accepted = still_accepted self.store new same self.accepted;
       kept = still_kept self.store new self.journal self.unsettled.items
           (λ test k. c.same_bytes.ensures.unrecorded self.store new (place (inside self.journal.blob)) test same bytes r.leaves.unrecorded k) self.kept;
     }

@@ -4,6 +4,7 @@ use Rattle.blob_directory.specs.Profiles.{found_in_all, kept_edits}
 use Rattle.blob_directory.specs.Sectors.{Found}
 use Rattle.blob_directory.specs.Settled.{AreSettled}
 use Rattle.blob_journal.specs.Told.{names_kept}
+use Rattle.blob_journal.proofs.Limits.{still_accepted}
 use Rattle.blob_journal.proofs.Lasting.{none_lost}
 use Rattle.std.proofs.Common.{◌<◌, ◌≤◌, ◌/◌, length}
 use Rattle.std.proofs.Math.Logic.{∥∥₁_map}
@@ -42,6 +43,7 @@ invariant_of-self g c =
       name = self.name;
       current = c.open.ensures.kept (place (inside self.journal.blob)) self.current;
       given = still_given self.store opened self.opened c.open.ensures.next self.given;
+      accepted = c.open.ensures.accepted self.accepted;
       kept = still_kept self.store opened self.journal self.unsettled.items (λ test k. c.open.ensures.left _ test k) self.kept;
     }
 
@@ -54,6 +56,7 @@ invariant_of-self-then-not-is_empty g c =
       name = self.name;
       current = c.open.ensures.kept (place (inside self.journal.blob)) self.current;
       given = still_given self.store opened self.opened c.open.ensures.next self.given;
+      accepted = c.open.ensures.accepted self.accepted;
       kept = still_kept self.store opened self.journal self.unsettled.items (λ test k. c.open.ensures.left _ test k) self.kept;
     }
 
@@ -79,6 +82,8 @@ invariant_of-self-in-Break-branch-3 g c =
           ∙ ap (λ (s : memory.Storage). is_current (directory s) at) c.admit.ensures.inner
           ∙ c.open.ensures.kept at self.current;
       given = still_given self.store new self.opened next self.given;
+      accepted = still_accepted admitted new c.begin.ensures.directory
+          (still_accepted opened admitted (ap (λ (s : memory.Storage). directory s) c.admit.ensures.inner) (c.open.ensures.accepted self.accepted));
       kept = still_kept self.store new self.journal self.unsettled.items
           (λ test k. c.begin.ensures.left given at test other
           (c.same_bytes.ensures.admitted opened admitted (codes "j") c.to_be_bytes-name.result at test (ap (λ (s : memory.Storage). directory s) c.admit.ensures.inner) c.admit.ensures.stands
@@ -133,6 +138,8 @@ invariant_of-self-2 g c =
       name = ap (λ (o : Place). o.name) c.begin.ensures.place ∙ c.in_ok-journal.ensures.name ∙ ap (λ (n : ℕ). to_be_bytes w64 n) (sym c.begin.ensures.generation);
       current = there;
       given = still_given begun new self.opened removed (still_given self.store begun self.opened next self.given);
+      accepted = c.remove.ensures.accepted (still_accepted admitted begun c.begin.ensures.directory
+          (still_accepted opened admitted (ap (λ (s : memory.Storage). directory s) c.admit.ensures.inner) (c.open.ensures.accepted self.accepted)));
       kept = ∥∥₁_map self.kept (λ k.
           let test : Test = may_be_found self.journal.sectors (live (inside self.journal.blob)) in
           let one : FindsOnly admitted was test = c.same_bytes.ensures.admitted opened admitted (codes "j") c.to_be_bytes-name.result was test (ap (λ (s : memory.Storage). directory s) inner) c.admit.ensures.stands

@@ -5,6 +5,7 @@ use Rattle.blob_memory.specs.declared.storage.Storage as memory
 use Rattle.blob_faulty.specs.Keeps.{OverMemory}
 use Rattle.blob_faulty.specs.Wrapper.{inner_of, inside}
 use Rattle.blob_journal.specs.Found.{IsKept, with_kept}
+use Rattle.blob_journal.proofs.Limits.{still_accepted}
 use Rattle.blob_journal.proofs.Found.{same_next, still_given}
 use Rattle.std.specs.Prelude.{codes}
 use Rattle.blob_journal.proofs.Found.{no_more_drawn}
@@ -22,6 +23,7 @@ invariant_of-self g c =
       name = self.name;
       current = ap (λ (s : memory.Storage). is_current (directory s) (place (inside self.journal.blob))) same ∙ self.current;
       given = still_given self.store new self.opened (same_next (directory (inner_of self.store)) (directory (inner_of new)) (ap (λ (s : memory.Storage). directory s) same)) self.given;
+      accepted = still_accepted self.store new (ap (λ (s : memory.Storage). directory s) same) self.accepted;
       kept = subst (λ (s : OverMemory g.row.R.Denot). ∥ IsKept s self.journal self.unsettled.items ∥₁) (sym set) (with_kept self.store c.args.rng self.journal self.unsettled.items self.kept);
     }
 

@@ -6,6 +6,7 @@ use Rattle.blob_memory.specs.Store.{directory, place}
 use Rattle.blob_draws.specs.Faults.{resize_fate}
 use Rattle.blob_draws.specs.Recorded.{recorded_resize}
 use Rattle.blob_faulty.specs.Wrapper.{config_of, inner_of, inside, rng_of, size_of}
+use Rattle.blob_journal.proofs.Limits.{still_accepted}
 use Rattle.blob_journal.proofs.Found.{other_blob, same_next, still_given, still_kept}
 use Rattle.std.proofs.Common.{List, ℕ, sym}
 use Rattle.std.specs.Prelude.{codes}
@@ -22,6 +23,8 @@ use Rattle.blob_draws.specs.Recorded.{live_of_resize, size_of_resize}
 use Rattle.blob_draws.proofs.Unreached.{reached_above, resize_counts, resize_has}
 use Rattle.blob_journal.specs.Fixed.{has_byte}
 use Rattle.blob_journal.proofs.Fixed.{changes_open, reached_past, resized_has, same_change, same_handles, seen_from, seen_parts}
+use Rattle.blob_journal.proofs.Limits.{resize_answers}
+use Rattle.blob_journal.proofs.Ready.{ready_after}
 use Rattle.blob_journal.proofs.journaled.Journaled.resize_file.Goals as goal
 
 pub invariant_of-self : goal.invariant_of-self
@@ -39,8 +42,9 @@ invariant_of-self g c =
       name = self.name;
       current = ap (λ (d : Directory). is_current d at) w.directory ∙ self.current;
       given = still_given self.store new self.opened (same_next (directory (inner_of self.store)) (directory (inner_of new)) w.directory) self.given;
+      accepted = still_accepted self.store new w.directory self.accepted;
       kept = still_kept self.store new self.journal self.unsettled.items
-          (λ test k. c.other_blobs.ensures.recorded self.store new file at test es c.in_ok-check.ensures other w.directory (w.leaves.recorded_after refl) k) self.kept;
+          (λ test k. c.other_blobs.ensures.recorded self.store new file at test es c.in_ok-check.ensures.given other w.directory (w.leaves.recorded_after refl) k) self.kept;
     }
 
 pub returns-clause-resized : goal.returns-clause-resized
@@ -102,10 +106,27 @@ returns-clause-still g c =
     (λ y m passes reach.
     let counts : at < n = parts.0 in
     resized_has at byte m y (reached_past at m n len counts low reach) passes) k)
-    (λ o test other k. c.other_blobs.ensures.recorded old new at_file o test es c.in_ok-check.ensures other w.directory (w.leaves.recorded_after refl) k)
+    (λ o test other k. c.other_blobs.ensures.recorded old new at_file o test es c.in_ok-check.ensures.given other w.directory (w.leaves.recorded_after refl) k)
 
 pub returns-in_err-check-clause-handles : goal.returns-in_err-check-clause-handles
 returns-in_err-check-clause-handles g c = same_handles c.args.self.now c.args.self.now refl
 
 pub returns-clause-handles : goal.returns-clause-handles
 returns-clause-handles g c = same_handles c.args.self.now _ c.resize.ensures.directory
+
+pub returns-in_err-check-clause-errors : goal.returns-in_err-check-clause-errors
+returns-in_err-check-clause-errors g c = λ r. absurd (omega (arith, r.known, c.in_err-check.ensures.refused))
+
+pub returns-clause-errors : goal.returns-clause-errors
+returns-clause-errors g c = λ r.
+    let old = c.args.self.now.store in
+    resize_answers (config_of old) (g.R.Rng.stream (rng_of old)) (place (inside c.args.file.now.blob)) (size_of c.args.file.now.blob) c.args.length (error_of c.resize.result) r.faultless c.resize.ensures.allowed
+
+pub returns-clause-ready : goal.returns-clause-ready
+returns-clause-ready g c =
+    let old = c.args.self.now.store in
+    let w = c.resize.ensures in
+    let file = c.args.file.now in
+    let fate = resize_fate (config_of old).resize_rate (size_of file.blob) c.args.length (g.R.Rng.stream (rng_of old)) in
+    ready_after _ file _ _ w.directory w.leaves.numbers.config refl w.place
+    (λ now tracked. w.leaves.size_after refl ∙ c.sizes.ensures.resizes fate.0 (size_of file.blob) (live (inside file.blob)) c.args.length (error_of c.resize.result) tracked ∙ ap (λ (l : List ℕ). length l) (sym (w.leaves.live_after refl)))

@@ -2,6 +2,7 @@ use Rattle.std.proofs.Common.{◌≡◌, ◌∙◌}
 use Rattle.blob_model.specs.Directory.{is_current}
 use Rattle.blob_memory.specs.declared.storage.Storage as memory
 use Rattle.blob_memory.specs.Store.{directory}
+use Rattle.blob_journal.proofs.Limits.{still_accepted}
 use Rattle.blob_journal.proofs.Found.{no_more_set, same_next, still_given, still_kept}
 use Rattle.std.proofs.Common.{ap, refl}
 use Rattle.blob_model.specs.Places.{Place}
@@ -41,6 +42,7 @@ invariant_of-self g c =
       name = self.name;
       current = ap (λ (s : memory.Storage). is_current (directory s) (place (inside self.journal.blob))) same ∙ self.current;
       given = still_given self.store new self.opened (same_next (directory (inner_of self.store)) (directory (inner_of new)) (ap (λ (s : memory.Storage). directory s) same)) self.given;
+      accepted = still_accepted self.store new (ap (λ (s : memory.Storage). directory s) same) self.accepted;
       kept = still_kept self.store new self.journal self.unsettled.items (λ test k. no_more_set self.store new c.args.config set _ test k) self.kept;
     }
 

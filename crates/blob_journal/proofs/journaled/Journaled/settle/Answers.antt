@@ -6,6 +6,7 @@ use Rattle.blob_faulty.specs.Wrapper.{inner_of}
 use Rattle.blob_journal.specs.Found.{IsKept}
 use Rattle.blob_journal.specs.Keeping.{told_by}
 use Rattle.blob_journal.specs.Told.{is_marked_in, settled_in}
+use Rattle.blob_journal.proofs.Limits.{still_accepted}
 use Rattle.blob_journal.proofs.Growing.{grows_prop, grows_same, same_length, told_prop}
 use Rattle.blob_journal.proofs.Found.{filtered_kept, marked_kept, same_next, still_given}
 use Rattle.std.proofs.Common.{ap, ap₂, refl, sym, ◌∙◌, ℕ}
@@ -42,6 +43,7 @@ invariant_of-self g c =
       name = self.name;
       current = self.current;
       given = self.given;
+      accepted = self.accepted;
       kept = subst (λ (es : List Unsettled). ∥ IsKept self.store self.journal es ∥₁)
           (sym (whole c.want.new.edits edits self.unsettled.len (ap (λ (l : List Unsettled). length l) old) self.unsettled.ok.0 ∙ old)) self.kept;
     }
@@ -63,6 +65,7 @@ invariant_of-self-in-Break-branch-2 g c =
       name = ap (λ (o : Place). o.name) s.place ∙ self.name ∙ ap (λ (n : ℕ). to_be_bytes w64 n) (sym s.generation);
       current = ap₂ (λ (d : Directory) (o : Place). is_current d o) s.directory s.place ∙ self.current;
       given = still_given self.store new self.opened (same_next (directory (inner_of self.store)) (directory (inner_of new)) s.directory) self.given;
+      accepted = still_accepted self.store new s.directory self.accepted;
       kept = ∥∥₁_map self.kept (λ k. subst (λ (es : List Unsettled). IsKept new c.settle_marked.new.journal es) c.deref.ensures.value
           (s.kept (marked_kept self.store self.journal edits c.deref.result.now m.wants same k)));
     }
@@ -85,6 +88,7 @@ invariant_of-self-2 g c =
       name = ap (λ (o : Place). o.name) s.place ∙ self.name ∙ ap (λ (n : ℕ). to_be_bytes w64 n) (sym s.generation);
       current = ap₂ (λ (d : Directory) (o : Place). is_current d o) s.directory s.place ∙ self.current;
       given = still_given self.store new self.opened (same_next (directory (inner_of self.store)) (directory (inner_of new)) s.directory) self.given;
+      accepted = still_accepted self.store new s.directory self.accepted;
       kept = ∥∥₁_map self.kept (λ k. filtered_kept new c.settle_marked.new.journal _ _ (λ (e : Unsettled). not e.is_wanted) left
           (subst (λ (es : List Unsettled). IsKept new c.settle_marked.new.journal es) c.deref.ensures.value
           (s.kept (marked_kept self.store self.journal edits c.deref.result.now m.wants same k))));

@@ -2,6 +2,7 @@ use Rattle.std.proofs.Common.{None, Option, Some, inl}
 use Rattle.std.specs.Prelude.{IsSome}
 use Rattle.blob_header.specs.Refusals.{Refusal, error_of}
 use Rattle.blob_memory.specs.Store.{directory}
+use Rattle.blob_journal.proofs.Limits.{still_accepted}
 use Rattle.blob_journal.proofs.Found.{other_blob, same_next, still_given, still_kept}
 use Rattle.std.proofs.Common.{ap, ◌∙◌}
 use Rattle.blob_model.specs.Directory.{Directory, is_current}
@@ -27,6 +28,13 @@ use Rattle.std.proofs.Math.Logic.{∥∥₁_map}
 use Rattle.blob_faulty.specs.Wrapper.{size_of}
 use Rattle.blob_journal.specs.Fixed.{has_byte}
 use Rattle.blob_journal.proofs.Fixed.{changes_open, fixes_open, has_from, open_is_seen, same_change, same_handles, seen_parts}
+use Rattle.blob_journal.proofs.Limits.{sync_answers}
+use Rattle.blob_journal.proofs.Ready.{ready_after, ready_here}
+use Rattle.std.proofs.Common.{rules}
+use Rattle.blob_journal.specs.Limits.{IsLimit}
+use Rattle.std.proofs.Common.{arith}
+use Rattle.blob_faulty.specs.Wrapper.{config_of, rng_of}
+use Rattle.std.proofs.Common.{rules}
 use Rattle.blob_journal.proofs.journaled.Journaled.sync_file.Goals as goal
 
 pub invariant_of-self : goal.invariant_of-self
@@ -37,12 +45,13 @@ invariant_of-self g c =
     let file : Place = place (inside c.args.file.now.blob) in
     let at : Place = place (inside self.journal.blob) in
     let other : same_place file at ≡ false = other_blob file at c.args.file.now.partition self.partition in
-    let given = c.in_ok-check.ensures in
+    let given = c.in_ok-check.ensures.given in
     record {
       partition = self.partition;
       name = self.name;
       current = ap (λ (d : Directory). is_current d at) w.directory ∙ self.current;
       given = still_given self.store new self.opened (same_next (directory (inner_of self.store)) (directory (inner_of new)) w.directory) self.given;
+      accepted = still_accepted self.store new w.directory self.accepted;
       kept = still_kept self.store new self.journal self.unsettled.items (λ test k. by_answer (error_of c.sync.result)
           (λ ok. c.other_blobs.ensures.synced self.store new file at test (live (inside c.args.file.now.blob)) given other w.directory (inl (w.leaves.published ok)) k)
           (λ err. c.same_bytes.ensures.same self.store new at test w.directory (w.leaves.same_files err) k)) self.kept;
@@ -181,7 +190,7 @@ returns-clause-still g c =
     (λ at byte spared h. ap₂ (λ (k : ℕ) (l : List ℕ). has_byte at byte (take k l)) w.leaves.size w.live ∙ h)
     (λ at byte spared h k. c.synced.ensures old new (place (inside file.blob)) (has_byte at byte) (has_byte at byte) x w.directory (inl (w.leaves.published refl))
     (has_from at byte x (seen_parts at byte (size_of file.blob) x h).1) k)
-    (λ o test other k. c.other_blobs.ensures.synced old new (place (inside file.blob)) o test x c.in_ok-check.ensures other w.directory (inl (w.leaves.published refl)) k)
+    (λ o test other k. c.other_blobs.ensures.synced old new (place (inside file.blob)) o test x c.in_ok-check.ensures.given other w.directory (inl (w.leaves.published refl)) k)
 
 pub returns-clause-fixes : goal.returns-clause-fixes
 returns-clause-fixes g c =
@@ -200,3 +209,23 @@ returns-in_err-sync-clause-handles g c = same_handles c.args.self.now _ c.sync.e
 
 pub returns-clause-handles : goal.returns-clause-handles
 returns-clause-handles g c = same_handles c.args.self.now _ c.sync.ensures.directory
+
+pub returns-in_err-check-clause-errors : goal.returns-in_err-check-clause-errors
+returns-in_err-check-clause-errors g c = λ r. absurd (omega (arith, r.known, c.in_err-check.ensures.refused))
+
+pub returns-in_err-sync-clause-errors : goal.returns-in_err-sync-clause-errors
+returns-in_err-sync-clause-errors g c = λ r.
+    let old = c.args.self.now.store in
+    let file = c.args.file.now in
+    let said : error_of c.from_residual-in_err-sync.result ≡ error_of c.sync.result = search rules in
+    subst IsLimit (sym said) (sync_answers (config_of old) (g.R.Rng.stream (rng_of old)) (directory (inner_of old)) (place (inside file.blob)) (error_of c.sync.result) r.faultless (ready_here c.args.self.now file r) c.sync.ensures.allowed)
+
+pub returns-in_err-sync-clause-ready : goal.returns-in_err-sync-clause-ready
+returns-in_err-sync-clause-ready g c =
+    let w = c.in_err-sync.ensures in
+    ready_after _ c.args.file.now _ _ w.directory w.leaves.numbers.config refl w.place (λ now tracked. w.leaves.size ∙ tracked ∙ ap (λ (l : List ℕ). length l) (sym w.live))
+
+pub returns-clause-ready : goal.returns-clause-ready
+returns-clause-ready g c =
+    let w = c.in_ok-sync.ensures in
+    ready_after _ c.args.file.now _ _ w.directory w.leaves.numbers.config refl w.place (λ now tracked. w.leaves.size ∙ tracked ∙ ap (λ (l : List ℕ). length l) (sym w.live))

@@ -16,6 +16,7 @@ use Rattle.blob_memory.specs.Store.{durable}
 use Rattle.blob_draws.specs.Rows.{table_of}
 use Rattle.blob_journal.specs.Blobs.{file_name}
 use Rattle.blob_journal.specs.Writes.{IsWrite}
+use Rattle.blob_journal.proofs.Limits.{still_accepted}
 use Rattle.blob_journal.proofs.Blobs.{blob_same, by_ok}
 use Rattle.blob_model.specs.Live.{live_written}
 use Rattle.blob_draws.proofs.Sizes.{length-written}
@@ -32,6 +33,8 @@ use Rattle.std.proofs.Math.Logic.{∥∥₁_elim}
 use Rattle.std.specs.Coded.{Coded-set, coded_list, coded_option, coded_ℕ}
 use Rattle.std.specs.Prelude.{option_map}
 use Rattle.blob_journal.proofs.Fixed.{beside_lies, changes_open, current_of, incarnation_here, overlaid_has, same_change, same_handles, seen_from, seen_parts}
+use Rattle.blob_journal.proofs.Limits.{write_allowed}
+use Rattle.blob_journal.proofs.Ready.{ready_after, ready_here}
 use Rattle.blob_journal.proofs.journaled.Journaled.write_file.Goals as goal
 
 pub invariant_of-self : goal.invariant_of-self
@@ -48,8 +51,9 @@ invariant_of-self g c =
       name = self.name;
       current = ap (λ (d : Directory). is_current d at) w.directory ∙ self.current;
       given = still_given self.store new self.opened (same_next (directory (inner_of self.store)) (directory (inner_of new)) w.directory) self.given;
+      accepted = still_accepted self.store new w.directory self.accepted;
       kept = still_kept self.store new self.journal self.unsettled.items
-          (λ test k. c.other_blobs.ensures.recorded self.store new file at test es c.in_ok-check.ensures other w.directory (w.leaves.recorded refl) k) self.kept;
+          (λ test k. c.other_blobs.ensures.recorded self.store new file at test es c.in_ok-check.ensures.given other w.directory (w.leaves.recorded refl) k) self.kept;
     }
 
 pub returns-clause-recorded : goal.returns-clause-recorded
@@ -112,7 +116,7 @@ returns-clause-still g c =
     ∙ seen_from at byte _ _ low (write_has at byte offset bytes (beside_lies at offset (length bytes) beside) x parts.1 config stream sync answer))
     (λ at byte beside h k. c.written.ensures old new at_file (has_byte at byte) (has_byte at byte) offset bytes sync answer w.directory (w.leaves.recorded refl)
     (λ y z passes lays. ap (has_byte at byte) lays.2 ∙ overlaid_has at byte offset bytes y lays.0 beside passes) k)
-    (λ o test other k. c.other_blobs.ensures.recorded old new at_file o test es c.in_ok-check.ensures other w.directory (w.leaves.recorded refl) k)
+    (λ o test other k. c.other_blobs.ensures.recorded old new at_file o test es c.in_ok-check.ensures.given other w.directory (w.leaves.recorded refl) k)
 
 pub returns-in_err-check-clause-handles : goal.returns-in_err-check-clause-handles
 returns-in_err-check-clause-handles g c = same_handles c.args.self.now c.args.self.now refl
@@ -160,3 +164,29 @@ returns-clause-written g c =
         size = sized ∙ ap₂ (λ (b : Bool) (n : ℕ). size_written b n offset bytes) plain s.size ∙ sym (length-written seen offset bytes);
       },
     ))
+
+pub returns-in_err-check-clause-errors : goal.returns-in_err-check-clause-errors
+returns-in_err-check-clause-errors g c = λ r. absurd (omega (arith, r.known, c.in_err-check.ensures.refused))
+
+pub returns-clause-errors : goal.returns-clause-errors
+returns-clause-errors g c = λ r.
+    let old = c.args.self.now.store in
+    let file = c.args.file.now in
+    write_allowed (config_of old) _ _ (next_write_of old) (g.R.Rng.stream (rng_of old)) (directory (inner_of old)) (place (inside file.blob)) _ c.args.offset c.args.bytes.now (is_sync c.default-options.result) (error_of c.write_from.result)
+    r.faultless (λ s. ready_here c.args.self.now file r) c.write_from.ensures.allowed
+
+pub returns-clause-ready : goal.returns-clause-ready
+returns-clause-ready g c =
+    let old = c.args.self.now.store in
+    let w = c.write_from.ensures in
+    let file = c.args.file.now in
+    let config = config_of old in
+    let stream = g.R.Rng.stream (rng_of old) in
+    let sync = is_sync c.default-options.result in
+    let offset = c.args.offset in
+    let bytes = c.args.bytes.now in
+    let answer = error_of c.write_from.result in
+    ready_after _ file _ _ w.directory w.leaves.config refl w.place
+    (λ now tracked. w.leaves.size refl
+    ∙ c.sizes.ensures.writes config stream sync (size_of file.blob) (live (inside file.blob)) offset bytes answer (c.found.ensures file.blob old offset bytes sync answer now w.allowed) tracked
+    ∙ ap (λ (l : List ℕ). length l) (sym (w.leaves.live_after refl)))
