@@ -1,5 +1,5 @@
 -- The names that a journal of settled sectors gives.
-use Rattle.std.proofs.Common.{◌≡◌, ℕ, ◌+◌, ◌*◌, ◌/◌, ◌<◌, List, [], ◌∷◌, ◌++◌, Bool, true, false, Option, None, Some, Vec, Global, length, take, drop, get_or, is_some, append-nil, refl, sym, ap, ap₂, subst, ◌∙◌, ◌⊎◌, inl, inr, ⊎_elim, arith, append_assoc, length-append, if◌then◌else◌}
+use Rattle.std.proofs.Common.{◌≡◌, ℕ, ◌+◌, ◌-◌, ◌*◌, ◌/◌, ◌<◌, List, [], ◌∷◌, ◌++◌, Bool, true, false, Option, None, Some, Vec, Global, length, take, drop, get_or, is_some, append-nil, refl, replicate, sym, ap, ap₂, subst, ◌∙◌, ◌⊎◌, inl, inr, ⊎_elim, arith, append_assoc, length-append, if◌then◌else◌}
 use Rattle.std.specs.List.{All, Contains}
 use Rattle.std.specs.Cmp.Lexicographic.{bytes_decides}
 use Rattle.std.specs.Str.{bytes_eq}
@@ -19,7 +19,7 @@ use Rattle.blob_directory.specs.Names.{Edit, Names, Same, all_edited, changed, e
 use Rattle.blob_directory.specs.Settled.{AreSettled}
 use Rattle.blob_directory.specs.Tables.{HasName}
 use Rattle.blob_directory.specs.Profiles.{edits_of, found_in_all, kept_edits, names_told}
-use Rattle.blob_directory.specs.Sectors.{FitsSector, Found, edit_bytes, filled, found_in, sector_of}
+use Rattle.blob_directory.specs.Sectors.{FitsSector, Found, edit_bytes, edit_told, filled, found_in, has_change, sector_of}
 use Rattle.blob_directory.proofs.Sectors.{round_trip}
 
 abbrev pub edit_for : List ℕ × Binding → Edit
@@ -253,14 +253,27 @@ whole_by n m e = omega (arith, e)
 pub written_whole : (names : Names) (has : ℕ → Bool) (left : List (ℕ × ℕ)) (bytes : List ℕ) → Written names has left bytes → HasWholeSectors bytes
 written_whole names has left bytes w = whole_by (length bytes) (length w.list) (ap (λ (l : List ℕ). length l) w.is ∙ sectors_long w.list)
 
-founds_settled : (bs : Bindings) → AreSettled (founds_for bs)
-founds_settled [] = tt
-founds_settled (b ∷ bs) = (refl, founds_settled bs)
+-- a settled sector has no edit that isn't settled
+flagged : (b : Bool) (edit : Edit) (found : List Found) → AreSettled found → AreSettled ((if b then Some (edit, true) else None) ∷ found)
+flagged true edit found h = (refl, h)
+flagged false edit found h = h
 
-pub written_settled : (names : Names) (has : ℕ → Bool) (left : List (ℕ × ℕ)) (bytes : List ℕ) → Written names has left bytes → FitSectors names → AreSettled (found_in_all (length bytes / 1024) bytes)
-written_settled names has left bytes w fit =
-    let fits : All (λ b. FitsSector (edit_for b)) w.list = λ k d h. fit _ _ (w.sound k d h) in
-    let found : found_in_all (length bytes / 1024) bytes ≡ founds_for w.list =
-    ap (λ (l : List ℕ). found_in_all (length l / 1024) l) w.is ∙ ap (λ (n : ℕ). found_in_all (n / 1024) (settled_sectors w.list)) (sectors_long w.list)
-    ∙ ap (λ (n : ℕ). found_in_all n (settled_sectors w.list)) (whole (length w.list)) ∙ all_sectors w.list fits in
-    subst AreSettled (sym found) (founds_settled w.list)
+one_settled : (edit : Edit) (found : List Found) → AreSettled found → AreSettled (found_in (sector_of edit true) ∷ found)
+unfolding sector_of found_in
+one_settled edit found h =
+    let rest : List ℕ = take 1023 (edit_bytes edit) ++ replicate (1024 - length (2 ∷ edit_bytes edit)) 0 in
+    flagged (has_change rest) (edit_told rest) found h
+
+sectors_settled : (bs : Bindings) → AreSettled (found_in_all (length bs) (settled_sectors bs))
+sectors_settled [] = tt
+sectors_settled (b ∷ bs) =
+    let s : List ℕ = sector_of (edit_for b) true in
+    let long : length s ≡ 1024 = sector_long (edit_for b) true in
+    subst AreSettled
+    (sym (ap₂ (λ x y. found_in x ∷ found_in_all (length bs) y) (first_sector s (settled_sectors bs) long) (behind_sector s (settled_sectors bs) long)))
+    (one_settled (edit_for b) (found_in_all (length bs) (settled_sectors bs)) (sectors_settled bs))
+
+pub written_settled : (names : Names) (has : ℕ → Bool) (left : List (ℕ × ℕ)) (bytes : List ℕ) → Written names has left bytes → AreSettled (found_in_all (length bytes / 1024) bytes)
+written_settled names has left bytes w =
+    let count : length bytes / 1024 ≡ length w.list = ap (λ (l : List ℕ). length l / 1024) w.is ∙ ap (λ (n : ℕ). n / 1024) (sectors_long w.list) ∙ whole (length w.list) in
+    subst AreSettled (sym (ap₂ (λ (n : ℕ) (l : List ℕ). found_in_all n l) count w.is)) (sectors_settled w.list)

@@ -10,7 +10,7 @@ use Rattle.blob_directory.specs.declared.edit.Binding.{Binding}
 use Rattle.blob_directory.specs.declared.edit.Kind.{Kind}
 use Rattle.blob_directory.specs.declared.edit.Kind.TheVariants.{File, Directory}
 use Rattle.blob_directory.specs.Names.{Change, Edit}
-use Rattle.blob_directory.specs.Sectors.{Fits, RoundTrip, LostHasNone, binding_told, change_bytes, change_told, edit_bytes, edit_told, found_in, has_change, inode_told, IsOfName, NamesFit, kind_byte, kind_number, more_told, number_bytes, number_told, sector_of}
+use Rattle.blob_directory.specs.Sectors.{Fits, FitsSector, RoundTrip, LostHasNone, binding_told, change_bytes, change_told, edit_bytes, edit_told, found_in, has_change, inode_told, IsOfName, NamesFit, kind_byte, kind_number, more_told, number_bytes, number_told, sector_of}
 
 -- what follows a length, a kind, an inode and an entry
 pub behind_change : (bytes mid rest last : List ℕ) (kind n : ℕ) → mid ≡ drop 8 bytes → mid ≡ kind ∷ rest → last ≡ drop 8 rest → drop n last ≡ drop (17 + n) bytes
@@ -225,3 +225,12 @@ names_fit = record {
   one = λ c h. (fits_of c h, one_long c h);
   two = λ c d h k. (fits_of c h, fits_of d k, two_long c d h k);
 }
+
+-- the edits of changes of these sizes
+pub one_fits : (c : Change) (size : ℕ) → Fits c → size ≡ length (change_bytes c) → size ≤ 1023 → FitsSector (c ∷ [])
+one_fits c size fits is short = let e : length (edit_bytes (c ∷ [])) ≡ length (change_bytes c) = ap length (one_bytes c) in (fits, omega (arith, e, is, short))
+
+pub two_fit : (c d : Change) (m n : ℕ) → Fits c → Fits d → m ≡ length (change_bytes c) → n ≡ length (change_bytes d) → m + n ≤ 1023 → FitsSector (c ∷ d ∷ [])
+two_fit c d m n fits also is and short =
+    let e : length (edit_bytes (c ∷ d ∷ [])) ≡ length (change_bytes c) + length (change_bytes d) = ap length (two_bytes c d) ∙ length-append (change_bytes c) (change_bytes d) in
+    (fits, also, omega (arith, e, is, and, short))

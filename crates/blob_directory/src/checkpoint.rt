@@ -31,7 +31,7 @@ fn put_names(
 pub fn checkpoint(alloc: Global, tree: &Tree) -> Result<Vec<u8>, AllocError>
     ensures gives { IfOk result (λ bytes. FitsJournal tree.now → Gives bytes.items (bound tree.now.names)) }
     ensures whole { IfOk result (λ bytes. HasWholeSectors bytes.items) }
-    ensures settled { IfOk result (λ bytes. FitsJournal tree.now → AreSettled (found_in_all (length bytes.items / 1024) bytes.items)) }
+    ensures settled { IfOk result (λ bytes. AreSettled (found_in_all (length bytes.items / 1024) bytes.items)) }
 {
     let mut bytes = Vec::new(alloc);
     for (directory, _) in &tree.directories {

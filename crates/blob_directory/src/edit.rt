@@ -1,7 +1,9 @@
 //! Edits of names.
-ghost use Rattle.std.specs.Prelude.{◌≡◌, [], ◌∷◌, IfOk};
+ghost use Rattle.std.specs.Prelude.{◌≡◌, ◌≤◌, true, [], ◌∷◌, length, IfOk, IfSome};
 ghost use Rattle.blob_directory.specs.Names.{change_of, edit_of, entry, exchanges, moves, resizes};
+ghost use Rattle.blob_directory.specs.Sectors.{Fits, FitsSector, change_bytes};
 
+use crate::sector::{SECTOR, inode_told};
 use std::alloc::{AllocError, Global};
 
 /// What a number is that a name is bound to.
@@ -32,6 +34,29 @@ pub struct Change {
 pub struct Edit {
     pub first: Change,
     pub second: Option<Change>,
+}
+
+/// How many bytes of a sector the changes may take: all but the first, which says whether the edit is settled.
+const CAPACITY: usize = SECTOR - 1;
+
+/// How many bytes a change takes without its entry: those of the entry's length, the kind and the inode.
+const OVERHEAD: usize = 17;
+
+impl Change {
+    /// Returns how many bytes of a sector the change takes. `None` if its entry is empty or too long for a sector.
+    fn size(&self) -> Option<usize>
+        ensures fits { IfSome result (λ _. Fits (change_of self.now)) }
+        ensures size { IfSome result (λ size. size ≡ length (change_bytes (change_of self.now))) }
+        ensures short { IfSome result (λ size. size ≤ 1023) }
+    {
+        let entry = self.entry.len();
+        if entry == 0 || entry > CAPACITY - OVERHEAD {
+            return None;
+        }
+        // as a number of 64 bits, which the proof has to know
+        let _inode = inode_told(self.to);
+        Some(OVERHEAD + entry)
+    }
 }
 
 impl Edit {
@@ -83,6 +108,22 @@ impl Edit {
             to: Some(moved),
         };
         Edit::two(first, second)
+    }
+
+    /// Returns whether the edit fits in a sector, and no entry of it is empty.
+    pub fn fits(&self) -> bool
+        ensures { result ≡ true → FitsSector (edit_of self.now) }
+    {
+        let Some(first) = self.first.size() else {
+            return false;
+        };
+        let Some(second) = &self.second else {
+            return true;
+        };
+        let Some(second) = second.size() else {
+            return false;
+        };
+        first + second <= CAPACITY
     }
 }
 

@@ -34,7 +34,7 @@ fn kind_byte(to: Option<Binding>) -> u8
     }
 }
 
-fn inode_told(to: Option<Binding>) -> u64
+pub(crate) fn inode_told(to: Option<Binding>) -> u64
     ensures { result ≡ inode_told to }
 {
     match to {

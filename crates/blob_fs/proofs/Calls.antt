@@ -1,10 +1,10 @@
 -- What each call of a list does.
-use Rattle.std.proofs.Common.{◌≡◌, Bool, true, false, List, [], ◌∷◌, ◌++◌, ℕ, ap, is_ok, refl, subst, sym, ⊎_elim}
+use Rattle.std.proofs.Common.{◌≡◌, Bool, true, false, List, [], ◌∷◌, ◌++◌, ℕ, Some, ap, inl, inr, is_ok, refl, subst, sym, ⊎_elim, ◌∙◌}
 use Rattle.std.specs.Prelude.{Err, IfOk, Ok, OnErr, OnOk, Result}
 use Rattle.blob_directory.specs.Names.{Edit, binds, directory_at, entry, exchanges, file, frees, moves, resizes}
 use Rattle.blob_directory.specs.declared.table.Table.{Table}
 use Rattle.blob_directory.specs.Tables.{bound}
-use Rattle.blob_directory.specs.Sectors.{Found, found_in, sector_of}
+use Rattle.blob_directory.specs.Sectors.{Found}
 use Rattle.blob_journal.specs.Told.{Grows}
 use Rattle.blob_journal.proofs.Growing.{grows_added}
 use Rattle.blob_fs.specs.declared.file_system.Descriptor.{Descriptor}
@@ -13,10 +13,11 @@ use Rattle.blob_fs.specs.declared.renames.Rename as rename
 use Rattle.blob_fs.specs.declared.run.Call.{Call}
 use Rattle.blob_fs.specs.declared.run.Call.TheVariants.{Create, MakeDirectory, Link, Unlink, RemoveDirectory, Rename, Open, OpenTruncated, Close, Read, Write, Truncate, Sync, SyncData, SyncDirectory, SyncAll, Settle}
 use Rattle.blob_fs.specs.declared.switches.Syncs.TheVariants.{Honest}
-use Rattle.blob_fs.specs.Files.{AddsTold, GrowsTold, KeepsNames, KeepsTold, MakesEdit, MayResize, MayTruncate, SameNames, SettlesSome, fresh_inode, syncs_of, told_of}
+use Rattle.blob_fs.specs.Files.{AddsTold, GrowsTold, KeepsNames, KeepsTold, MakesEdit, MayResize, MayTruncate, SameNames, SettlesSome, fresh_inode, inode_opened, syncs_of, told_of}
 use Rattle.blob_fs.specs.Calls.{ByResult, Does, DoesAll, Leaves, Makes, MakesIf, Renames, Unchanged, Moved, Exchanged, SyncsIf}
 use Rattle.blob_fs.specs.Fixed.{KeepsUnreached}
-use Rattle.blob_fs.proofs.Growing.{grows_kept}
+use Rattle.blob_fs.proofs.Growing.{grows_kept, told_as}
+use Rattle.blob_fs.proofs.Fixed.{some_same}
 
 -- by what a call returned
 
@@ -69,10 +70,28 @@ leaves fs fs' names told = record { recorded = told; names = same fs fs' names }
     same : {R : Type 0} (fs fs' : FileSystem R) → KeepsNames fs fs' → SameNames fs fs'
     same fs fs' names = λ e. ap (λ (t : Table). bound t e) (sym names)
 
+-- A truncation before and after calls that add no edit.
+
+pub truncates_then : {R : Type 0} (f : Descriptor) (a b c : FileSystem R) → MayTruncate f a b → KeepsTold b c → MayTruncate f a c
+truncates_then f a b c h same = ⊎_elim (λ none. inl (same ∙ none)) (λ one. inr (one.0, one.1, same ∙ one.2)) h
+
+pub resizes_from : {R : Type 0} (inode : ℕ) (a b c : FileSystem R) → KeepsTold a b → MayResize inode b c → MayResize inode a c
+resizes_from inode a b c before h = ⊎_elim
+    (λ none. inl (none ∙ before))
+    (λ one. inr (told_as (told_of a) (told_of b) (told_of c) (resizes inode) (resizes inode) refl before one))
+    h
+
+-- of the file of a descriptor
+pub resizes_opened : {R : Type 0} (f : Descriptor) (inode : ℕ) (a b c d : FileSystem R) → inode_opened b f ≡ Some inode → KeepsTold a b → MayTruncate f b c → KeepsTold c d → MayResize inode a d
+resizes_opened f inode a b c d opened before h after = ⊎_elim
+    (λ none. inl (after ∙ none ∙ before))
+    (λ one. inr (told_as (told_of a) (told_of b) (told_of d) (resizes one.0) (resizes inode) (ap resizes (some_same (sym one.1 ∙ opened))) before (after ∙ one.2)))
+    h
+
 -- no edit is changed by a call
 
 grows_added_one : {R : Type 0} (edit : Edit) (fs fs' : FileSystem R) → AddsTold edit fs fs' → GrowsTold fs fs'
-grows_added_one edit fs fs' told = subst (λ (l : List Found). Grows (told_of fs) l) (sym told) (grows_added (told_of fs) (found_in (sector_of edit false) ∷ []))
+grows_added_one edit fs fs' told = subst (λ (l : List Found). Grows (told_of fs) l) (sym told) (grows_added (told_of fs) (Some (edit, false) ∷ []))
 
 grows_makes : {R : Type 0} (edit : Edit) (fs fs' : FileSystem R) → Makes edit fs fs' → GrowsTold fs fs'
 grows_makes edit fs fs' m = grows_added_one edit fs fs' m.recorded

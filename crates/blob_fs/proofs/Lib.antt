@@ -13,6 +13,7 @@ pub mod Synced
 pub mod Fixed
 pub mod Naming
 pub mod Named
+pub mod Tracked
 pub mod Unreached
 pub mod Syncing
 pub mod Fixing
@@ -23,3 +24,4 @@ pub mod Pended
 pub mod Placed
 pub mod Drawn
 pub mod Sizing
+pub mod Errors

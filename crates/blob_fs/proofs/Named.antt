@@ -1,17 +1,16 @@
 -- Files that names are bound to, through changes of names and of the map of files.
-use Rattle.std.proofs.Common.{◌≡◌, ◌≢◌, ◌≤◌, ◌⊎◌, ◌-◌, ℕ, suc, Bool, true, false, List, [], ◌∷◌, cond, pred, ⊎_elim, Option, None, Some, refl, sym, ap, subst, ◌∙◌, arith}
+use Rattle.std.proofs.Common.{◌≡◌, ◌≢◌, ◌≤◌, ◌-◌, ℕ, suc, Bool, true, false, List, [], ◌∷◌, cond, pred, ⊎_elim, Option, None, Some, refl, sym, ap, subst, ◌∙◌, arith}
 use Rattle.std.proofs.Math.Logic.{∥∥₁_elim, ∥∥₁_map, ∥∥₁_prop}
 use Rattle.std.specs.BTreeMap.{BTreeMap, Updates, WritesThrough, get, is_at}
 use Rattle.std.specs.Map.{lookup}
 use Rattle.std.specs.Ordering.{is_eq, nat_cmp}
 use Rattle.std.specs.Coded.{Coded-set, coded_bool}
 use Rattle.std.specs.Prelude.{Err, Ok, OnErr, OnOk, Result, is_some, option_and_then}
-use Rattle.std.proofs.lemmas.Bool.{cases_Bool, cond-false, cond-true, false≢true}
+use Rattle.std.proofs.lemmas.Bool.{cases_Bool, cond-false, cond-true}
 use Rattle.blob_directory.specs.declared.edit.Binding.{Binding}
-use Rattle.blob_directory.specs.declared.edit.Kind.TheVariants.{File}
 use Rattle.blob_directory.specs.declared.table.Table.{Table}
 use Rattle.blob_directory.specs.Counts.{NamedAtMost}
-use Rattle.blob_directory.specs.Names.{Edit, Names, Same, changed, directory_at, edited, exchanges, file, moves}
+use Rattle.blob_directory.specs.Names.{Edit, Names, Same, directory_at, edited, exchanges, file, moves}
 use Rattle.blob_directory.specs.Tables.{bound}
 use Rattle.blob_fs.specs.declared.file_system.File as of_fs
 use Rattle.blob_journal.specs.declared.journaled.Journaled.{Journaled}
@@ -114,6 +113,9 @@ no_links f none = by f.is_gone
     by : (gone : Bool) → cond gone 0 f.links ≤ 0
     by true = omega arith
     by false = omega (arith, none)
+
+pub none_left : (f : of_fs.File) → f.links ≡ 0 → links_of f ≡ 0
+none_left f none = let most = no_links f none in omega (arith, most)
 
 -- a file gets this many links; if it's gone, none count
 pub set_named : (names : Names) (k : ℕ) (was : of_fs.File) (n : ℕ) (files : BTreeMap ℕ of_fs.File) → Some was ≡ get nat_cmp files k → ∥ AllNamed names files ∥₁ → ∥ NamedAtMost names k n ∥₁ → ∥ NamedAtMost names k (links_of (record was { links = n })) ∥₁

@@ -1,5 +1,5 @@
 -- How many names a file has, through an edit.
-use Rattle.std.proofs.Common.{◌≡◌, ◌≢◌, ◌≤◌, ◌⊎◌, ◌-◌, ℕ, suc, Bool, true, false, List, [], ◌∷◌, length, cond, Contains, eqb, pred, inl, inr, ⊎_elim, Option, None, Some, refl, sym, ap, subst, ◌∙◌, arith}
+use Rattle.std.proofs.Common.{◌≡◌, ◌≢◌, ◌≤◌, ◌⊎◌, ℕ, suc, Bool, true, false, List, [], ◌∷◌, length, cond, Contains, eqb, pred, inl, inr, ⊎_elim, Option, None, Some, refl, sym, ap, subst, ◌∙◌, arith}
 use Rattle.std.specs.BTreeMap.{BTreeMap, get}
 use Rattle.std.specs.Ordering.{is_eq, nat_cmp}
 use Rattle.std.specs.Cmp.Lexicographic.{bytes_decides}
@@ -12,7 +12,6 @@ use Rattle.blob_directory.specs.declared.edit.Kind.{Kind}
 use Rattle.blob_directory.specs.declared.edit.Kind.TheVariants.{Directory, File}
 use Rattle.blob_directory.specs.Counts.{NamedAtMost}
 use Rattle.blob_directory.specs.Names.{Names, Same, changed, directory_at, edited, exchanges, file, moves}
-use Rattle.blob_directory.specs.Tables.{bound}
 use Rattle.blob_fs.specs.declared.file_system.File as of_fs
 use Rattle.blob_fs.specs.Named.{AllNamed, links_in}
 use Rattle.blob_fs.proofs.Recovering.{key_is, key_self}

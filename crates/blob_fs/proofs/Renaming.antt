@@ -5,7 +5,7 @@ use Rattle.std.proofs.lemmas.Bool.{false≢true}
 use Rattle.blob_directory.specs.declared.edit.Binding.{Binding}
 use Rattle.blob_directory.specs.declared.table.Table.{Table}
 use Rattle.blob_directory.specs.Names.{Edit, Same, edited, exchanges, moves}
-use Rattle.blob_directory.specs.Sectors.{Found, found_in, sector_of}
+use Rattle.blob_directory.specs.Sectors.{Found}
 use Rattle.blob_directory.specs.Tables.{bound}
 use Rattle.blob_fs.specs.declared.file_system.FileSystem.{FileSystem}
 use Rattle.blob_fs.specs.declared.renames.Rename.{Rename}
@@ -86,7 +86,7 @@ leaves_from fs one two b l = record { recorded = l.recorded ∙ b.told; names = 
 
 makes_from : {R : Type 0} (edit : Edit) (fs one two : FileSystem R) → Before fs one → Makes edit one two → Makes edit fs two
 makes_from edit fs one two b m = record {
-  recorded = subst (λ (l : List Found). told_of two ≡ l ++ found_in (sector_of edit false) ∷ []) b.told m.recorded;
+  recorded = subst (λ (l : List Found). told_of two ≡ l ++ Some (edit, false) ∷ []) b.told m.recorded;
   names = subst (λ (t : Table). Same (names_of two) (edited (bound t) edit)) b.names m.names;
 }
 

@@ -1,5 +1,5 @@
 -- The names of a file system, and what its calls leave of them.
-use Rattle.std.specs.Prelude.{◌≡◌, ◌⊎◌, ℕ, List, Bool, Option, None, Some, if◌then◌else◌, option_and_then, option_map, unwrap_or}
+use Rattle.std.specs.Prelude.{◌≡◌, ◌≤◌, ◌⊎◌, ℕ, List, Bool, Option, None, Some, if◌then◌else◌, option_and_then, option_map, unwrap_or}
 use Rattle.std.specs.BTreeMap.{get}
 use Rattle.std.specs.Ordering.{nat_cmp}
 use Rattle.blob_draws.specs.declared.selections.Selections.{Selections}
@@ -19,6 +19,7 @@ use Rattle.blob_directory.specs.Tables.{bound}
 use Rattle.blob_directory.specs.Trees.{Finds}
 use Rattle.blob_fs.specs.Named.{links_in}
 use Rattle.blob_fs.specs.Open.{with_open}
+use Rattle.blob_fs.specs.Tracked.{freed_in}
 use Rattle.blob_journal.specs.declared.journaled.Journaled.{Journaled}
 use Rattle.blob_journal.specs.Currents.{Represents}
 use Rattle.blob_journal.specs.Journals.{FindsKept as finds_kept, durable_file, FindsNames as finds_names, GivesNames as gives_names, store_of}
@@ -50,7 +51,7 @@ generator_of fs = generator_in fs.store
 
 -- with another generator; all else stays
 abbrev pub with_generator : {R : Type 0} → FileSystem R → R → FileSystem R
-with_generator fs rng = record fs { store = with_generator_in fs.store rng; opened = with_open fs.store rng fs.files fs.opened; named = fs.named }
+with_generator fs rng = record fs { store = with_generator_in fs.store rng; opened = with_open fs.store rng fs.files fs.opened; named = fs.named; tracked = fs.tracked }
 
 -- nothing has happened to the names
 abbrev pub KeepsNames : {R : Type 0} → FileSystem R → FileSystem R → Type 0
@@ -208,3 +209,9 @@ synced_size fs inode = unwrap_or (option_map (λ f. f.synced) (file_of fs inode)
 -- its size that the last crash found
 abbrev pub found_size : {R : Type 0} → FileSystem R → ℕ → ℕ
 found_size fs inode = unwrap_or (option_map (λ f. f.found) (file_of fs inode)) 0
+
+-- a file went while the journal had at most this many edits
+pub record IsGoneBy {R : Type 0} (fs : FileSystem R) (inode edits : ℕ) : Type 0 where
+  pub limit : ℕ
+  pub freed : freed_in (get nat_cmp fs.files inode) ≡ Some limit
+  pub before : limit ≤ edits

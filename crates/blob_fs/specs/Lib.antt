@@ -6,9 +6,11 @@ pub mod Truncations
 pub mod Bytes
 pub mod Open
 pub mod Named
+pub mod Tracked
 pub mod Synced
 pub mod Fixed
 pub mod Unreached
+pub mod Errors
 pub use Rattle.blob_directory.specs.Names
 pub use Rattle.blob_directory.specs.Profiles
 pub use Rattle.blob_directory.specs.Sectors

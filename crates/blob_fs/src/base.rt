@@ -13,6 +13,7 @@ use blob_directory::edit::{Binding, Edit, Kind, entry_of};
 use blob_directory::unsettled::About;
 use blob_faulty::Config;
 use blob_journal::Journaled;
+use blob_journal::laws::bindings;
 use rand_core::Rng;
 use std::alloc::Global;
 use std::collections::BTreeMap;
@@ -134,6 +135,7 @@ impl<R: Rng + Drop> FileSystem<R> {
         ensures files { SameFiles self.old self.new }
         ensures fixed { KeepsFixed self.old self.new }
     {
+        bindings();
         self.gone.reserve(1)?;
         self.store.make(edit, about, self.options.edit_rate)?;
         Ok(())

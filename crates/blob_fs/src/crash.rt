@@ -1,6 +1,7 @@
 //! The crash, and the recovery after it.
 ghost use Rattle.std.specs.Prelude.{◌≡◌, IfOk, OnErr, OnOk, unwrap_or};
 ghost use Rattle.blob_fs.specs.Bytes.{FindsBytes, FindsEdits, FindsKnown, HasNoOrphan};
+ghost use Rattle.blob_fs.specs.Errors.{StopsAtLimits};
 ghost use Rattle.blob_fs.specs.Fixed.{FindsFixed, FixesFound};
 ghost use Rattle.blob_fs.specs.Files.{FindsKept, FindsTold, GivesNames, GivesTold, IsRecovered, KeepsNames, KeepsTold, SameNames};
 ghost use Rattle.blob_fs.specs.Places.{FindsPlaces};
@@ -54,9 +55,9 @@ impl<R: Rng + Drop> FileSystem<R> {
     ///
     /// # Errors
     ///
-    /// `Memory`. If the layer's crash ran out, nothing has changed. If the recovery did, all other calls return `Crashed` until a
-    /// crash returns Ok, which applies truncations by the writes that this one kept. `Closed` if a name reaches a file that the file
-    /// system has no more, which no call leaves.
+    /// `Memory`, or `GenerationsExhausted` or `OffsetOverflow` if a counter or a length of 64 bits is at its end. If the layer's crash
+    /// ran out, nothing has changed. If the recovery did, all other calls return `Crashed` until a crash returns Ok, which applies
+    /// truncations by the writes that this one kept.
     pub fn crash(&mut self) -> Result<Crash, FsError>
         ensures found { IfOk result (λ crash. FindsKept self.old crash.rows self.new) }
         ensures gives { OnOk result (GivesNames self.new) }
@@ -72,6 +73,7 @@ impl<R: Rng + Drop> FileSystem<R> {
         ensures orphans { OnOk result (HasNoOrphan self.new) }
         ensures fixed { OnOk result (FindsFixed self.old self.new) }
         ensures fixes { OnOk result (FixesFound self.old self.new) }
+        ensures errors { StopsAtLimits result }
         ensures places { IfOk result (λ crash. FindsPlaces self.old crash.rows crash.places.items) }
     {
         found();

@@ -5,6 +5,7 @@ ghost use Rattle.blob_fs.specs.Fixed.{KeepsFixed, KeepsSeen};
 ghost use Rattle.blob_fs.specs.Named.{links_of};
 ghost use Rattle.blob_fs.specs.Noted.{ShowsSize};
 ghost use Rattle.blob_fs.specs.Open.{SameContent};
+ghost use Rattle.blob_fs.specs.Tracked.{freed_of};
 ghost use Rattle.blob_journal.specs.Fixed.{KeepsOpen};
 ghost use Rattle.blob_journal.specs.Keeping.{KeepsTable, KeepsTold as keeps_told};
 
@@ -60,6 +61,7 @@ impl File {
     pub(crate) fn reserve_shown(&mut self, end: u64) -> Result<(), AllocError>
         ensures content { SameContent self.old self.new }
         ensures links { links_of self.new ≡ links_of self.old }
+        ensures gone { freed_of self.new ≡ freed_of self.old }
     {
         if let Some(shown) = &mut self.shown {
             let more = end.saturating_sub(shown.len() as u64);
@@ -72,6 +74,7 @@ impl File {
     pub(crate) fn show_write(&mut self, offset: u64, bytes: &[u8])
         ensures content { SameContent self.old self.new }
         ensures links { links_of self.new ≡ links_of self.old }
+        ensures gone { freed_of self.new ≡ freed_of self.old }
     {
         let Some(shown) = &mut self.shown else {
             return;
@@ -93,6 +96,7 @@ impl File {
     pub(crate) fn show_size(&mut self, length: u64)
         ensures content { ShowsSize length self.old self.new }
         ensures links { links_of self.new ≡ links_of self.old }
+        ensures gone { freed_of self.new ≡ freed_of self.old }
     {
         let Some(shown) = &mut self.shown else {
             return;

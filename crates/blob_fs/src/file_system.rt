@@ -1,7 +1,8 @@
 //! A file system over the fault wrapper.
 ghost use Rattle.blob_fs.specs.Named.{AllNamed};
 ghost use Rattle.blob_fs.specs.Open.{AllOpen};
-ghost use Rattle.blob_journal.specs.Keeping.{names_in};
+ghost use Rattle.blob_fs.specs.Tracked.{IsTracked};
+ghost use Rattle.blob_journal.specs.Keeping.{names_in, told_in};
 
 use crate::switches::{FailedSync, FailedWrite, Syncs};
 use crate::truncation::{Kept, Truncation};
@@ -63,6 +64,8 @@ pub(crate) struct File {
     pub(crate) truncations: Vec<Truncation>,
     /// No name and no descriptor refers to it, but a crash may give it a name again.
     pub(crate) is_gone: bool,
+    /// How many edits the journal had when it went.
+    pub(crate) gone_at: u64,
 }
 
 /// Files with names over a fault wrapper.
@@ -88,4 +91,15 @@ pub struct FileSystem<R> {
     ghost opened: { ∥ AllOpen store files ∥₁ },
     // no file has more names than links, so each one that a name is bound to exists
     ghost named: { ∥ AllNamed (names_in store) files ∥₁ },
+    // each file that a crash may find a name of exists
+    ghost tracked: { ∥ IsTracked (told_in store) (names_in store) files ∥₁ },
+}
+
+/// Returns how many bytes files have.
+pub(crate) fn used_by(files: &BTreeMap<u64, File>) -> u64 {
+    let mut used = 0u64;
+    for (_, file) in files {
+        used = used.saturating_add(file.blob.size());
+    }
+    used
 }

@@ -6,6 +6,7 @@ ghost use Rattle.blob_fs.specs.Fixed.{KeepsFixed, KeepsFixedBut, KeepsSpared};
 ghost use Rattle.blob_fs.specs.Noted.{HasSize, size_read};
 ghost use Rattle.blob_fs.specs.Named.{links_of};
 ghost use Rattle.blob_fs.specs.Open.{SameContent};
+ghost use Rattle.blob_fs.specs.Tracked.{freed_of};
 ghost use Rattle.blob_journal.specs.Fixed.{IsBeside};
 ghost use Rattle.blob_fs.specs.Files.{KeepsNames, KeepsTold, MayResize, SameFiles, SameLinks, SameOpens, fresh_inode, inode_opened, journaled_of};
 
@@ -40,6 +41,7 @@ impl File {
             truncations: Vec::new(alloc),
             shown: None,
             is_gone: false,
+            gone_at: 0,
         }
     }
 
@@ -47,6 +49,7 @@ impl File {
     fn end_write(&mut self, is_ok: bool, offset: u64, bytes: &[u8], before: u64, edit: u64) -> u64
         ensures content { SameContent self.old self.new }
         ensures links { links_of self.new ≡ links_of self.old }
+        ensures gone { freed_of self.new ≡ freed_of self.old }
     {
         if is_ok {
             self.show_write(offset, bytes);

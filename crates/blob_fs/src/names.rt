@@ -1,9 +1,10 @@
 //! Names by directory: files are created, linked and unlinked, directories are made, removed and listed.
 ghost use Rattle.std.specs.Prelude.{◌≡◌, ◌∷◌, [], None, Some, OnOk, OnErr, IfOk, IsSome, pred};
-ghost use Rattle.blob_fs.specs.Files.{AddsTold, KeepsNames, KeepsTold, MakesEdit, SameNames, file_of, fresh_inode, journaled_of, names_of};
+ghost use Rattle.blob_fs.specs.Files.{AddsTold, KeepsNames, KeepsTold, MakesEdit, SameNames, file_of, fresh_inode, journaled_of, names_of, told_of};
 ghost use Rattle.blob_fs.specs.Bytes.{file_in};
 ghost use Rattle.blob_fs.specs.Fixed.{KeepsFixed, KeepsFixedBut};
 ghost use Rattle.blob_fs.specs.Named.{links_in};
+ghost use Rattle.blob_journal.specs.Bindings.{MayName};
 ghost use Rattle.blob_journal.specs.Fixed.{IsOpen};
 ghost use Rattle.blob_directory.specs.Counts.{NamedAtMost};
 ghost use Rattle.blob_directory.specs.Names.{binds, directory_at, entry, file, frees};
@@ -105,6 +106,7 @@ impl<R: Rng + Drop> FileSystem<R> {
     fn open_new(&mut self, inode: u64, blob: FileBlob) -> Result<Descriptor, FsError>
         requires opened { IsOpen (journaled_of self.old) inode blob }
         requires unnamed { ∥ NamedAtMost (names_of self.old) inode 0 ∥₁ }
+        requires unfound { MayName (told_of self.old) inode → ⊥ }
         ensures links { OnOk result (links_in (file_in self.new inode) ≡ 1) }
         ensures names { KeepsNames self.old self.new }
         ensures told { KeepsTold self.old self.new }

@@ -1,52 +1,36 @@
 //! The recovery: the names from the journal, and the files from their blobs.
-ghost use Rattle.std.specs.Prelude.{◌≡◌, Some, IfOk, OnOk, OnErr, is_some, length, min, true};
+ghost use Rattle.std.specs.Prelude.{◌≡◌, ℕ, Some, IfOk, OnOk, OnErr, is_some, true};
 ghost use Rattle.std.specs.BTreeMap.{Updates, get};
 ghost use Rattle.std.specs.Ordering.{nat_cmp};
 ghost use Rattle.blob_directory.specs.Checkpoints.{FitsJournal};
 ghost use Rattle.blob_directory.specs.Tables.{bound};
-ghost use Rattle.blob_fs.specs.Bytes.{ChangesOnly, CutsFile, CutsFrom, CutsTo, FindsKnown, HasNoOrphan, HasOnlyKnown, HasOnlyLinked, KeepsBlobsOf, OpensLeft, RecoversBytes, Reopens, ReopensAll, Rewrites, Truncates, kept_length as length_kept};
+ghost use Rattle.blob_directory.specs.Trees.{has_link};
+ghost use Rattle.blob_fs.specs.Bytes.{ChangesOnly, CutsFile, CutsFrom, CutsTo, FindsKnown, HasNoOrphan, HasOnlyKnown, HasOnlyLinked, KeepsBlobsOf, OpensLeft, RecoversBytes, Reopens, ReopensAll, Rewrites, Truncates};
+ghost use Rattle.blob_fs.specs.Errors.{StopsAtLimits, TrackSizes};
 ghost use Rattle.blob_fs.specs.Truncations.{lost_of};
 ghost use Rattle.blob_fs.specs.Fixed.{AllFixed, AreWhole, FixesFound, IsWhole};
 ghost use Rattle.blob_fs.specs.Open.{AllOpen, MayChange};
 ghost use Rattle.blob_fs.specs.Named.{AllNamed, CountsLinks};
+ghost use Rattle.blob_fs.specs.Tracked.{AllPresent};
 ghost use Rattle.blob_fs.specs.Files.{FindsAgain, FindsNames, FindsTold, GivesNames, GivesTold, KeepsNames, KeepsTold, RepresentsFiles, fresh_inode, journaled_of, keeps_of, table_of};
 ghost use Rattle.blob_journal.specs.Blobs.{ChangesFile, SameFilesBut};
 ghost use Rattle.blob_journal.specs.Currents.{KeepsFiles};
+ghost use Rattle.blob_journal.specs.Errors.{FailsAtLimits, IsFaultless, IsReady, KeepsReady, TracksSize};
 ghost use Rattle.blob_journal.specs.Fixed.{KeepsHandles, KeepsOpenBut};
 ghost use Rattle.blob_journal.specs.Journals.{GivesNames as gives_names, KeepsFile, KeepsFilesOf, store_of};
 ghost use Rattle.blob_journal.specs.Settling.{FindsEdits};
 ghost use Rattle.blob_journal.specs.Keeping.{KeepsTable, KeepsTold as keeps_told};
 
 use crate::error::FsError;
-use crate::file_system::{File, FileSystem};
+use crate::file_system::{File, FileSystem, used_by};
 use crate::truncation::Kept;
-use crate::truncations::{Loss, are_same, cut_start, lost_edits, truncate_all};
+use crate::truncations::{Loss, are_same, cut_start, kept_length, lost_edits, truncate_all};
 use blob_base::Error;
 use blob_directory::tree::Tree;
-use blob_journal::laws::blobs;
+use blob_journal::laws::{bindings, blobs};
 use blob_journal::{FileBlob, Journaled};
 use rand_core::Rng;
 use std::collections::BTreeMap;
-
-/// Returns the length of the found bytes before the first one beyond the synced size that differs from the live bytes.
-fn kept_length(found: &[u8], live: &[u8], synced: usize) -> usize
-    ensures { result ≡ length_kept (min synced (length found.now)) live.now found.now }
-{
-    let mut at = synced.min(found.len());
-    while at < found.len() && at < live.len() && found[at] == live[at] {
-        at += 1;
-    }
-    at
-}
-
-/// Returns how many bytes files have.
-fn used_by(files: &BTreeMap<u64, File>) -> u64 {
-    let mut used = 0u64;
-    for (_, file) in files {
-        used = used.saturating_add(file.blob.size());
-    }
-    used
-}
 
 /// Cuts a file to a length, durably.
 fn cut_to<R: Rng + Drop>(
@@ -61,6 +45,8 @@ fn cut_to<R: Rng + Drop>(
     ensures others { OnOk result (ChangesFile store.old blob.old store.new) }
     ensures handles { KeepsHandles store.old store.new }
     ensures still { OnOk result (MayChange store.old blob.old store.new blob.new) }
+    ensures ready { KeepsReady store.old blob.old store.new blob.new }
+    ensures errors { IsReady store.old blob.old → FailsAtLimits result }
 {
     blobs::<R>();
     store.resize_file(blob, length)?;
@@ -82,6 +68,8 @@ fn rewrite<R: Rng + Drop>(
     ensures others { OnOk result (ChangesOnly store.old blob.old store.new) }
     ensures handles { KeepsHandles store.old store.new }
     ensures still { OnOk result (MayChange store.old blob.old store.new blob.new) }
+    ensures ready { KeepsReady store.old blob.old store.new blob.new }
+    ensures errors { IsReady store.old blob.old → FailsAtLimits result }
 {
     blobs::<R>();
     store.resize_file(blob, 0)?;
@@ -107,6 +95,8 @@ fn truncate_left<R: Rng + Drop>(
     ensures others { OnOk result (ChangesOnly store.old blob.old store.new) }
     ensures handles { KeepsHandles store.old store.new }
     ensures still { OnOk result (MayChange store.old blob.old store.new blob.new) }
+    ensures ready { KeepsReady store.old blob.old store.new blob.new }
+    ensures errors { IsReady store.old blob.old → FailsAtLimits result }
 {
     blobs::<R>();
     let truncations = old.truncations.as_slice();
@@ -135,6 +125,8 @@ fn cut_from<R: Rng + Drop>(
     ensures others { OnOk result (ChangesOnly store.old blob.old store.new) }
     ensures handles { KeepsHandles store.old store.new }
     ensures still { OnOk result (MayChange store.old blob.old store.new blob.new) }
+    ensures ready { KeepsReady store.old blob.old store.new blob.new }
+    ensures errors { IsReady store.old blob.old → TracksSize live.now → FailsAtLimits result }
 {
     blobs::<R>();
     let size = blob.size();
@@ -164,6 +156,8 @@ fn cut<R: Rng + Drop>(
     ensures others { OnOk result (ChangesOnly store.old blob.old store.new) }
     ensures handles { KeepsHandles store.old store.new }
     ensures still { OnOk result (MayChange store.old blob.old store.new blob.new) }
+    ensures ready { KeepsReady store.old blob.old store.new blob.new }
+    ensures errors { IsReady store.old blob.old → TracksSize old.now.blob → FailsAtLimits result }
 {
     blobs::<R>();
     if !loss.cuts {
@@ -174,8 +168,7 @@ fn cut<R: Rng + Drop>(
 }
 
 /// Opens the blob of a file after a crash, applies its kept truncations, and cuts it if the profile does. Returns it with the size
-/// that was found: after the truncations, before the cut. Refuses a file that the file system didn't have before the crash with
-/// `Closed`: it keeps each file of which a crash may find a name, which isn't proved.
+/// that was found: after the truncations, before the cut. The file system must have had the file before the crash.
 fn open_cut<R: Rng + Drop>(
     store: &mut Journaled<R>,
     inode: u64,
@@ -183,18 +176,20 @@ fn open_cut<R: Rng + Drop>(
     kept: &Kept,
     loss: &Loss,
 ) -> Result<(FileBlob, u64), Error>
+    requires known { is_some (get nat_cmp old.now inode) ≡ true }
     ensures names { KeepsTable store.old store.new }
     ensures told { keeps_told store.old store.new }
     ensures files { KeepsFiles (store_of store.old) (store_of store.new) }
     ensures left { IfOk result (λ r. OpensLeft store.old inode old.now kept.now loss.now store.new r.0 r.1) }
-    ensures known { OnOk result (is_some (get nat_cmp old.now inode) ≡ true) }
     ensures others { OnOk result (SameFilesBut inode store.old store.new) }
     ensures handles { KeepsHandles store.old store.new }
     ensures still { OnOk result (KeepsOpenBut inode store.old store.new) }
+    ensures ready { IsFaultless store.old → IfOk result (λ r. IsReady store.new r.0) }
+    ensures errors { IsFaultless store.old → TrackSizes old.now → FailsAtLimits result }
 {
     blobs::<R>();
     let Some(was) = old.get(&inode) else {
-        return Err(Error::Closed);
+        unreachable!();
     };
     let mut blob = store.open_file(inode)?;
     truncate_left(store, &mut blob, inode, was, kept, loss)?;
@@ -211,15 +206,17 @@ fn open_left<R: Rng + Drop>(
     kept: &Kept,
     loss: &Loss,
 ) -> Result<(FileBlob, u64), Error>
+    requires known { is_some (get nat_cmp old.now inode) ≡ true }
     ensures names { KeepsTable store.old store.new }
     ensures told { keeps_told store.old store.new }
     ensures files { KeepsFiles (store_of store.old) (store_of store.new) }
     ensures left { IfOk result (λ r. OpensLeft store.old inode old.now kept.now loss.now store.new r.0 r.1) }
-    ensures known { OnOk result (is_some (get nat_cmp old.now inode) ≡ true) }
     ensures others { OnOk result (SameFilesBut inode store.old store.new) }
     ensures handles { KeepsHandles store.old store.new }
     ensures still { OnOk result (KeepsOpenBut inode store.old store.new) }
     ensures fixes { IfOk result (λ r. AllFixed store.new r.0) }
+    ensures faultless { IsFaultless store.old → OnOk result (IsFaultless store.new) }
+    ensures errors { IsFaultless store.old → TrackSizes old.now → FailsAtLimits result }
 {
     blobs::<R>();
     let (mut blob, found) = open_cut(store, inode, old, kept, loss)?;
@@ -236,16 +233,18 @@ fn reopen<R: Rng + Drop>(
     kept: &Kept,
     loss: &Loss,
 ) -> Result<File, Error>
+    requires known { is_some (get nat_cmp old.now inode) ≡ true }
     ensures names { KeepsTable store.old store.new }
     ensures told { keeps_told store.old store.new }
     ensures files { KeepsFiles (store_of store.old) (store_of store.new) }
     ensures left { IfOk result (λ file. Reopens store.old inode old.now kept.now loss.now store.new file) }
-    ensures known { OnOk result (is_some (get nat_cmp old.now inode) ≡ true) }
     ensures others { OnOk result (SameFilesBut inode store.old store.new) }
     ensures handles { KeepsHandles store.old store.new }
     ensures still { OnOk result (KeepsOpenBut inode store.old store.new) }
     ensures whole { IfOk result (IsWhole store.new) }
     ensures links { IfOk result (λ file. file.links ≡ links) }
+    ensures faultless { IsFaultless store.old → OnOk result (IsFaultless store.new) }
+    ensures errors { IsFaultless store.old → TrackSizes old.now → FailsAtLimits result }
 {
     let (blob, found) = open_left(store, inode, old, kept, loss)?;
     let synced = blob.size();
@@ -258,7 +257,8 @@ fn reopen<R: Rng + Drop>(
 
 /// Adds a file to a map. The only error is out of memory.
 fn put(files: &mut BTreeMap<u64, File>, inode: u64, file: File) -> Result<(), FsError>
-    ensures { OnOk result (Updates nat_cmp files.old files.new inode (Some file)) }
+    ensures updated { OnOk result (Updates nat_cmp files.old files.new inode (Some file)) }
+    ensures errors { StopsAtLimits result }
 {
     files.insert(inode, file)?;
     Ok(())
@@ -272,6 +272,7 @@ fn reopen_all<R: Rng + Drop>(
     kept: &Kept,
     loss: &Loss,
 ) -> Result<BTreeMap<u64, File>, FsError>
+    requires known { (inode : ℕ) → has_link tree.now inode ≡ true → is_some (get nat_cmp old.now inode) ≡ true }
     ensures names { KeepsTable store.old store.new }
     ensures told { keeps_told store.old store.new }
     ensures files { KeepsFiles (store_of store.old) (store_of store.new) }
@@ -282,6 +283,9 @@ fn reopen_all<R: Rng + Drop>(
     ensures handles { KeepsHandles store.old store.new }
     ensures whole { IfOk result (AreWhole store.new) }
     ensures counted { IfOk result (CountsLinks tree.now) }
+    ensures present { IfOk result AllPresent }
+    ensures faultless { IsFaultless store.old → OnOk result (IsFaultless store.new) }
+    ensures errors { IsFaultless store.old → TrackSizes old.now → StopsAtLimits result }
 {
     blobs::<R>();
     let mut files = BTreeMap::new(loss.alloc);
@@ -341,7 +345,9 @@ impl<R: Rng + Drop> FileSystem<R> {
         ensures orphans { OnOk result (HasNoOrphan self.new) }
         ensures opened { OnOk result (AllOpen (journaled_of self.new) self.new.files) }
         ensures fixes { OnOk result (FixesFound self.old self.new) }
+        ensures errors { StopsAtLimits result }
     {
+        bindings();
         blobs::<R>();
         let (tree, edits) = self.store.find_names(self.options.profile.keeps)?;
         let lost = lost_edits(self.alloc, numbers, &edits)?;
@@ -360,9 +366,11 @@ impl<R: Rng + Drop> FileSystem<R> {
     fn begin_life(&mut self, tree: Tree, files: BTreeMap<u64, File>) -> Result<(), FsError>
         requires opened { AllOpen (journaled_of self.old) files }
         requires named { AllNamed (bound tree.names) files }
+        requires present { AllPresent files }
+        requires fits { FitsJournal tree }
         ensures names { OnOk result (table_of self.new ≡ tree.names) }
-        ensures gives { OnOk result (FitsJournal tree → RepresentsFiles self.old → GivesNames self.new) }
-        ensures told { OnOk result (FitsJournal tree → GivesTold self.new) }
+        ensures gives { OnOk result (RepresentsFiles self.old → GivesNames self.new) }
+        ensures told { OnOk result (GivesTold self.new) }
         ensures refused { OnErr result (KeepsNames self.old self.new) }
         ensures untold { OnErr result (KeepsTold self.old self.new) }
         ensures files { OnOk result (self.new.files ≡ files) }
@@ -370,7 +378,9 @@ impl<R: Rng + Drop> FileSystem<R> {
         ensures opened { OnOk result (AllOpen (journaled_of self.new) files) }
         ensures whole { OnOk result (AreWhole (journaled_of self.old) files → AreWhole (journaled_of self.new) files) }
         ensures numbers { OnOk result (fresh_inode self.new ≡ fresh_inode self.old) }
+        ensures errors { IsFaultless (journaled_of self.old) → StopsAtLimits result }
     {
+        bindings();
         blobs::<R>();
         let directories = self.store.renew(tree)?;
         remove_unnamed(&mut self.store, &self.files, &files);

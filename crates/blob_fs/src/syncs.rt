@@ -10,7 +10,7 @@ use crate::switches::{FailedSync, Syncs};
 use blob_base::Error;
 use blob_directory::profile::Settles;
 use blob_directory::unsettled::Synced;
-use blob_journal::laws::settling;
+use blob_journal::laws::{bindings, settling};
 use rand_core::Rng;
 
 impl<R: Rng + Drop> FileSystem<R> {
@@ -22,6 +22,7 @@ impl<R: Rng + Drop> FileSystem<R> {
         ensures fixed { KeepsFixed self.old self.new }
     {
         settling::<R>();
+        bindings();
         self.store.settle(settles, synced)?;
         self.remove_gone();
         Ok(())

@@ -4,12 +4,14 @@ ghost use Rattle.blob_fs.specs.Fixed.{KeepsFixed, KeepsSpared};
 ghost use Rattle.blob_fs.specs.Named.{links_of};
 ghost use Rattle.blob_fs.specs.Noted.{HasSize, NotesTruncation, ShowsSize};
 ghost use Rattle.blob_fs.specs.Files.{KeepsNames, KeepsTold, MayTruncate};
+ghost use Rattle.blob_fs.specs.Tracked.{freed_of};
 
 use crate::error::FsError;
 use crate::file_system::{Descriptor, File, FileSystem};
 use crate::truncation::Truncation;
 use blob_base::Error;
 use blob_faulty::Config;
+use blob_journal::laws::bindings;
 use rand_core::Rng;
 
 impl File {
@@ -17,6 +19,7 @@ impl File {
     fn end_truncate(&mut self, length: u64, edit: u64) -> u64
         ensures content { ShowsSize length self.old self.new }
         ensures links { links_of self.new ≡ links_of self.old }
+        ensures gone { freed_of self.new ≡ freed_of self.old }
     {
         self.is_changed = true;
         self.grown = edit;
@@ -41,6 +44,7 @@ impl<R: Rng + Drop> FileSystem<R> {
         ensures size { OnOk result (HasSize self.new file length) }
         ensures fixed { KeepsSpared file (λ at. at < length) self.old self.new }
     {
+        bindings();
         self.begin_call()?;
         let inode = self.inode_of(file)?;
         let size = self.size(file)?;

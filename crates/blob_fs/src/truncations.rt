@@ -1,5 +1,6 @@
 //! The truncations of a file that a crash kept, and what they leave of its bytes.
-ghost use Rattle.std.specs.Prelude.{◌≡◌, ◌&&◌, IfOk, OnOk, map, nat_eq, true};
+ghost use Rattle.std.specs.Prelude.{◌≡◌, ◌&&◌, IfOk, OnOk, length, map, min, nat_eq, true};
+ghost use Rattle.blob_fs.specs.Bytes.{kept_length as length_kept};
 ghost use Rattle.blob_fs.specs.Truncations.{AreMarks, Marks, cut_start as start_of, is_lost as loses, keeps_at, lost_of, marks_from, puts_back, puts_write, truncated, truncated_by};
 
 use crate::crash::Place;
@@ -175,4 +176,15 @@ pub(crate) fn cut_start(loss: &Loss, synced: u64, truncations: &[Truncation]) ->
         }
     }
     start
+}
+
+/// Returns the length of the found bytes before the first one beyond the synced size that differs from the live bytes.
+pub(crate) fn kept_length(found: &[u8], live: &[u8], synced: usize) -> usize
+    ensures { result ≡ length_kept (min synced (length found.now)) live.now found.now }
+{
+    let mut at = synced.min(found.len());
+    while at < found.len() && at < live.len() && found[at] == live[at] {
+        at += 1;
+    }
+    at
 }

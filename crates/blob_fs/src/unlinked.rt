@@ -1,22 +1,22 @@
 //! Files that no name and no descriptor refers to.
-ghost use Rattle.std.specs.Prelude.{◌≡◌, true};
+ghost use Rattle.std.specs.Prelude.{◌≡◌, take, true};
 ghost use Rattle.blob_directory.specs.Counts.{NamedAtMost};
-ghost use Rattle.blob_fs.specs.Bytes.{file_in};
-ghost use Rattle.blob_fs.specs.Files.{KeepsJournal, KeepsNames, KeepsTold, names_of};
+ghost use Rattle.blob_fs.specs.Files.{IsGoneBy, KeepsJournal, KeepsNames, KeepsTold, names_of, told_of};
 ghost use Rattle.blob_fs.specs.Fixed.{KeepsFixed};
-ghost use Rattle.blob_fs.specs.Named.{links_in};
+ghost use Rattle.blob_journal.specs.Bindings.{MayName};
+ghost use Rattle.blob_directory.specs.Settled.{AreSettled};
 
 use crate::file_system::FileSystem;
 use blob_faulty::Config;
-use blob_journal::laws::settling;
+use blob_journal::laws::{bindings, settling};
 use rand_core::Rng;
 
 /// A file that was deleted. A crash that loses an edit from before that may find it again.
 #[derive(Clone, Copy)]
 pub(crate) struct Gone {
     inode: u64,
-    /// The number of the next edit when it went.
-    edit: u64,
+    /// How many edits the journal had when it went.
+    edits: u64,
 }
 
 impl<R: Rng + Drop> FileSystem<R> {
@@ -26,7 +26,8 @@ impl<R: Rng + Drop> FileSystem<R> {
         ensures told { KeepsTold self.old self.new }
         ensures fixed { KeepsFixed self.old self.new }
     {
-        let edit = self.store.next_edit();
+        bindings();
+        let edits = self.store.told_edits();
         let Some(file) = self.files.get_mut(&inode) else {
             return;
         };
@@ -35,28 +36,31 @@ impl<R: Rng + Drop> FileSystem<R> {
         }
         let size = file.size();
         file.is_gone = true;
-        let _ = self.gone.push(Gone { inode, edit });
+        file.gone_at = edits;
+        let _ = self.gone.push(Gone { inode, edits });
         self.count(size, 0);
     }
 
-    /// Returns whether no name can refer to a file.
-    fn is_unlinked(&self, inode: u64) -> bool
-        ensures { result ≡ true → links_in (file_in self.now inode) ≡ 0 }
+    /// Returns whether a file went while the journal had at most this many edits.
+    fn is_gone_by(&self, inode: u64, edits: u64) -> bool
+        ensures { result ≡ true → IsGoneBy self.now inode edits }
     {
         match self.files.get(&inode) {
-            None => true,
-            Some(file) => file.is_gone || file.links == 0,
+            None => false,
+            Some(file) => file.is_gone && file.gone_at <= edits,
         }
     }
 
-    /// Removes a file and its blob, if no name can refer to it.
-    fn remove_unlinked(&mut self, inode: u64)
+    /// Removes a file and its blob if it went while the journal had at most this many edits. These are settled.
+    fn remove_settled(&mut self, inode: u64, settled: u64)
+        requires settled { AreSettled (take settled (told_of self.old)) }
         ensures names { KeepsNames self.old self.new }
         ensures told { KeepsTold self.old self.new }
         ensures journal { KeepsJournal self.old self.new }
         ensures fixed { KeepsFixed self.old self.new }
     {
-        if self.is_unlinked(inode) {
+        bindings();
+        if self.is_gone_by(inode, settled) {
             self.remove_file(inode);
         }
     }
@@ -69,22 +73,24 @@ impl<R: Rng + Drop> FileSystem<R> {
         ensures fixed { KeepsFixed self.old self.new }
     {
         settling::<R>();
-        let settled = self.store.oldest_unsettled().unwrap_or(u64::MAX);
+        let settled = self.store.settled_edits();
         for i in 0..self.gone.len() {
             let Some(gone) = self.gone.get(i).copied() else {
                 break;
             };
-            if gone.edit > settled {
+            if gone.edits > settled {
                 break;
             }
-            self.remove_unlinked(gone.inode);
+            self.remove_settled(gone.inode, settled);
         }
-        self.gone.retain(|gone| gone.edit > settled);
+        self.gone.retain(|gone| gone.edits > settled);
     }
 
-    /// Removes a file that has no name, and its blob. If memory is refused, the blob stays until the next crash.
+    /// Removes a file that has no name, and that no crash finds a name of, and its blob. If memory is refused, the blob stays until
+    /// the next crash.
     pub(crate) fn remove_file(&mut self, inode: u64)
         requires unnamed { ∥ NamedAtMost (names_of self.old) inode 0 ∥₁ }
+        requires unfound { MayName (told_of self.old) inode → ⊥ }
         ensures names { KeepsNames self.old self.new }
         ensures told { KeepsTold self.old self.new }
         ensures journal { KeepsJournal self.old self.new }

@@ -1,7 +1,7 @@
 -- What may be found of a journal after the calls of its store.
 use Rattle.std.proofs.Common.{◌≡◌, ◌&&◌, ◌==◌, ℕ, ◌+◌, ◌*◌, ◌<◌, ◌≤◌, ◌++◌, ◌/◌, ◌^◌, ⊎_elim, Bool, true, false, List, [], ◌∷◌, length, get_or, map, Option, Some, None, refl, sym, ap, ap₂, subst, ◌∙◌, arith}
 use Rattle.std.proofs.Math.Logic.{∥∥₁_map}
-use Rattle.std.specs.Prelude.{codes, filter, Result, Ok, Err, OnErr}
+use Rattle.std.specs.Prelude.{codes, filter, nat_eq, Result, Ok, Err, OnErr}
 use Rattle.std.specs.Str.{bytes_eq}
 use Rattle.std.specs.Int.{w64, to_be_bytes}
 use Rattle.std.proofs.lemmas.Bool.{cases_Bool, cond-false}
@@ -29,17 +29,23 @@ use Rattle.blob_faulty.proofs.FoundSteps.{leaves_added}
 use Rattle.blob_directory.specs.declared.unsettled.Unsettled.{Unsettled}
 use Rattle.blob_directory.specs.Checkpoints.{HasWholeSectors}
 use Rattle.blob_directory.specs.Names.{edit_of}
-use Rattle.blob_directory.specs.Sectors.{sector_of}
+use Rattle.blob_directory.specs.Profiles.{found_in_all}
+use Rattle.blob_directory.specs.Sectors.{Found, found_in, sector_of}
+use Rattle.blob_directory.specs.Settled.{AreSettled}
 use Rattle.blob_directory.specs.Syncs.{marked}
+use Rattle.blob_directory.proofs.Checkpoints.{sector_long}
 use Rattle.blob_journal.specs.declared.journal.Journal.{Journal}
 use Rattle.blob_journal.specs.Currents.{FindsNoMore, FindsNoMoreBeside, FindsOnly, IsFixed, KeepsNext, Represents}
-use Rattle.blob_journal.specs.Found.{AreIn, HasSectors, IsKept}
-use Rattle.blob_journal.specs.Sectors.{InSectors, is_settled, may_be_found}
+use Rattle.blob_journal.specs.Found.{AreIn, HasSectors, IsKept, told_by}
+use Rattle.blob_journal.specs.Sectors.{AreListed, HasEdit, InSectors, is_settled, may_be_found}
+use Rattle.blob_journal.specs.Told.{is_marked_in, settled_in}
 use Rattle.blob_journal.proofs.Currents.{current_of_name, named_current, removed_keeps, same_number}
 use Rattle.blob_journal.proofs.Draws.{IsLoose, KeepsSector, loose_crash, loose_lasting, loses_sector}
-use Rattle.blob_journal.proofs.Listed.{IsAt, in_added, in_at, in_filtered, in_marked, in_settled}
-use Rattle.blob_journal.proofs.Sectors.{found_added, found_self, found_settled}
+use Rattle.blob_journal.proofs.Growing.{found_length, told_added, told_settled}
+use Rattle.blob_journal.proofs.Listed.{IsAt, in_added, in_at, in_filtered, in_has, in_marked, in_settled}
+use Rattle.blob_journal.proofs.Sectors.{found_added, found_self, found_settled, long_added, long_settled}
 use Rattle.blob_journal.proofs.Settling.{kept_over}
+use Rattle.blob_journal.proofs.Unsettled.{listed_added, listed_left, listed_marked, listed_none, listed_settled, unwanted}
 
 some_same : {T : Type 0} {a b : T} → Some a ≡ Some b → a ≡ b
 some_same e = cc
@@ -125,6 +131,7 @@ pub still_kept : {R : Type 0} (before after : OverMemory R) (journal : Journal) 
 still_kept before after journal edits f h = ∥∥₁_map h (λ k. record {
   sectors = record { whole = k.sectors.whole; found = f (may_be_found journal.sectors (live (inside journal.blob))) k.sectors.found };
   listed = k.listed;
+  unsettled = k.unsettled;
 })
 
 -- a number below those that were given
@@ -174,14 +181,45 @@ module _ {R : Type 0} (before after : OverMemory R) (o : Place) (es : List Entry
 pub same_kept : {R : Type 0} (s s' : OverMemory R) (j j' : Journal) (edits : List Unsettled) → s ≡ s' → j ≡ j' → IsKept s' j' edits → IsKept s j edits
 same_kept s s' j j' edits store journal h = subst (λ x. IsKept x j edits) (sym store) (subst (λ x. IsKept s' x edits) (sym journal) h)
 
+-- What a journal was told, after calls that write a sector.
+
+told_same_by : (old new : Journal) → new.sectors ≡ old.sectors → live (inside new.blob) ≡ live (inside old.blob) → told_by new ≡ told_by old
+told_same_by old new same unwritten = ap₂ (λ (n : ℕ) (l : List ℕ). found_in_all n l) same unwritten
+
+told_one : (old new : Journal) (item : Unsettled) → new.sectors ≡ old.sectors → live (inside new.blob) ≡ write_live (live (inside old.blob)) (item.sector * 1024) (sector_of (edit_of item.edit) true)
+    → item.sector < old.sectors → HasEdit (live (inside old.blob)) item → length (live (inside old.blob)) ≡ old.sectors * 1024 → told_by new ≡ settled_in (λ i. nat_eq item.sector i) 0 (told_by old)
+told_one old new item same written below has whole =
+    let w : List ℕ = live (inside old.blob) in
+    let w' : List ℕ = live (inside new.blob) in
+    let size = sector_long (edit_of item.edit) true in
+    let long : length w' ≡ old.sectors * 1024 = ap (λ (l : List ℕ). length l) written ∙ long_settled old.sectors item.sector w (sector_of (edit_of item.edit) true) below whole size in
+    ap (λ (n : ℕ). found_in_all n w') same ∙ told_settled old.sectors w w' item below whole long has written
+
+told_one_more : (old new : Journal) (e : Unsettled) → live (inside new.blob) ≡ write_live (live (inside old.blob)) (old.sectors * 1024) (sector_of (edit_of e.edit) false) → new.sectors ≡ old.sectors + 1
+    → length (live (inside old.blob)) ≡ old.sectors * 1024 → told_by new ≡ told_by old ++ found_in (sector_of (edit_of e.edit) false) ∷ []
+told_one_more old new e written next whole =
+    let w : List ℕ = live (inside old.blob) in
+    let w' : List ℕ = live (inside new.blob) in
+    let b : List ℕ = sector_of (edit_of e.edit) false in
+    let size = sector_long (edit_of e.edit) false in
+    let long : length w' ≡ (old.sectors + 1) * 1024 = ap (λ (l : List ℕ). length l) written ∙ long_added old.sectors w b whole size in
+    ap (λ (n : ℕ). found_in_all n w') next ∙ told_added old.sectors w w' b whole long size written
+
+at_end_of : (old : Journal) (e : Unsettled) → e.sector ≡ old.sectors → e.sector ≡ 0 + length (told_by old)
+at_end_of old e at = let long = found_length old.sectors (live (inside old.blob)) in omega (arith, at, long)
+
 -- an edit of the list is settled
 pub settled_kept : {R : Type 0} (before after : OverMemory R) (old new : Journal) (edits : List Unsettled) (k : ℕ) (item : Unsettled) → k < length edits → item ≡ get_or edits k item
     → new.sectors ≡ old.sectors → live (inside new.blob) ≡ write_live (live (inside old.blob)) (item.sector * 1024) (sector_of (edit_of item.edit) true)
     → (item.sector < old.sectors → HasSectors before old → HasSectors after new) → IsKept before old edits → IsKept after new edits
 settled_kept before after old new edits k item low is same written left h =
-    let at = subst (λ (e : Unsettled). IsAt 0 old.sectors e) (sym is) (in_at 0 old.sectors (live (inside old.blob)) edits k item low h.listed) in
+    let w : List ℕ = live (inside old.blob) in
+    let at = subst (λ (e : Unsettled). IsAt 0 old.sectors e) (sym is) (in_at 0 old.sectors w edits k item low h.listed) in
+    let has = subst (λ (e : Unsettled). HasEdit w e) (sym is) (in_has 0 old.sectors w edits k item low h.listed) in
     record {
       sectors = left at.below h.sectors;
+      unsettled = subst (λ (l : List Found). AreListed 0 l edits) (sym (told_one old new item same written at.below has h.sectors.whole))
+          (listed_settled (λ i. nat_eq item.sector i) 0 (told_by old) edits h.unsettled);
       listed = subst (λ (n : ℕ). InSectors 0 n (live (inside new.blob)) edits) (sym same)
           (subst (λ (l : List ℕ). InSectors 0 old.sectors l edits) (sym written) (in_settled 0 old.sectors (live (inside old.blob)) edits k item low is h.sectors.whole h.listed));
     }
@@ -195,6 +233,7 @@ refused_kept before after old new edits k item low is same unwritten left h =
     record {
       sectors = left at.below h.sectors;
       listed = subst (λ (n : ℕ). InSectors 0 n (live (inside new.blob)) edits) (sym same) (subst (λ (l : List ℕ). InSectors 0 old.sectors l edits) (sym (unwritten h.sectors)) h.listed);
+      unsettled = subst (λ (l : List Found). AreListed 0 l edits) (sym (told_same_by old new same (unwritten h.sectors))) h.unsettled;
     }
 
 -- the blob of a file isn't that of a journal
@@ -207,6 +246,7 @@ pub refused_add : {R : Type 0} (before after : OverMemory R) (old new : Journal)
 refused_add before after old new edits edits' same unwritten unmoved sectors h = record {
   sectors = sectors;
   listed = subst (λ (es : List Unsettled). AreIn new es) (sym same) (subst (λ (n : ℕ). InSectors 0 n (live (inside new.blob)) edits) (sym unmoved) (subst (λ (l : List ℕ). InSectors 0 old.sectors l edits) (sym unwritten) h.listed));
+  unsettled = subst (λ (es : List Unsettled). AreListed 0 (told_by new) es) (sym same) (subst (λ (l : List Found). AreListed 0 l edits) (sym (told_same_by old new unmoved unwritten)) h.unsettled);
 }
 
 -- it is added
@@ -217,6 +257,9 @@ done_add before after old new edits reserved edits' e more same written next at 
   sectors = sectors;
   listed = subst (λ (es : List Unsettled). AreIn new es) (sym (more ∙ ap (λ (l : List Unsettled). l ++ e ∷ []) same)) (subst (λ (n : ℕ). InSectors 0 n (live (inside new.blob)) (edits ++ e ∷ [])) (sym next) (subst (λ (l : List ℕ). InSectors 0 (old.sectors + 1) l (edits ++ e ∷ [])) (sym written)
       (in_added 0 old.sectors (live (inside old.blob)) (sector_of (edit_of e.edit) false) edits e (omega arith) h.sectors.whole at refl h.listed)));
+  unsettled = subst (λ (es : List Unsettled). AreListed 0 (told_by new) es) (sym (more ∙ ap (λ (l : List Unsettled). l ++ e ∷ []) same))
+      (subst (λ (l : List Found). AreListed 0 l (edits ++ e ∷ [])) (sym (told_one_more old new e written next h.sectors.whole))
+      (listed_added 0 (told_by old) (found_in (sector_of (edit_of e.edit) false)) edits e (at_end_of old e at) h.unsettled));
 }
 
 -- edits that are marked, and some of them
@@ -224,19 +267,23 @@ pub marked_kept : {R : Type 0} (store : OverMemory R) (journal : Journal) (edits
 marked_kept store journal edits edits' wants is h = record {
   sectors = h.sectors;
   listed = subst (λ (es : List Unsettled). AreIn journal es) (sym is) (in_marked wants 0 journal.sectors (live (inside journal.blob)) edits h.listed);
+  unsettled = subst (λ (es : List Unsettled). AreListed 0 (told_by journal) es) (sym is) (listed_marked wants 0 (told_by journal) edits h.unsettled);
 }
 
-pub filtered_kept : {R : Type 0} (store : OverMemory R) (journal : Journal) (edits edits' : List Unsettled) (test : Unsettled → Bool) → edits' ≡ filter test edits → IsKept store journal edits → IsKept store journal edits'
-filtered_kept store journal edits edits' test is h = record {
+pub filtered_kept : {R : Type 0} (before after : OverMemory R) (old new : Journal) (edits edits' : List Unsettled) → edits' ≡ filter unwanted edits → told_by new ≡ settled_in (is_marked_in edits) 0 (told_by old)
+    → IsKept before old edits → IsKept after new edits → IsKept after new edits'
+filtered_kept before after old new edits edits' is told was h = record {
   sectors = h.sectors;
-  listed = subst (λ (es : List Unsettled). AreIn journal es) (sym is) (in_filtered test 0 journal.sectors (live (inside journal.blob)) edits h.listed);
+  listed = subst (λ (es : List Unsettled). AreIn new es) (sym is) (in_filtered unwanted 0 new.sectors (live (inside new.blob)) edits h.listed);
+  unsettled = subst (λ (es : List Unsettled). AreListed 0 (told_by new) es) (sym is)
+      (subst (λ (l : List Found). AreListed 0 l (filter unwanted edits)) (sym told) (listed_left edits (told_by old) was.unsettled));
 }
 
 -- a journal with no unsettled edit, of which nothing is pending
 pub fixed_kept : {R : Type 0} (store : OverMemory R) (journal : Journal) (edits : List Unsettled) (bytes : List ℕ) → Represents store → is_current (directory (inner_of store)) (place (inside journal.blob)) ≡ true
     → (place (inside journal.blob)).number < (directory (inner_of store)).next → IsFixed store (place (inside journal.blob)) bytes → live (inside journal.blob) ≡ bytes → HasWholeSectors bytes → journal.sectors ≡ length bytes / 1024
-    → edits ≡ [] → IsKept store journal edits
-fixed_kept store journal edits bytes files now given fixed is whole count none =
+    → AreSettled (found_in_all (length bytes / 1024) bytes) → edits ≡ [] → IsKept store journal edits
+fixed_kept store journal edits bytes files now given fixed is whole count settled none =
     let long : length (live (inside journal.blob)) ≡ journal.sectors * 1024 = ap (λ (l : List ℕ). length l) is ∙ sym whole ∙ ap (λ (n : ℕ). n * 1024) (sym count) in
     record {
       sectors = record {
@@ -245,6 +292,7 @@ fixed_kept store journal edits bytes files now given fixed is whole count none =
             (ap (may_be_found journal.sectors (live (inside journal.blob))) (sym is) ∙ found_self journal.sectors (live (inside journal.blob)) long);
       };
       listed = subst (λ (es : List Unsettled). AreIn journal es) (sym none) tt;
+      unsettled = listed_none 0 (told_by journal) edits (subst AreSettled (sym (ap₂ (λ (n : ℕ) (l : List ℕ). found_in_all n l) count is)) settled);
     }
 
 -- the next journal's blob is another

@@ -145,7 +145,7 @@ settled_none a n (f ∷ told) none = ap₂ (λ (x : Found) (l : List Found). x �
 
 -- one more edit of a list that is marked or not
 
-any_append : (test : Unsettled → Bool) (xs ys : List Unsettled) → list_any test (xs ++ ys) ≡ (list_any test xs || list_any test ys)
+pub any_append : (test : Unsettled → Bool) (xs ys : List Unsettled) → list_any test (xs ++ ys) ≡ (list_any test xs || list_any test ys)
 any_append test [] ys = refl
 any_append test (x ∷ xs) ys = ap (λ (b : Bool). test x || b) (any_append test xs ys) ∙ grouped (test x) (list_any test xs) (list_any test ys)
   where
@@ -215,7 +215,7 @@ grows_prop (f ∷ a) (f' ∷ b) =
 
 -- a list of edits is as long as the journal has sectors
 
-found_length : (n : ℕ) (w : List ℕ) → length (found_in_all n w) ≡ n
+pub found_length : (n : ℕ) (w : List ℕ) → length (found_in_all n w) ≡ n
 found_length zero w = refl
 found_length (suc n) w = ap suc (found_length n (drop 1024 w))
 

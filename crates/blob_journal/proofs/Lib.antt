@@ -2,7 +2,9 @@ pub mod Sectors
 pub mod Listed
 pub mod Told
 pub mod Growing
+pub mod Unsettled
 pub mod Lasting
+pub mod Bindings
 pub mod Draws
 pub mod Currents
 pub mod Overlays

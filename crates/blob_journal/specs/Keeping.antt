@@ -1,19 +1,18 @@
 -- The names that calls see, and what calls leave of them.
-use Rattle.std.specs.Prelude.{◌≡◌, ℕ, ◌+◌, ◌*◌, ◌++◌, List, [], ◌∷◌, Bool, false}
+use Rattle.std.specs.Prelude.{◌≡◌, ℕ, ◌+◌, ◌*◌, ◌++◌, List, [], ◌∷◌, Bool, false, Some}
 use Rattle.blob_faulty.specs.Lends.{with_rng}
-use Rattle.blob_faulty.specs.Wrapper.{inside, rng_of}
-use Rattle.blob_memory.specs.Store.{live}
+use Rattle.blob_faulty.specs.Wrapper.{rng_of}
 use Rattle.blob_model.specs.Bytes.{write_live}
 use Rattle.blob_directory.specs.declared.table.Table.{Table}
 use Rattle.blob_directory.specs.Names.{Edit, Names, Same, edited}
-use Rattle.blob_directory.specs.Profiles.{found_in_all}
-use Rattle.blob_directory.specs.Sectors.{Found, found_in, sector_of}
+use Rattle.blob_directory.specs.Sectors.{Found, sector_of}
 use Rattle.blob_directory.specs.Settled.{AreSettled}
 use Rattle.blob_directory.specs.Tables.{bound}
 use Rattle.blob_directory.specs.Trees.{Finds}
 use Rattle.blob_directory.specs.declared.profile.Keeps.{Keeps}
 use Rattle.blob_journal.specs.declared.journal.Journal.{Journal}
 use Rattle.blob_journal.specs.declared.journaled.Journaled.{Journaled}
+pub use Rattle.blob_journal.specs.Found.{bytes_in, told_by}
 use Rattle.blob_journal.specs.Found.{with_kept}
 use Rattle.blob_journal.specs.Told.{Grows, OnlySettles, names_kept}
 
@@ -45,10 +44,6 @@ SameBindings j j' = Same (names_in j) (names_in j')
 abbrev pub Edits : {R : Type 0} → Edit → Journaled R → Journaled R → Type 0
 Edits edit j j' = Same (names_in j') (edited (names_in j) edit)
 
--- the bytes of a journal, as calls see them
-abbrev pub bytes_in : Journal → List ℕ
-bytes_in journal = live (inside journal.blob)
-
 -- the same after one write of one more sector, which has this edit whole
 abbrev pub with_sector : Journal → Edit → List ℕ
 with_sector journal edit = write_live (bytes_in journal) (journal.sectors * 1024) (sector_of edit false)
@@ -62,9 +57,6 @@ abbrev pub NotesOpened : {R : Type 0} → Journaled R → Journaled R → Type 0
 NotesOpened j j' = (j'.store ≡ j.store) × (j'.journal ≡ j.journal) × (j'.names ≡ j.names) × (j'.unsettled ≡ j.unsettled)
 
 -- the edits that the journal was told, in its sectors, each settled or not
-abbrev pub told_by : Journal → List Found
-told_by journal = found_in_all journal.sectors (bytes_in journal)
-
 abbrev pub told_in : {R : Type 0} → Journaled R → List Found
 told_in j = told_by j.journal
 
@@ -74,7 +66,7 @@ KeepsTold j j' = told_in j' ≡ told_in j
 
 -- one more edit was told, which nothing has settled
 abbrev pub AddsTold : {R : Type 0} → Edit → Journaled R → Journaled R → Type 0
-AddsTold edit j j' = told_in j' ≡ told_in j ++ found_in (sector_of edit false) ∷ []
+AddsTold edit j j' = told_in j' ≡ told_in j ++ Some (edit, false) ∷ []
 
 -- edits may have been told, and some settled; no edit has changed, and none is unsettled again
 abbrev pub GrowsTold : {R : Type 0} → Journaled R → Journaled R → Type 0

@@ -1,6 +1,7 @@
 pub mod Sectors
 pub mod Found
 pub mod Told
+pub mod Bindings
 pub mod Draws
 pub mod Currents
 pub mod Journals

@@ -20,7 +20,7 @@ IsLimit (Some refusal) = ⊥
 abbrev pub FailsAtLimits : {T : Type 0} → Result T Error → Type 0
 FailsAtLimits r = IsLimit (error_of r)
 
--- an open for version 0 doesn't decline the file, whose number isn't the last one
+-- an open for version 0 accepts the file, and its number isn't the last one
 abbrev pub is_accepted : Option File → Bool
 is_accepted None = true
 is_accepted (Some (Raw raw)) = false

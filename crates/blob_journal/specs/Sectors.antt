@@ -1,10 +1,11 @@
 -- The sectors of a journal as they were written, and as they may be found.
-use Rattle.std.specs.Prelude.{◌≡◌, ℕ, zero, suc, ◌*◌, ◌/◌, ◌<◌, ◌≤◌, Bool, true, not, ◌&&◌, ◌||◌, List, [], ◌∷◌, length, drop, get_or, replicate, nat_eq, nat_le}
+use Rattle.std.specs.Prelude.{◌≡◌, ℕ, zero, suc, ◌*◌, ◌/◌, ◌<◌, ◌≤◌, Bool, true, not, ◌&&◌, ◌||◌, List, Some, None, [], ◌∷◌, length, drop, get_or, replicate, nat_eq, nat_le}
+use Rattle.std.specs.List.{list_any}
 use Rattle.std.specs.Str.{bytes_eq}
 use Rattle.blob_model.specs.Bytes.{resize}
 use Rattle.blob_directory.specs.declared.unsettled.Unsettled.{Unsettled}
 use Rattle.blob_directory.specs.Names.{edit_of}
-use Rattle.blob_directory.specs.Sectors.{sector_of}
+use Rattle.blob_directory.specs.Sectors.{Found, sector_of}
 
 -- the sector of this number, with zeros after the end of the bytes
 abbrev pub sector_at : List ℕ → ℕ → List ℕ
@@ -34,3 +35,17 @@ HasEdit written e = (settled : Bool) × (sector_at written e.sector ≡ sector_o
 abbrev pub InSectors : ℕ → ℕ → List ℕ → List Unsettled → Type 0
 InSectors from n written [] = Unit {0}
 InSectors from n written (e ∷ edits) = (from ≤ e.sector) × (e.sector < n) × HasEdit written e × InSectors (suc e.sector) n written edits
+
+-- one of the edits is in this sector
+abbrev pub is_listed : List Unsettled → ℕ → Bool
+is_listed edits n = list_any (λ e. nat_eq e.sector n) edits
+
+-- the edit of a sector, if it has one, is settled or listed
+abbrev pub IsListed : Bool → Found → Type 0
+IsListed listed None = Unit {0}
+IsListed listed (Some (edit, settled)) = (settled || listed) ≡ true
+
+-- so is the edit of each sector, from one on
+abbrev pub AreListed : ℕ → List Found → List Unsettled → Type 0
+AreListed n [] edits = Unit {0}
+AreListed n (found ∷ told) edits = IsListed (is_listed edits n) found × AreListed (suc n) told edits

@@ -1,8 +1,9 @@
 //! Edits of the names, each in the journal, and the syncs that settle them.
-ghost use Rattle.std.specs.Prelude.{◌≡◌, None, [], IfOk, OnOk, OnErr};
+ghost use Rattle.std.specs.Prelude.{◌≡◌, None, [], IfOk, OnOk, OnErr, length, take};
 ghost use Rattle.blob_memory.specs.Store.{place};
 ghost use Rattle.blob_faulty.specs.Wrapper.{inside, next_write_of};
 ghost use Rattle.blob_directory.specs.Names.{Same, edit_of, resizes};
+ghost use Rattle.blob_directory.specs.Settled.{AreSettled};
 ghost use Rattle.blob_directory.specs.Syncs.{of_truncation};
 ghost use Rattle.blob_journal.specs.Currents.{FindsNoMoreBut, SameDirectory};
 ghost use Rattle.blob_journal.specs.Found.{IsKept};
@@ -15,6 +16,7 @@ use crate::journaled::Journaled;
 use crate::store::Store;
 use blob_base::{Error, Probability};
 use blob_directory::edit::{Edit, truncation_of};
+use blob_directory::laws::sectors;
 use blob_directory::profile::Settles;
 use blob_directory::table::Table;
 use blob_directory::unsettled::{About, Synced, Unsettled, want};
@@ -126,9 +128,21 @@ impl<R: Rng + Drop> Journaled<R> {
         &self.unsettled
     }
 
-    /// Returns the number of the first edit that nothing settled.
-    pub fn oldest_unsettled(&self) -> Option<u64> {
-        self.unsettled.first().map(|edit| edit.number)
+    /// Returns how many edits the journal has.
+    pub fn told_edits(&self) -> u64
+        ensures { result ≡ length (told_in self.now) }
+    {
+        self.journal.sectors
+    }
+
+    /// Returns how many edits come before the first one of `unsettled`, or how many there are if it has none. They are settled.
+    pub fn settled_edits(&self) -> u64
+        ensures { AreSettled (take result (told_in self.now)) }
+    {
+        match self.unsettled.first() {
+            None => self.journal.sectors,
+            Some(edit) => edit.sector,
+        }
     }
 
     /// Returns the number of the next edit, counted from the start.
@@ -145,7 +159,11 @@ impl<R: Rng + Drop> Journaled<R> {
     }
 
     /// Adds an edit to the journal, unsynced, in a sector of its own, and to those that nothing settled. Changes no name.
-    /// Returns the edit's number. The errors are those of `make`.
+    /// Returns the edit's number.
+    ///
+    /// # Errors
+    ///
+    /// Those of `make`. No edit was added, and none is settled.
     fn add_edit(&mut self, edit: Edit, about: About, rate: Probability) -> Result<u64, Error>
         ensures noted { IfOk result (λ number. AddsUnsettled (edit_of edit) about number self.old self.new) }
         ensures refused { OnErr result (KeepsUnsettled self.old self.new) }
@@ -155,6 +173,10 @@ impl<R: Rng + Drop> Journaled<R> {
         ensures untold { OnErr result (KeepsTold self.old self.new) }
         ensures still { KeepsOpen self.old self.new }
     {
+        sectors();
+        if !edit.fits() {
+            return Err(Error::OffsetOverflow);
+        }
         self.unsettled.reserve(1)?;
         let number = self.next_edit;
         let Some(next) = number.checked_add(1) else {
@@ -177,7 +199,8 @@ impl<R: Rng + Drop> Journaled<R> {
     ///
     /// # Errors
     ///
-    /// `Memory`, `GenerationsExhausted`, `OffsetOverflow` if no sector is left. No name has changed.
+    /// `Memory`, `GenerationsExhausted`, `OffsetOverflow` if no sector is left or the edit doesn't fit in one. No name has
+    /// changed.
     pub fn make(&mut self, edit: Edit, about: About, rate: Probability) -> Result<(), Error>
         ensures made { OnOk result (Edits (edit_of edit) self.old self.new) }
         ensures sector { OnOk result (AddsSector (edit_of edit) self.old self.new) }

@@ -31,9 +31,9 @@ pub struct Journaled<R> {
     ghost current: { is_current (directory (inner_of store)) (place (inside journal.blob)) ≡ true },
     // the numbers up to there were given in this store
     ghost given: { opened ≤ (directory (inner_of store)).next },
-    // no open declines a file, and none has the last number
+    // an open accepts each file, and none has the last number
     ghost accepted: { AcceptsOpens (directory (inner_of store)) },
-    // of the journal's blob no more may be found than its sectors, each whole or lost, the settled ones always,
-    // and each edit that nothing settled has a sector of its own, in order
+    // of the journal's blob no more may be found than its sectors, each whole or lost, the settled ones always;
+    // each listed edit has a sector of its own, in order, and each edit that nothing settled is listed
     ghost kept: { ∥ IsKept store journal unsettled.items ∥₁ },
 }

@@ -1,4 +1,5 @@
 //! Laws about calls that keep the journal, before and after a sync, and about the blobs of files.
+ghost use Rattle.blob_journal.specs.Bindings.{FreedIsNotNamed, FreedNow, FreedOneMore, FreedSettled, KeptMayName, MayNameOneMore, MayNameSettled, WithinGiven, WithinOneMore, WithinSettled};
 ghost use Rattle.blob_journal.specs.Blobs.{CurrentStays, DurableIsFound, DurableIsOpen, DurableStays, OpenIsFound, OpenIsSeen, ReadsSeen, ResizeShortens, SameTwice};
 ghost use Rattle.blob_journal.specs.Fixed.{FixedIsFound};
 ghost use Rattle.blob_journal.specs.Settling.{KeptTwice, SettledAfter, SettledBefore};
@@ -11,6 +12,21 @@ pub fn told()
     ensures stays { SettledStays }
     ensures same { GrowsSame }
     ensures twice { GrowsOn }
+{}
+
+/// Of which files a crash may find a name, by the edits that were told. An edit adds those that it binds, a sync none. A file that
+/// calls see no name of is freed by the edits so far: once all of them are settled, no crash finds a name of it.
+pub fn bindings()
+    ensures kept { KeptMayName }
+    ensures one_more { MayNameOneMore }
+    ensures settled { MayNameSettled }
+    ensures within_one_more { WithinOneMore }
+    ensures within_settled { WithinSettled }
+    ensures within_given { WithinGiven }
+    ensures freed { FreedNow }
+    ensures freed_one_more { FreedOneMore }
+    ensures freed_settled { FreedSettled }
+    ensures not_named { FreedIsNotNamed }
 {}
 
 /// Calls that keep the journal, one after another, keep it. A sync settles the same edits if such calls come before it or after it.

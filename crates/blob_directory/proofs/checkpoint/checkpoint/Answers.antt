@@ -39,4 +39,4 @@ pub returns-clause-whole : goal.returns-clause-whole
 returns-clause-whole c = written_whole (bound c.args.tree.now.names) (has_directory c.args.tree.now) c.loop-directory.directory-iterator c.loop-directory.bytes.items c.loop-directory.invariant
 
 pub returns-clause-settled : goal.returns-clause-settled
-returns-clause-settled c = λ fits. written_settled (bound c.args.tree.now.names) (has_directory c.args.tree.now) c.loop-directory.directory-iterator c.loop-directory.bytes.items c.loop-directory.invariant fits.sectors
+returns-clause-settled c = written_settled (bound c.args.tree.now.names) (has_directory c.args.tree.now) c.loop-directory.directory-iterator c.loop-directory.bytes.items c.loop-directory.invariant

@@ -4,6 +4,9 @@ use Rattle.blob_fs.specs.Bytes.{kept_length}
 use Rattle.blob_fs.proofs.Cutting.{kept_is, on_map, uncut}
 use Rattle.blob_fs.proofs.Fixed.{changes_after, still_self, still_twice}
 use Rattle.blob_fs.proofs.Fixing.{may_keep}
+use Rattle.std.proofs.Common.{rules}
+use Rattle.blob_header.specs.Refusals.{error_of}
+use Rattle.blob_journal.specs.Limits.{IsLimit}
 use Rattle.blob_fs.proofs.recovery.cut_from.Goals as goal
 
 pub returns-clause-files : goal.returns-clause-files
@@ -75,3 +78,28 @@ pub returns-clause-still : goal.returns-clause-still
 returns-clause-still g c = on_map c.cut_to.result c.cut_to.ensures.still (λ changes.
     changes_after (λ at. ⊥) c.args.store.now c.read_whole-2.new.self c.cut_to.new.store c.args.blob.now c.cut_to.new.blob
     (still_twice c.args.store.now c.read_whole.new.self c.read_whole-2.new.self c.read_whole.ensures.still c.read_whole-2.ensures.still) changes)
+
+pub returns-in_err-found-clause-errors : goal.returns-in_err-found-clause-errors
+returns-in_err-found-clause-errors g c = λ r live.
+    let said : error_of c.from_residual.result ≡ error_of c.read_whole.result = search rules in
+    subst IsLimit (sym said) (c.read_whole.ensures.errors r.faultless r.is.tracked)
+
+pub returns-in_err-seen-clause-errors : goal.returns-in_err-seen-clause-errors
+returns-in_err-seen-clause-errors g c = λ r live.
+    let said : error_of c.from_residual-in_err-seen.result ≡ error_of c.read_whole-2.result = search rules in
+    subst IsLimit (sym said) (c.read_whole-2.ensures.errors (c.read_whole.ensures.ready c.args.blob.now r).faultless live)
+
+pub returns-clause-errors : goal.returns-clause-errors
+returns-clause-errors g c = λ r live. c.cut_to.ensures.errors (c.read_whole-2.ensures.ready c.args.blob.now (c.read_whole.ensures.ready c.args.blob.now r))
+
+pub returns-in_err-found-clause-ready : goal.returns-in_err-found-clause-ready
+returns-in_err-found-clause-ready g c = λ r. c.read_whole.ensures.ready c.args.blob.now r
+
+pub returns-in_err-seen-clause-ready : goal.returns-in_err-seen-clause-ready
+returns-in_err-seen-clause-ready g c = λ r. c.read_whole-2.ensures.ready c.args.blob.now (c.read_whole.ensures.ready c.args.blob.now r)
+
+pub returns-then-length-size-clause-ready : goal.returns-then-length-size-clause-ready
+returns-then-length-size-clause-ready g c = λ r. c.read_whole-2.ensures.ready c.args.blob.now (c.read_whole.ensures.ready c.args.blob.now r)
+
+pub returns-clause-ready : goal.returns-clause-ready
+returns-clause-ready g c = λ r. c.cut_to.ensures.ready (c.read_whole-2.ensures.ready c.args.blob.now (c.read_whole.ensures.ready c.args.blob.now r))

@@ -1,6 +1,9 @@
 use Rattle.std.proofs.Common.{◌≡◌, List, ℕ, ap, length, subst, sym, take, ◌∙◌}
 use Rattle.blob_journal.specs.Blobs.{HasDurable, IsOpen, bytes_of}
 use Rattle.blob_fs.proofs.Fixing.{may_twice}
+use Rattle.std.proofs.Common.{rules}
+use Rattle.blob_header.specs.Refusals.{error_of}
+use Rattle.blob_journal.specs.Limits.{IsLimit}
 use Rattle.blob_fs.proofs.recovery.cut_to.Goals as goal
 
 pub returns-in_err-resize_file-clause-files : goal.returns-in_err-resize_file-clause-files
@@ -38,3 +41,19 @@ returns-clause-handles g c = λ inode file h. c.sync_file.ensures.handles inode 
 
 pub returns-clause-still : goal.returns-clause-still
 returns-clause-still g c = may_twice _ _ c.args.store.now c.resize_file.new.self c.sync_file.new.self c.args.blob.now c.resize_file.new.file c.sync_file.new.file c.resize_file.ensures.still c.sync_file.ensures.still
+
+pub returns-in_err-sync_file-clause-ready : goal.returns-in_err-sync_file-clause-ready
+returns-in_err-sync_file-clause-ready g c = λ r. c.sync_file.ensures.ready (c.resize_file.ensures.ready r)
+
+pub returns-clause-ready : goal.returns-clause-ready
+returns-clause-ready g c = λ r. c.sync_file.ensures.ready (c.resize_file.ensures.ready r)
+
+pub returns-in_err-resize_file-clause-errors : goal.returns-in_err-resize_file-clause-errors
+returns-in_err-resize_file-clause-errors g c = λ r.
+    let said : error_of c.from_residual.result ≡ error_of c.resize_file.result = search rules in
+    subst IsLimit (sym said) (c.resize_file.ensures.errors r)
+
+pub returns-in_err-sync_file-clause-errors : goal.returns-in_err-sync_file-clause-errors
+returns-in_err-sync_file-clause-errors g c = λ r.
+    let said : error_of c.from_residual-in_err-sync_file.result ≡ error_of c.sync_file.result = search rules in
+    subst IsLimit (sym said) (c.sync_file.ensures.errors (c.resize_file.ensures.ready r))

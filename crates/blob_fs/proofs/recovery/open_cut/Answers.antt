@@ -1,10 +1,15 @@
-use Rattle.std.proofs.Common.{◌≡◌, None, Option, Some, ap, arith, length, rules, subst, sym, ◌∙◌}
+use Rattle.std.proofs.Common.{◌≡◌, Option, Some, ap, arith, length, rules, subst, sym, ◌∙◌}
 use Rattle.std.specs.BTreeMap.{get}
 use Rattle.std.specs.Ordering.{nat_cmp}
 use Rattle.blob_journal.specs.Blobs.{HasDurable}
 use Rattle.blob_fs.specs.declared.file_system.File.{File}
 use Rattle.blob_fs.specs.Bytes.{found_after, left_after}
 use Rattle.blob_fs.proofs.Fixing.{but_keeps, but_twice}
+use Rattle.std.proofs.Common.{rules}
+use Rattle.blob_header.specs.Refusals.{error_of}
+use Rattle.blob_journal.specs.Limits.{IsLimit}
+use Rattle.std.specs.Prelude.{Err}
+use Rattle.blob_journal.specs.Limits.{FailsAtLimits}
 use Rattle.blob_fs.proofs.recovery.open_cut.Goals as goal
 
 pub returns-in_err-truncate_left-clause-files : goal.returns-in_err-truncate_left-clause-files
@@ -69,3 +74,21 @@ returns-clause-still g c =
     let one = c.in_ok-truncate_left.ensures.still in
     let first = but_twice inode j reopened truncated (but_keeps inode j reopened c.open_file.ensures.still) (one.others inode (omega arith) own) in
     but_twice inode j truncated c.cut.new.store first (c.in_ok-cut.ensures.still.others inode (omega arith) (one.still inode own))
+
+pub returns-in_err-blob-clause-errors : goal.returns-in_err-blob-clause-errors
+returns-in_err-blob-clause-errors g c = λ q sizes.
+    let said : error_of c.from_residual.result ≡ error_of c.open_file.result = search rules in
+    subst IsLimit (sym said) (c.open_file.ensures.errors q)
+
+pub returns-in_err-truncate_left-clause-errors : goal.returns-in_err-truncate_left-clause-errors
+returns-in_err-truncate_left-clause-errors g c = λ q sizes.
+    let said : c.from_residual-in_err-truncate_left.result ≡ Err c.in_err-truncate_left.field-0.0 = search rules in
+    subst FailsAtLimits (sym said) (c.in_err-truncate_left.ensures.errors (c.in_ok-blob.ensures.ready q))
+
+pub returns-in_err-cut-clause-errors : goal.returns-in_err-cut-clause-errors
+returns-in_err-cut-clause-errors g c = λ q sizes.
+    let said : error_of c.from_residual-in_err-cut.result ≡ error_of c.cut.result = search rules in
+    subst IsLimit (sym said) (c.cut.ensures.errors (c.truncate_left.ensures.ready (c.in_ok-blob.ensures.ready q)) (sizes c.args.inode c.in-Some.was.now (omega arith) (search rules)))
+
+pub returns-clause-ready : goal.returns-clause-ready
+returns-clause-ready g c = λ q. c.cut.ensures.ready (c.truncate_left.ensures.ready (c.in_ok-blob.ensures.ready q))

@@ -2,6 +2,9 @@ use Rattle.std.proofs.Common.{ℕ, List, arith, subst}
 use Rattle.blob_journal.specs.Blobs.{HasDurable}
 use Rattle.blob_journal.specs.Fixed.{IsOpen}
 use Rattle.blob_fs.proofs.Fixing.{all_fixed, but_twice}
+use Rattle.std.proofs.Common.{◌≡◌, rules, sym}
+use Rattle.blob_header.specs.Refusals.{error_of}
+use Rattle.blob_journal.specs.Limits.{IsLimit}
 use Rattle.blob_fs.proofs.recovery.open_left.Goals as goal
 
 pub returns-in_err-sync_file-clause-files : goal.returns-in_err-sync_file-clause-files
@@ -45,3 +48,16 @@ returns-clause-fixes g c =
     let blob = c.in_ok-blob.blob in
     let own : IsOpen c.open_cut.new.store c.args.inode blob = c.blobs.ensures.is_open c.open_cut.new.store c.args.inode blob _ c.in_ok-blob.ensures.left.has in
     all_fixed c.blobs.ensures.reads c.open_cut.new.store c.sync_file.new.self c.args.inode blob c.sync_file.new.file own c.in_ok-sync_file.ensures.synced c.in_ok-sync_file.ensures.fixes
+
+pub returns-in_err-blob-clause-errors : goal.returns-in_err-blob-clause-errors
+returns-in_err-blob-clause-errors g c = λ q sizes.
+    let said : error_of c.from_residual.result ≡ error_of c.open_cut.result = search rules in
+    subst IsLimit (sym said) (c.open_cut.ensures.errors q sizes)
+
+pub returns-in_err-sync_file-clause-errors : goal.returns-in_err-sync_file-clause-errors
+returns-in_err-sync_file-clause-errors g c = λ q sizes.
+    let said : error_of c.from_residual-in_err-sync_file.result ≡ error_of c.sync_file.result = search rules in
+    subst IsLimit (sym said) (c.sync_file.ensures.errors (c.in_ok-blob.ensures.ready q))
+
+pub returns-clause-faultless : goal.returns-clause-faultless
+returns-clause-faultless g c = λ q. (c.sync_file.ensures.ready (c.in_ok-blob.ensures.ready q)).faultless

@@ -1,11 +1,13 @@
 use Rattle.std.proofs.Common.{◌≡◌}
 use Rattle.blob_journal.specs.Currents.{KeepsFiles}
+use Rattle.blob_journal.specs.Errors.{IsFaultless}
 use Rattle.blob_journal.specs.Fixed.{KeepsHandles}
 use Rattle.blob_journal.specs.Journals.{store_of}
 use Rattle.blob_journal.specs.Keeping.{table_in, told_in}
 use Rattle.blob_fs.specs.Bytes.{HasOnlyKnown, HasOnlyLinked}
 use Rattle.blob_fs.specs.Fixed.{AreWhole}
 use Rattle.blob_fs.specs.Open.{AllOpen}
+use Rattle.blob_fs.specs.Tracked.{AllPresent}
 use Rattle.blob_fs.proofs.Counting.{CountsAllBut}
 use Rattle.blob_fs.proofs.Recovering.{AreLinked, Ascend, Stands}
 use Rattle.blob_fs.proofs.recovery.reopen_all.Given as goal
@@ -23,5 +25,7 @@ invariant-loop-inode g l = record {
   opened : AllOpen l.store l.files;
   whole : AreWhole l.store l.files;
   known : HasOnlyKnown l.old l.files;
+  faultless : IsFaultless l.fn.store → IsFaultless l.store;
   counts : CountsAllBut l.tree l.inode-iterator l.files;
+  present : AllPresent l.files;
 }

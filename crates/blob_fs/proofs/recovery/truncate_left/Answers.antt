@@ -5,6 +5,9 @@ use Rattle.blob_fs.specs.Truncations.{truncated}
 use Rattle.blob_fs.proofs.Cutting.{on_map}
 use Rattle.blob_fs.proofs.Fixed.{changes_after, still_self}
 use Rattle.blob_fs.proofs.Fixing.{may_keep}
+use Rattle.std.proofs.Common.{rules}
+use Rattle.blob_header.specs.Refusals.{error_of}
+use Rattle.blob_journal.specs.Limits.{IsLimit}
 use Rattle.blob_fs.proofs.recovery.truncate_left.Goals as goal
 
 pub returns-in_err-found-clause-given : goal.returns-in_err-found-clause-given
@@ -78,3 +81,23 @@ returns-then-are_same-clause-still g c = may_keep c.args.store.now c.read_whole.
 pub returns-clause-still : goal.returns-clause-still
 returns-clause-still g c = on_map c.rewrite.result c.rewrite.ensures.still (λ changes.
     changes_after (λ at. ⊥) c.args.store.now c.read_whole.new.self c.rewrite.new.store c.args.blob.now c.rewrite.new.blob c.read_whole.ensures.still changes)
+
+pub returns-in_err-found-clause-errors : goal.returns-in_err-found-clause-errors
+returns-in_err-found-clause-errors g c = λ r.
+    let said : error_of c.from_residual.result ≡ error_of c.read_whole.result = search rules in
+    subst IsLimit (sym said) (c.read_whole.ensures.errors r.faultless r.is.tracked)
+
+pub returns-clause-errors : goal.returns-clause-errors
+returns-clause-errors g c = λ r. c.rewrite.ensures.errors (c.read_whole.ensures.ready c.args.blob.now r)
+
+pub returns-in_err-found-clause-ready : goal.returns-in_err-found-clause-ready
+returns-in_err-found-clause-ready g c = λ r. c.read_whole.ensures.ready c.args.blob.now r
+
+pub returns-in_err-bytes-clause-ready : goal.returns-in_err-bytes-clause-ready
+returns-in_err-bytes-clause-ready g c = λ r. c.read_whole.ensures.ready c.args.blob.now r
+
+pub returns-then-are_same-clause-ready : goal.returns-then-are_same-clause-ready
+returns-then-are_same-clause-ready g c = λ r. c.read_whole.ensures.ready c.args.blob.now r
+
+pub returns-clause-ready : goal.returns-clause-ready
+returns-clause-ready g c = λ r. c.rewrite.ensures.ready (c.read_whole.ensures.ready c.args.blob.now r)

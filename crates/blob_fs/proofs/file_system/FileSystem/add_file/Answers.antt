@@ -4,6 +4,7 @@ use Rattle.blob_journal.specs.Fixed.{IsOpen}
 use Rattle.blob_journal.specs.Keeping.{names_in}
 use Rattle.blob_fs.proofs.Fixed.{opened_inserted}
 use Rattle.blob_fs.proofs.Named.{most_more, named_inserted}
+use Rattle.blob_fs.proofs.Tracked.{tracked_inserted}
 use Rattle.std.proofs.Common.{Some, ap, ◌∙◌, arith}
 use Rattle.std.proofs.lemmas.Bool.{cond-true}
 use Rattle.std.specs.Ordering.{is_eq, nat_cmp}
@@ -20,6 +21,7 @@ invariant_of-self g c =
           (subst (λ (b : FileBlob). IsOpen fs.store c.args.inode b) (sym c.new.ensures.blob) c.requires.opened) fs.opened;
       named = named_inserted c.insert.result fs.store fs.files c.insert.new.self c.args.inode c.new.result c.insert.ensures.updates c.insert.ensures.err
           (most_more (names_in fs.store) c.args.inode 0 _ (omega arith) c.requires.unnamed) fs.named;
+      tracked = tracked_inserted c.insert.result fs.store fs.files c.insert.new.self c.args.inode c.new.result c.insert.ensures.updates c.insert.ensures.err c.new.ensures.there fs.tracked;
     }
 
 pub returns-clause-links : goal.returns-clause-links

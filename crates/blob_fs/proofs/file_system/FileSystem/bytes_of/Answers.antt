@@ -1,5 +1,6 @@
 use Rattle.blob_fs.proofs.Fixed.{opened_store}
 use Rattle.blob_fs.proofs.Named.{named_store}
+use Rattle.blob_fs.proofs.Tracked.{tracked_store}
 use Rattle.blob_fs.proofs.file_system.FileSystem.bytes_of.Goals as goal
 
 pub returns-in_default-clause-fixed : goal.returns-in_default-clause-fixed
@@ -21,6 +22,7 @@ pub invariant_of-self-2 : goal.invariant_of-self-2
 invariant_of-self-2 g c = record {
   opened = opened_store c.draw_nothing.new.self.store c.read_into.new.store c.draw_nothing.new.self.files c.read_into.ensures.still c.draw_nothing.new.self.opened;
   named = named_store c.draw_nothing.new.self.store c.read_into.new.store c.draw_nothing.new.self.files c.read_into.ensures.names c.draw_nothing.new.self.named;
+  tracked = tracked_store c.draw_nothing.new.self.store c.read_into.new.store c.draw_nothing.new.self.files c.read_into.ensures.names c.read_into.ensures.told c.draw_nothing.new.self.tracked;
 }
 
 pub returns-in_err-read_into-clause-fixed : goal.returns-in_err-read_into-clause-fixed

@@ -16,6 +16,7 @@ use Rattle.blob_fs.specs.Truncations.{lost_of}
 use Rattle.blob_fs.proofs.Crashed.{finds_byte}
 use Rattle.blob_fs.proofs.Fixed.{opened_store, some_same}
 use Rattle.blob_fs.proofs.Named.{named_store}
+use Rattle.blob_fs.proofs.Tracked.{tracked_store}
 use Rattle.std.proofs.Common.{◌≤◌, arith, length}
 use Rattle.blob_draws.specs.Rows.{rows_of}
 use Rattle.blob_journal.specs.Journals.{store_of}
@@ -91,12 +92,14 @@ pub invariant_of-self : goal.invariant_of-self
 invariant_of-self g c = record {
   opened = opened_store c.args.self.now.store c.crash.new.self c.args.self.now.files c.crash.ensures.still c.args.self.now.opened;
   named = named_store c.args.self.now.store c.crash.new.self c.args.self.now.files c.crash.ensures.names c.args.self.now.named;
+  tracked = tracked_store c.args.self.now.store c.crash.new.self c.args.self.now.files c.crash.ensures.names c.crash.ensures.told c.args.self.now.tracked;
 }
 
 pub invariant_of-self-2 : goal.invariant_of-self-2
 invariant_of-self-2 g c = record {
   opened = opened_store c.args.self.now.store c.crash.new.self c.args.self.now.files c.crash.ensures.still c.args.self.now.opened;
   named = named_store c.args.self.now.store c.crash.new.self c.args.self.now.files c.crash.ensures.names c.args.self.now.named;
+  tracked = tracked_store c.args.self.now.store c.crash.new.self c.args.self.now.files c.crash.ensures.names c.crash.ensures.told c.args.self.now.tracked;
 }
 
 pub returns-clause-fixes : goal.returns-clause-fixes

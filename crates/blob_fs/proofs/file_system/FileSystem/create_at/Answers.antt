@@ -6,12 +6,19 @@ use Rattle.blob_directory.specs.Tables.{bound}
 use Rattle.blob_journal.proofs.Found.{on_err}
 use Rattle.blob_fs.specs.Files.{SameNames}
 use Rattle.blob_fs.proofs.Named.{named_store}
-use Rattle.std.proofs.Common.{◌≡◌, ℕ, None, subst}
+use Rattle.blob_fs.proofs.Tracked.{none_found, tracked_store}
+use Rattle.std.proofs.Common.{◌≡◌, ℕ, List, None, subst}
+use Rattle.blob_directory.specs.Sectors.{Found}
+use Rattle.blob_journal.specs.Bindings.{MayName}
 use Rattle.blob_journal.specs.Keeping.{table_in}
 use Rattle.blob_fs.specs.Bytes.{file_in}
 use Rattle.blob_fs.specs.Files.{names_of, table_of}
 use Rattle.blob_fs.specs.Named.{links_in}
 use Rattle.blob_fs.proofs.Named.{edit_is, linked, most_same, most_table, none_named, same_at_most}
+use Rattle.blob_fs.proofs.Growing.{told_as}
+use Rattle.blob_fs.specs.Files.{told_of}
+use Rattle.blob_directory.specs.Names.{file}
+use Rattle.std.proofs.Common.{◌∷◌, [], List, None, Some, ap, ℕ, ◌∙◌}
 use Rattle.blob_fs.proofs.file_system.FileSystem.create_at.Goals as goal
 
 pub returns-in_err-descriptor-clause-refused : goal.returns-in_err-descriptor-clause-refused
@@ -23,6 +30,7 @@ pub invariant_of-self : goal.invariant_of-self
 invariant_of-self g c = record {
   opened = opened_store c.begin_call.new.self.store c.open_file.new.self c.begin_call.new.self.files c.open_file.ensures.still c.begin_call.new.self.opened;
   named = named_store c.begin_call.new.self.store c.open_file.new.self c.begin_call.new.self.files c.open_file.ensures.names c.begin_call.new.self.named;
+  tracked = tracked_store c.begin_call.new.self.store c.open_file.new.self c.begin_call.new.self.files c.open_file.ensures.names c.open_file.ensures.told c.begin_call.new.self.tracked;
 }
 
 pub returns-in_err-blob-clause-fixed : goal.returns-in_err-blob-clause-fixed
@@ -64,6 +72,7 @@ open_new-requires g c =
     record {
       opened = c.in_ok-blob.ensures.reopened.still;
       unnamed = most_table (table_of one) (table_in c.open_file.new.self) new 0 c.open_file.ensures.names (none_named (names_of one) one.files new (ap links_in none) one.named);
+      unfound = subst (λ (l : List Found). MayName l new → ⊥) (sym c.open_file.ensures.told) (none_found one.store one.files new none one.tracked);
     }
 
 pub make-requires : goal.make-requires
@@ -89,4 +98,9 @@ remove_file-requires g c =
     record {
       unnamed = most_same (names_of two) (names_of three) new 0 c.in-Err.ensures.refused
           (most_table (table_of one) (table_of two) new 0 (c.open_new.ensures.names ∙ c.open_file.ensures.names) (none_named (names_of one) one.files new (ap links_in none) one.named));
+      unfound = subst (λ (l : List Found). MayName l new → ⊥) (sym (c.in-Err.ensures.untold ∙ c.open_new.ensures.told ∙ c.open_file.ensures.told)) (none_found one.store one.files new none one.tracked);
     }
+
+pub returns-clause-told : goal.returns-clause-told
+returns-clause-told g c = told_as (told_of c.args.self.now) (told_of c.open_new.new.self) (told_of c.make.new.self) _ _
+    (c.one-edit.ensures ∙ ap (λ (x : List ℕ). (x, Some (file c.args.self.now.next_inode)) ∷ []) c.in_ok-entry.ensures) (c.open_new.ensures.told ∙ c.open_file.ensures.told ∙ c.begin_call.ensures.told) c.in_default.ensures.told

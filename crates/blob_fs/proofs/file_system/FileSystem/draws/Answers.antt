@@ -2,6 +2,7 @@ use Rattle.std.proofs.Common.{refl, arith, ◌∙◌}
 use Rattle.blob_fs.proofs.Drawing.{crashes_twice}
 use Rattle.blob_fs.proofs.Fixed.{contents_self, fixed_after, opened_store, still_twice}
 use Rattle.blob_fs.proofs.Named.{named_store}
+use Rattle.blob_fs.proofs.Tracked.{tracked_store}
 use Rattle.blob_fs.proofs.file_system.FileSystem.draws.Goals as goal
 
 pub invariant_of-self : goal.invariant_of-self
@@ -10,6 +11,7 @@ invariant_of-self g c =
     record {
       opened = opened_store fs.store c.set_config.new.self fs.files c.set_config.ensures.still fs.opened;
       named = named_store fs.store c.set_config.new.self fs.files c.set_config.ensures.names fs.named;
+      tracked = tracked_store fs.store c.set_config.new.self fs.files c.set_config.ensures.names c.set_config.ensures.journal.told fs.tracked;
     }
 
 pub invariant_of-self-2 : goal.invariant_of-self-2
@@ -19,6 +21,7 @@ invariant_of-self-2 g c =
       opened = opened_store fs.store c.read_file.new.self fs.files
           (still_twice fs.store c.set_config.new.self c.read_file.new.self c.set_config.ensures.still c.read_file.ensures.still) fs.opened;
       named = named_store fs.store c.read_file.new.self fs.files (c.read_file.ensures.names ∙ c.set_config.ensures.names) fs.named;
+      tracked = tracked_store fs.store c.read_file.new.self fs.files (c.read_file.ensures.names ∙ c.set_config.ensures.names) (c.read_file.ensures.told ∙ c.set_config.ensures.journal.told) fs.tracked;
     }
 
 pub returns-in-Ok : goal.returns-in-Ok

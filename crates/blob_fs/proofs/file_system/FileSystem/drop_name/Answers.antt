@@ -4,7 +4,8 @@ use Rattle.blob_fs.specs.Files.{names_of}
 use Rattle.blob_fs.specs.Named.{links_in}
 use Rattle.blob_fs.specs.declared.file_system.File.{File}
 use Rattle.blob_fs.proofs.Fixed.{opened_none, opened_through, sets_through}
-use Rattle.blob_fs.proofs.Named.{at_most_self, links_less, named_none, named_set, named_through}
+use Rattle.blob_fs.proofs.Named.{links_less, named_none, named_set}
+use Rattle.blob_fs.proofs.Tracked.{tracked_none, tracked_through}
 use Rattle.blob_fs.proofs.file_system.FileSystem.drop_name.Goals as goal
 
 pub invariant_of-self : goal.invariant_of-self
@@ -18,10 +19,12 @@ invariant_of-self g c =
           (sets_through fs.files (c.get_mut.follows.lender now) c.args.inode was now c.in-Some.ensures.value (c.get_mut.follows.holds now))
           (subst (λ (n : ℕ). ∥ NamedAtMost (names_of fs) c.args.inode n ∥₁)
           (ap (λ (o : Option File). pred (links_in o)) (sym c.in-Some.ensures.value) ∙ sym (links_less was now.links c.saturating_sub-file.ensures)) c.requires.fewer) fs.named;
+      tracked = tracked_through fs.store fs.files (c.get_mut.follows.lender now) c.args.inode was now c.in-Some.ensures.value (c.get_mut.follows.holds now) refl fs.tracked;
     }
 
 pub invariant_of-self-in_default : goal.invariant_of-self-in_default
 invariant_of-self-in_default g c = record {
   opened = opened_none c.args.self.now.store c.args.self.now.files _ c.get_mut.follows.holds-at-none c.args.self.now.opened;
   named = named_none c.args.self.now.store c.args.self.now.files _ c.get_mut.follows.holds-at-none c.args.self.now.named;
+  tracked = tracked_none c.args.self.now.store c.args.self.now.files _ c.get_mut.follows.holds-at-none c.args.self.now.tracked;
 }

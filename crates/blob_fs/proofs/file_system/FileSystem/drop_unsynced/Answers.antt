@@ -6,6 +6,7 @@ use Rattle.blob_fs.specs.declared.file_system.File.{File}
 use Rattle.blob_fs.proofs.Fixed.{all_none, contents_same, contents_through, fixed_after, opened_after, sets_through, still_twice}
 use Rattle.blob_fs.proofs.Syncing.{fixed_again, opened_again, reopens_after}
 use Rattle.blob_fs.proofs.Named.{at_most_self, links_same, links_set, named_after}
+use Rattle.blob_fs.proofs.Tracked.{freed_same, freed_set, tracked_after}
 use Rattle.blob_fs.proofs.file_system.FileSystem.drop_unsynced.Goals as goal
 
 pub invariant_of-self : goal.invariant_of-self
@@ -14,6 +15,7 @@ invariant_of-self g c =
     record {
       opened = opened_after fs.store c.set_config.new.self fs.files c.get_mut.follows.lender-at-none (contents_same fs.files c.get_mut.follows.lender-at-none c.get_mut.follows.holds-at-none) c.set_config.ensures.still fs.opened;
       named = named_after fs.store c.set_config.new.self fs.files c.get_mut.follows.lender-at-none c.set_config.ensures.names (links_same fs.files c.get_mut.follows.lender-at-none c.get_mut.follows.holds-at-none) fs.named;
+      tracked = tracked_after fs.store c.set_config.new.self fs.files c.get_mut.follows.lender-at-none c.set_config.ensures.names c.set_config.ensures.journal.told (freed_same fs.files c.get_mut.follows.lender-at-none c.get_mut.follows.holds-at-none) fs.tracked;
     }
 
 pub invariant_of-self-in-Break-1 : goal.invariant_of-self-in-Break-1
@@ -27,6 +29,7 @@ invariant_of-self-in-Break-1 g c =
       named = named_after fs.store c.shown_bytes.new.store fs.files (c.get_mut.follows.lender file) (c.shown_bytes.ensures.names ∙ c.set_config.ensures.names)
           (links_set fs.files (c.get_mut.follows.lender file) c.args.inode file file c.in-Some.ensures.value
           (sets_through fs.files (c.get_mut.follows.lender file) c.args.inode file file c.in-Some.ensures.value (c.get_mut.follows.holds file)) (at_most_self _)) fs.named;
+      tracked = tracked_after fs.store c.shown_bytes.new.store fs.files (c.get_mut.follows.lender file) (c.shown_bytes.ensures.names ∙ c.set_config.ensures.names) (c.shown_bytes.ensures.told ∙ c.set_config.ensures.journal.told) (freed_set fs.files (c.get_mut.follows.lender file) c.args.inode file file c.in-Some.ensures.value (sets_through fs.files (c.get_mut.follows.lender file) c.args.inode file file c.in-Some.ensures.value (c.get_mut.follows.holds file)) refl) fs.tracked;
     }
 
 pub returns-in_err-shown-clause-fixed : goal.returns-in_err-shown-clause-fixed
@@ -49,6 +52,7 @@ invariant_of-self-in-Break-branch-2 g c =
       named = named_after fs.store c.reopen_file.new.self fs.files (c.get_mut.follows.lender file) (c.reopen_file.ensures.names ∙ c.shown_bytes.ensures.names ∙ c.set_config.ensures.names)
           (links_set fs.files (c.get_mut.follows.lender file) c.args.inode file file c.in-Some.ensures.value
           (sets_through fs.files (c.get_mut.follows.lender file) c.args.inode file file c.in-Some.ensures.value (c.get_mut.follows.holds file)) (at_most_self _)) fs.named;
+      tracked = tracked_after fs.store c.reopen_file.new.self fs.files (c.get_mut.follows.lender file) (c.reopen_file.ensures.names ∙ c.shown_bytes.ensures.names ∙ c.set_config.ensures.names) (c.reopen_file.ensures.told ∙ c.shown_bytes.ensures.told ∙ c.set_config.ensures.journal.told) (freed_set fs.files (c.get_mut.follows.lender file) c.args.inode file file c.in-Some.ensures.value (sets_through fs.files (c.get_mut.follows.lender file) c.args.inode file file c.in-Some.ensures.value (c.get_mut.follows.holds file)) refl) fs.tracked;
     }
 
 pub invariant_of-self-2 : goal.invariant_of-self-2
@@ -66,6 +70,7 @@ invariant_of-self-2 g c =
       named = named_after fs.store c.reopen_file.new.self fs.files (c.get_mut.follows.lender new) (c.reopen_file.ensures.names ∙ c.shown_bytes.ensures.names ∙ c.set_config.ensures.names)
           (links_set fs.files (c.get_mut.follows.lender new) c.args.inode file new c.in-Some.ensures.value
           (sets_through fs.files (c.get_mut.follows.lender new) c.args.inode file new c.in-Some.ensures.value (c.get_mut.follows.holds new)) (at_most_self _)) fs.named;
+      tracked = tracked_after fs.store c.reopen_file.new.self fs.files (c.get_mut.follows.lender new) (c.reopen_file.ensures.names ∙ c.shown_bytes.ensures.names ∙ c.set_config.ensures.names) (c.reopen_file.ensures.told ∙ c.shown_bytes.ensures.told ∙ c.set_config.ensures.journal.told) (freed_set fs.files (c.get_mut.follows.lender new) c.args.inode file new c.in-Some.ensures.value (sets_through fs.files (c.get_mut.follows.lender new) c.args.inode file new c.in-Some.ensures.value (c.get_mut.follows.holds new)) refl) fs.tracked;
     }
 
 pub returns-clause-fixed : goal.returns-clause-fixed

@@ -1,9 +1,10 @@
-use Rattle.std.proofs.Common.{◌<◌, ◌≤◌, ◌^◌, ◌∙◌, false, inr, arith}
+use Rattle.std.proofs.Common.{refl, ◌<◌, ◌≤◌, ◌^◌, ◌∙◌, false, inr, arith}
 use Rattle.blob_journal.specs.Fixed.{ChangesOpen}
 use Rattle.blob_fs.specs.declared.file_system.File.{File}
 use Rattle.blob_fs.proofs.Fixed.{changes_after, contents_same, fixed_changed, opened_after, opened_changed, sets_through}
 use Rattle.blob_fs.proofs.Syncing.{seen_below, synced_whole}
 use Rattle.blob_fs.proofs.Named.{at_most_self, links_same, links_set, named_after}
+use Rattle.blob_fs.proofs.Tracked.{freed_same, freed_set, tracked_after}
 use Rattle.blob_fs.proofs.file_system.FileSystem.flush.Goals as goal
 
 pub invariant_of-self-in_default : goal.invariant_of-self-in_default
@@ -13,6 +14,7 @@ invariant_of-self-in_default g c =
       opened = opened_after fs.store c.set_config.new.self fs.files c.get_mut.follows.lender-at-none (contents_same fs.files c.get_mut.follows.lender-at-none c.get_mut.follows.holds-at-none)
           c.set_config.ensures.still fs.opened;
       named = named_after fs.store c.set_config.new.self fs.files c.get_mut.follows.lender-at-none c.set_config.ensures.names (links_same fs.files c.get_mut.follows.lender-at-none c.get_mut.follows.holds-at-none) fs.named;
+      tracked = tracked_after fs.store c.set_config.new.self fs.files c.get_mut.follows.lender-at-none c.set_config.ensures.names c.set_config.ensures.journal.told (freed_same fs.files c.get_mut.follows.lender-at-none c.get_mut.follows.holds-at-none) fs.tracked;
     }
 
 pub invariant_of-self-in-Break-1 : goal.invariant_of-self-in-Break-1
@@ -27,6 +29,7 @@ invariant_of-self-in-Break-1 g c =
       opened = opened_changed (λ at. Unit) fs.store c.sync_file.new.self fs.files (c.get_mut.follows.lender new) c.args.inode was new (omega arith) c.in-Some.ensures.value sets changes fs.opened;
       named = named_after fs.store c.sync_file.new.self fs.files (c.get_mut.follows.lender new) (c.sync_file.ensures.names ∙ c.set_config.ensures.names)
           (links_set fs.files (c.get_mut.follows.lender new) c.args.inode was new c.in-Some.ensures.value sets (at_most_self _)) fs.named;
+      tracked = tracked_after fs.store c.sync_file.new.self fs.files (c.get_mut.follows.lender new) (c.sync_file.ensures.names ∙ c.set_config.ensures.names) (c.sync_file.ensures.told ∙ c.set_config.ensures.journal.told) (freed_set fs.files (c.get_mut.follows.lender new) c.args.inode was new c.in-Some.ensures.value sets refl) fs.tracked;
     }
 
 pub returns-in_err-sync_file-clause-fixed : goal.returns-in_err-sync_file-clause-fixed
@@ -55,6 +58,7 @@ invariant_of-self-2 g c =
       opened = opened_changed (λ at. Unit) fs.store c.sync_file.new.self fs.files (c.get_mut.follows.lender new) c.args.inode was new (omega arith) c.in-Some.ensures.value sets changes fs.opened;
       named = named_after fs.store c.sync_file.new.self fs.files (c.get_mut.follows.lender new) (c.sync_file.ensures.names ∙ c.set_config.ensures.names)
           (links_set fs.files (c.get_mut.follows.lender new) c.args.inode was new c.in-Some.ensures.value sets (at_most_self _)) fs.named;
+      tracked = tracked_after fs.store c.sync_file.new.self fs.files (c.get_mut.follows.lender new) (c.sync_file.ensures.names ∙ c.set_config.ensures.names) (c.sync_file.ensures.told ∙ c.set_config.ensures.journal.told) (freed_set fs.files (c.get_mut.follows.lender new) c.args.inode was new c.in-Some.ensures.value sets refl) fs.tracked;
     }
 
 pub returns-clause-fixed : goal.returns-clause-fixed

@@ -1,45 +1,55 @@
-use Rattle.std.proofs.Common.{arith, refl, true}
+use Rattle.std.proofs.Common.{Some, ap, arith, refl, sym, true, ◌∙◌}
 use Rattle.blob_fs.specs.declared.file_system.File.{File}
+use Rattle.blob_fs.specs.Files.{names_of}
+use Rattle.blob_fs.specs.Named.{links_in}
 use Rattle.blob_fs.proofs.Fixed.{contents_same, contents_through, contents_twice, fixed_after, opened_none, opened_through, still_same}
-use Rattle.blob_fs.proofs.Named.{at_most_self, named_none, named_through, no_links}
+use Rattle.blob_fs.proofs.Named.{at_most_self, named_none, named_through, no_links, none_left, none_named}
+use Rattle.blob_fs.proofs.Tracked.{tracked_gone, tracked_none, tracked_through}
 use Rattle.blob_fs.proofs.file_system.FileSystem.let_go.Goals as goal
 
 pub invariant_of-self : goal.invariant_of-self
 invariant_of-self g c = record {
   opened = opened_none c.args.self.now.store c.args.self.now.files _ c.get_mut.follows.holds-at-none c.args.self.now.opened;
   named = named_none c.args.self.now.store c.args.self.now.files _ c.get_mut.follows.holds-at-none c.args.self.now.named;
+  tracked = tracked_none c.args.self.now.store c.args.self.now.files _ c.get_mut.follows.holds-at-none c.args.self.now.tracked;
 }
 
 pub invariant_of-self-then-file-gt0 : goal.invariant_of-self-then-file-gt0
 invariant_of-self-then-file-gt0 g c = record {
   opened = opened_through c.args.self.now.store c.args.self.now.files (c.get_mut.follows.lender c.in-Some.file.now) c.args.inode c.in-Some.file.now c.in-Some.file.now c.in-Some.ensures.value (c.get_mut.follows.holds _) (record { blob = refl; synced = refl; truncations = refl }) c.args.self.now.opened;
   named = named_through c.args.self.now.store c.args.self.now.files (c.get_mut.follows.lender c.in-Some.file.now) c.args.inode c.in-Some.file.now c.in-Some.file.now c.in-Some.ensures.value (c.get_mut.follows.holds _) (at_most_self _) c.args.self.now.named;
+  tracked = tracked_through c.args.self.now.store c.args.self.now.files (c.get_mut.follows.lender c.in-Some.file.now) c.args.inode c.in-Some.file.now c.in-Some.file.now c.in-Some.ensures.value (c.get_mut.follows.holds _) refl c.args.self.now.tracked;
 }
 
 pub invariant_of-self-then-file-gt0-2 : goal.invariant_of-self-then-file-gt0-2
 invariant_of-self-then-file-gt0-2 g c = record {
   opened = opened_through c.args.self.now.store c.args.self.now.files (c.get_mut.follows.lender c.in-Some.file.now) c.args.inode c.in-Some.file.now c.in-Some.file.now c.in-Some.ensures.value (c.get_mut.follows.holds _) (record { blob = refl; synced = refl; truncations = refl }) c.args.self.now.opened;
   named = named_through c.args.self.now.store c.args.self.now.files (c.get_mut.follows.lender c.in-Some.file.now) c.args.inode c.in-Some.file.now c.in-Some.file.now c.in-Some.ensures.value (c.get_mut.follows.holds _) (at_most_self _) c.args.self.now.named;
+  tracked = tracked_through c.args.self.now.store c.args.self.now.files (c.get_mut.follows.lender c.in-Some.file.now) c.args.inode c.in-Some.file.now c.in-Some.file.now c.in-Some.ensures.value (c.get_mut.follows.holds _) refl c.args.self.now.tracked;
 }
 
 pub invariant_of-self-then-file : goal.invariant_of-self-then-file
 invariant_of-self-then-file g c = record {
   opened = opened_through c.args.self.now.store c.args.self.now.files (c.get_mut.follows.lender c.in-Some.file.now) c.args.inode c.in-Some.file.now c.in-Some.file.now c.in-Some.ensures.value (c.get_mut.follows.holds _) (record { blob = refl; synced = refl; truncations = refl }) c.args.self.now.opened;
   named = named_through c.args.self.now.store c.args.self.now.files (c.get_mut.follows.lender c.in-Some.file.now) c.args.inode c.in-Some.file.now c.in-Some.file.now c.in-Some.ensures.value (c.get_mut.follows.holds _) (at_most_self _) c.args.self.now.named;
+  tracked = tracked_through c.args.self.now.store c.args.self.now.files (c.get_mut.follows.lender c.in-Some.file.now) c.args.inode c.in-Some.file.now c.in-Some.file.now c.in-Some.ensures.value (c.get_mut.follows.holds _) refl c.args.self.now.tracked;
 }
 
 pub invariant_of-self-2 : goal.invariant_of-self-2
 invariant_of-self-2 g c =
-    let gone : File = record c.in-Some.file.now { is_gone = true } in
+    let gone : File = record c.in-Some.file.now { is_gone = true; gone_at = c.told_edits-edits.result } in
     record {
       opened = opened_through c.args.self.now.store c.args.self.now.files (c.get_mut.follows.lender gone) c.args.inode c.in-Some.file.now gone c.in-Some.ensures.value (c.get_mut.follows.holds gone) (record { blob = refl; synced = refl; truncations = refl }) c.args.self.now.opened;
       named = named_through c.args.self.now.store c.args.self.now.files (c.get_mut.follows.lender gone) c.args.inode c.in-Some.file.now gone c.in-Some.ensures.value (c.get_mut.follows.holds gone) (no_links c.in-Some.file.now (omega (arith, c.if-file-gt0.false))) c.args.self.now.named;
+      tracked = tracked_gone c.bindings.ensures.freed c.args.self.now.store c.args.self.now.files (c.get_mut.follows.lender gone) c.args.inode c.in-Some.file.now gone c.in-Some.ensures.value (c.get_mut.follows.holds gone)
+          (ap Some c.told_edits-edits.ensures)
+          (none_named (names_of c.args.self.now) c.args.self.now.files c.args.inode (ap links_in (sym c.in-Some.ensures.value) ∙ none_left c.in-Some.file.now (omega (arith, c.if-file-gt0.false))) c.args.self.now.named) c.args.self.now.tracked;
     }
 
 pub returns-clause-fixed : goal.returns-clause-fixed
 returns-clause-fixed g c =
     let fs = c.args.self.now in
-    let gone : File = record c.in-Some.file.now { is_gone = true } in
+    let gone : File = record c.in-Some.file.now { is_gone = true; gone_at = c.told_edits-edits.result } in
     let next = c.count.ensures.number in
     fixed_after fs c.count.new.self (omega (arith, next))
     (contents_twice fs.files (c.get_mut.follows.lender gone) c.count.new.self.files

@@ -2,6 +2,10 @@ use Rattle.std.proofs.Common.{◌≡◌, IsSome, Option, Some, ap, arith, option
 use Rattle.blob_fs.specs.declared.file_system.File.{File}
 use Rattle.blob_fs.specs.Files.{file_of, names_of, table_of}
 use Rattle.blob_fs.proofs.Named.{edit_is, linked, linked_most, most_more, most_same, most_table}
+use Rattle.blob_fs.proofs.Growing.{told_as}
+use Rattle.blob_fs.specs.Files.{told_of}
+use Rattle.blob_directory.specs.Names.{file}
+use Rattle.std.proofs.Common.{◌∷◌, [], List, Some, ap, ℕ, ◌∙◌}
 use Rattle.blob_fs.proofs.file_system.FileSystem.link_at.Goals as goal
 
 pub set_links-requires : goal.set_links-requires
@@ -38,3 +42,7 @@ returns-in-Err-clause-fixed g c = λ inode at byte below f.
 pub returns-clause-fixed : goal.returns-clause-fixed
 returns-clause-fixed g c = λ inode at byte below f.
     c.make.ensures.fixed inode at byte below (c.set_links.ensures.fixed inode at byte below (c.begin_call.ensures.fixed inode at byte below f))
+
+pub returns-clause-told : goal.returns-clause-told
+returns-clause-told g c = told_as (told_of c.args.self.now) (told_of c.set_links.new.self) (told_of c.make.new.self) _ _
+    (c.one-edit.ensures ∙ ap (λ (x : List ℕ). (x, Some (file c.args.inode)) ∷ []) c.in_ok-entry.ensures) (c.set_links.ensures.told ∙ c.begin_call.ensures.told) c.in_default.ensures.told

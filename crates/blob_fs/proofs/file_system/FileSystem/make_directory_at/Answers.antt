@@ -1,6 +1,10 @@
 use Rattle.std.proofs.Common.{arith}
 use Rattle.blob_fs.specs.Files.{names_of}
 use Rattle.blob_fs.proofs.Named.{edit_is, placed}
+use Rattle.blob_fs.proofs.Growing.{told_as}
+use Rattle.blob_fs.specs.Files.{told_of}
+use Rattle.blob_directory.specs.Names.{directory_at}
+use Rattle.std.proofs.Common.{◌∷◌, [], List, Some, ap, ℕ, ◌∙◌}
 use Rattle.blob_fs.proofs.file_system.FileSystem.make_directory_at.Goals as goal
 
 pub returns-in_err-insert-clause-fixed : goal.returns-in_err-insert-clause-fixed
@@ -26,3 +30,7 @@ make-requires g c =
     record {
       fits = placed (names_of one) _ one.files _ c.args.self.now.next_inode (edit_is (names_of one) _ _ c.one-edit.ensures) one.named;
     }
+
+pub returns-clause-told : goal.returns-clause-told
+returns-clause-told g c = told_as (told_of c.args.self.now) (told_of c.begin_call.new.self) (told_of c.make.new.self) _ _
+    (c.one-edit.ensures ∙ ap (λ (x : List ℕ). (x, Some (directory_at c.args.self.now.next_inode)) ∷ []) c.in_ok-entry.ensures) c.begin_call.ensures.told c.in_default.ensures.told

@@ -1,4 +1,5 @@
-use Rattle.std.proofs.Common.{inl, sym, ◌∙◌}
+use Rattle.std.proofs.Common.{inl, refl, sym, ◌∙◌}
+use Rattle.blob_fs.proofs.Calls.{resizes_opened}
 use Rattle.blob_fs.proofs.Fixed.{some_same}
 use Rattle.blob_fs.proofs.file_system.FileSystem.open_inode_truncated.Goals as goal
 
@@ -21,3 +22,15 @@ returns-in-Err-clause-fixed g c = λ inode at byte below apart f.
 pub returns-clause-fixed : goal.returns-clause-fixed
 returns-clause-fixed g c = λ inode at byte below apart f.
     c.clear.ensures.fixed inode at byte below (inl (λ e. apart (some_same (sym e ∙ c.in_ok-file.ensures.opened)))) (c.open_inode.ensures.fixed inode at byte below (c.begin_call.ensures.fixed inode at byte below f))
+
+pub returns-in_err-close-clause-told : goal.returns-in_err-close-clause-told
+returns-in_err-close-clause-told g c = resizes_opened c.in_ok-file.file c.args.inode c.args.self.now c.open_inode.new.self c.clear.new.self c.close.new.self
+    c.in_ok-file.ensures.opened (c.open_inode.ensures.told ∙ c.begin_call.ensures.told) c.clear.ensures.told c.close.ensures.told
+
+pub returns-in-Err-clause-told : goal.returns-in-Err-clause-told
+returns-in-Err-clause-told g c = resizes_opened c.in_ok-file.file c.args.inode c.args.self.now c.open_inode.new.self c.clear.new.self c.close.new.self
+    c.in_ok-file.ensures.opened (c.open_inode.ensures.told ∙ c.begin_call.ensures.told) c.clear.ensures.told c.close.ensures.told
+
+pub returns-clause-told : goal.returns-clause-told
+returns-clause-told g c = resizes_opened c.in_ok-file.file c.args.inode c.args.self.now c.open_inode.new.self c.clear.new.self c.clear.new.self
+    c.in_ok-file.ensures.opened (c.open_inode.ensures.told ∙ c.begin_call.ensures.told) c.clear.ensures.told refl

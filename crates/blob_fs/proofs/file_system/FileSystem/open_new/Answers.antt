@@ -1,4 +1,6 @@
-use Rattle.std.proofs.Common.{◌∙◌}
+use Rattle.std.proofs.Common.{List, subst, sym, ◌∙◌}
+use Rattle.blob_directory.specs.Sectors.{Found}
+use Rattle.blob_journal.specs.Bindings.{MayName}
 use Rattle.blob_fs.specs.Files.{table_of}
 use Rattle.blob_fs.proofs.Named.{most_table}
 use Rattle.blob_fs.proofs.file_system.FileSystem.open_new.Goals as goal
@@ -13,6 +15,7 @@ pub remove_file-requires : goal.remove_file-requires
 remove_file-requires g c =
     record {
       unnamed = most_table (table_of c.args.self.now) (table_of c.open_inode.new.self) c.args.inode 0 (c.open_inode.ensures.names ∙ c.add_file.ensures.names) c.requires.unnamed;
+      unfound = subst (λ (l : List Found). MayName l c.args.inode → ⊥) (sym (c.open_inode.ensures.told ∙ c.add_file.ensures.told)) c.requires.unfound;
     }
 
 pub returns-in-Ok-clause-links : goal.returns-in-Ok-clause-links

@@ -1,5 +1,6 @@
 use Rattle.blob_fs.proofs.Fixed.{opened_store}
 use Rattle.blob_fs.proofs.Named.{named_store}
+use Rattle.blob_fs.proofs.Tracked.{tracked_store}
 use Rattle.blob_fs.proofs.file_system.FileSystem.read.Goals as goal
 
 pub returns-in_default-clause-fixed : goal.returns-in_default-clause-fixed
@@ -16,6 +17,7 @@ pub invariant_of-self-2 : goal.invariant_of-self-2
 invariant_of-self-2 g c = record {
   opened = opened_store c.begin_call.new.self.store c.read_into.new.store c.begin_call.new.self.files c.read_into.ensures.still c.begin_call.new.self.opened;
   named = named_store c.begin_call.new.self.store c.read_into.new.store c.begin_call.new.self.files c.read_into.ensures.names c.begin_call.new.self.named;
+  tracked = tracked_store c.begin_call.new.self.store c.read_into.new.store c.begin_call.new.self.files c.read_into.ensures.names c.read_into.ensures.told c.begin_call.new.self.tracked;
 }
 
 pub returns-in_err-read_into-clause-fixed : goal.returns-in_err-read_into-clause-fixed

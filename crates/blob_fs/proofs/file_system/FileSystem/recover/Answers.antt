@@ -23,6 +23,12 @@ use Rattle.blob_fs.proofs.Counting.{all_named}
 use Rattle.blob_fs.proofs.Recovering.{has_bytes, left_stays, no_orphan}
 use Rattle.blob_fs.proofs.Fixing.{fixes_found}
 use Rattle.blob_fs.proofs.Named.{named_store}
+use Rattle.blob_fs.proofs.Tracked.{links_known, tracked_store}
+use Rattle.std.proofs.Common.{rules}
+use Rattle.std.specs.Prelude.{Err}
+use Rattle.blob_fs.specs.Errors.{StopsAtLimits}
+use Rattle.blob_fs.specs.declared.error.FsError.TheVariants.{Store}
+use Rattle.blob_fs.proofs.Errors.{sizes_tracked}
 use Rattle.blob_fs.proofs.file_system.FileSystem.recover.Goals as goal
 
 pub returns-clause-found : goal.returns-clause-found
@@ -31,7 +37,7 @@ returns-clause-found g c =
     subst (λ (t : Table). FindsNames c.args.self.now.store (keeps_of c.args.self.now) (bound t)) (sym taken) c.in_ok-tree.ensures.found
 
 pub returns-clause-gives : goal.returns-clause-gives
-returns-clause-gives g c = λ r. c.in_ok-begin_life.ensures.gives c.in_ok-tree.ensures.fits (c.reopen_all.ensures.files (c.find_names.ensures.files r))
+returns-clause-gives g c = λ r. c.in_ok-begin_life.ensures.gives (c.reopen_all.ensures.files (c.find_names.ensures.files r))
 
 pub returns-clause-again : goal.returns-clause-again
 returns-clause-again g c = λ gives.
@@ -44,7 +50,7 @@ returns-clause-kept g c =
     subst (λ (t : Table). FindsTold c.args.self.now.store (keeps_of c.args.self.now) (bound t)) (sym taken) c.in_ok-tree.ensures.kept
 
 pub returns-clause-told : goal.returns-clause-told
-returns-clause-told g c = c.in_ok-begin_life.ensures.told c.in_ok-tree.ensures.fits
+returns-clause-told g c = c.in_ok-begin_life.ensures.told
 
 pub returns-clause-bytes : goal.returns-clause-bytes
 returns-clause-bytes g c = λ name inode below named.
@@ -92,6 +98,7 @@ pub invariant_of-self : goal.invariant_of-self
 invariant_of-self g c = record {
   opened = opened_store c.args.self.now.store c.find_names.new.self c.args.self.now.files c.find_names.ensures.still c.args.self.now.opened;
   named = named_store c.args.self.now.store c.find_names.new.self c.args.self.now.files c.find_names.ensures.names c.args.self.now.named;
+  tracked = tracked_store c.args.self.now.store c.find_names.new.self c.args.self.now.files c.find_names.ensures.names c.find_names.ensures.told c.args.self.now.tracked;
 }
 
 pub invariant_of-self-2 : goal.invariant_of-self-2
@@ -101,12 +108,20 @@ invariant_of-self-2 g c =
       opened = opened_handles c.find_names.new.self c.reopen_all.new.store fs.files c.reopen_all.ensures.handles
           (opened_store fs.store c.find_names.new.self fs.files c.find_names.ensures.still fs.opened);
       named = named_store fs.store c.reopen_all.new.store fs.files (c.reopen_all.ensures.names ∙ c.find_names.ensures.names) fs.named;
+      tracked = tracked_store fs.store c.reopen_all.new.store fs.files (c.reopen_all.ensures.names ∙ c.find_names.ensures.names) (c.reopen_all.ensures.told ∙ c.find_names.ensures.told) fs.tracked;
     }
 
 pub begin_life-requires : goal.begin_life-requires
 begin_life-requires g c = record {
   opened = c.in_ok-files.ensures.opened;
   named = all_named c.in_ok-tree.tree c.in_ok-files.files c.in_ok-tree.ensures.counts c.in_ok-files.ensures.counted;
+  present = c.in_ok-files.ensures.present;
+  fits = c.in_ok-tree.ensures.fits;
+}
+
+pub reopen_all-requires : goal.reopen_all-requires
+reopen_all-requires g c = record {
+  known = links_known c.bindings.ensures.kept c.args.self.now.store c.args.self.now.files (keeps_of c.args.self.now) c.in_ok-tree.tree c.in_ok-tree.ensures.kept c.in_ok-tree.ensures.named c.args.self.now.tracked;
 }
 
 pub invariant_of-self-in-Break-branch-2 : goal.invariant_of-self-in-Break-branch-2
@@ -115,9 +130,25 @@ invariant_of-self-in-Break-branch-2 g c =
     record {
       opened = opened_store fs.store c.find_names.new.self fs.files c.find_names.ensures.still fs.opened;
       named = named_store fs.store c.find_names.new.self fs.files c.find_names.ensures.names fs.named;
+      tracked = tracked_store fs.store c.find_names.new.self fs.files c.find_names.ensures.names c.find_names.ensures.told fs.tracked;
     }
 
 pub returns-clause-fixes : goal.returns-clause-fixes
 returns-clause-fixes g c =
     let done = c.in_ok-begin_life.ensures in
     fixes_found c.args.self.now c.begin_life.new.self c.in_ok-files.files done.numbers done.files (done.whole c.in_ok-files.ensures.whole)
+
+pub returns-in_err-tree-clause-errors : goal.returns-in_err-tree-clause-errors
+returns-in_err-tree-clause-errors g c =
+    let said : c.from_residual.result ≡ Err (Store c.in_err-tree.field-0.0) = search rules in
+    subst StopsAtLimits (sym said) (c.in_err-tree.ensures.errors)
+
+pub returns-in_err-files-clause-errors : goal.returns-in_err-files-clause-errors
+returns-in_err-files-clause-errors g c =
+    let said : c.from_residual-in_err-files.result ≡ Err c.in_err-files.field-0.0 = search rules in
+    subst StopsAtLimits (sym said) (c.in_err-files.ensures.errors c.find_names.ensures.faultless (sizes_tracked c.find_names.new.self c.args.self.now.files (opened_store c.args.self.now.store c.find_names.new.self c.args.self.now.files c.find_names.ensures.still c.args.self.now.opened)))
+
+pub returns-in_err-begin_life-clause-errors : goal.returns-in_err-begin_life-clause-errors
+returns-in_err-begin_life-clause-errors g c =
+    let said : c.from_residual-in_err-begin_life.result ≡ Err c.in_err-begin_life.field-0.0 = search rules in
+    subst StopsAtLimits (sym said) (c.in_err-begin_life.ensures.errors (c.in_ok-files.ensures.faultless c.find_names.ensures.faultless))

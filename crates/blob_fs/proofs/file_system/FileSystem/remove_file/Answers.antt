@@ -2,6 +2,7 @@ use Rattle.std.proofs.Common.{◌≤◌, ◌∙◌, arith}
 use Rattle.blob_fs.specs.declared.file_system.FileSystem.{FileSystem}
 use Rattle.blob_fs.proofs.Fixed.{contents_self, fixed_after, fixed_twice, fixed_without, opened_store, opened_without}
 use Rattle.blob_fs.proofs.Named.{named_store, named_without}
+use Rattle.blob_fs.proofs.Tracked.{tracked_store, tracked_without}
 use Rattle.blob_fs.proofs.file_system.FileSystem.remove_file.Goals as goal
 
 pub returns-clause-journal : goal.returns-clause-journal
@@ -13,12 +14,14 @@ invariant_of-self g c = record {
       (opened_store c.args.self.now.store c.set_config.new.self c.args.self.now.files c.set_config.ensures.still c.args.self.now.opened);
   named = named_without c.args.self.now.store c.remove_file.new.self c.args.self.now.files c.remove.new.self c.args.inode c.remove.ensures.updates
       (c.remove_file.ensures.names ∙ c.set_config.ensures.names) c.requires.unnamed c.args.self.now.named;
+  tracked = tracked_without c.args.self.now.store c.remove_file.new.self c.args.self.now.files c.remove.new.self c.args.inode c.remove.ensures.updates
+      (c.remove_file.ensures.names ∙ c.set_config.ensures.names) (c.remove_file.ensures.told ∙ c.set_config.ensures.journal.told) c.requires.unfound c.args.self.now.tracked;
 }
 
 pub returns-clause-fixed : goal.returns-clause-fixed
 returns-clause-fixed g c =
     let fs = c.args.self.now in
-    let ready : FileSystem g.row.R.Denot = record fs { store = c.set_config.new.self; opened = opened_store fs.store c.set_config.new.self fs.files c.set_config.ensures.still fs.opened; named = named_store fs.store c.set_config.new.self fs.files c.set_config.ensures.names fs.named } in
+    let ready : FileSystem g.row.R.Denot = record fs { store = c.set_config.new.self; opened = opened_store fs.store c.set_config.new.self fs.files c.set_config.ensures.still fs.opened; named = named_store fs.store c.set_config.new.self fs.files c.set_config.ensures.names fs.named; tracked = tracked_store fs.store c.set_config.new.self fs.files c.set_config.ensures.names c.set_config.ensures.journal.told fs.tracked } in
     let more : fs.next_inode ≤ fs.next_inode = omega arith in
     fixed_twice fs ready _
     (fixed_after fs ready more (contents_self fs.files) c.set_config.ensures.still)

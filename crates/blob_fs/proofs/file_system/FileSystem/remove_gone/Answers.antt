@@ -1,4 +1,6 @@
-use Rattle.std.proofs.Common.{◌≤◌, ◌∙◌, arith, refl}
+use Rattle.std.proofs.Common.{◌≤◌, ◌∙◌, List, arith, refl, subst, sym, take}
+use Rattle.blob_directory.specs.Sectors.{Found}
+use Rattle.blob_directory.specs.Settled.{AreSettled}
 use Rattle.blob_fs.proofs.Fixed.{contents_self, fixed_after, fixed_twice, still_self}
 use Rattle.blob_fs.proofs.file_system.FileSystem.remove_gone.Goals as goal
 
@@ -12,10 +14,10 @@ loop-i-init g c = record {
 
 pub loop-i-preserved : goal.loop-i-preserved
 loop-i-preserved g c = record {
-  names = c.remove_unlinked.ensures.names ∙ c.loop-i.invariant.names;
-  journal = c.settling.ensures.twice c.args.self.now.store c.loop-i.self.store c.remove_unlinked.new.self.store c.loop-i.invariant.journal c.remove_unlinked.ensures.journal;
-  told = c.remove_unlinked.ensures.told ∙ c.loop-i.invariant.told;
-  fixed = fixed_twice c.args.self.now c.loop-i.self c.remove_unlinked.new.self c.loop-i.invariant.fixed c.remove_unlinked.ensures.fixed;
+  names = c.remove_settled.ensures.names ∙ c.loop-i.invariant.names;
+  journal = c.settling.ensures.twice c.args.self.now.store c.loop-i.self.store c.remove_settled.new.self.store c.loop-i.invariant.journal c.remove_settled.ensures.journal;
+  told = c.remove_settled.ensures.told ∙ c.loop-i.invariant.told;
+  fixed = fixed_twice c.args.self.now c.loop-i.self c.remove_settled.new.self c.loop-i.invariant.fixed c.remove_settled.ensures.fixed;
 }
 
 pub returns-clause-fixed : goal.returns-clause-fixed
@@ -23,3 +25,6 @@ returns-clause-fixed g c =
     let fs = c.loop-i.self in
     let more : fs.next_inode ≤ fs.next_inode = omega arith in
     fixed_twice c.args.self.now fs _ c.loop-i.invariant.fixed (fixed_after fs _ more (contents_self fs.files) (still_self fs.store))
+
+pub remove_settled-requires : goal.remove_settled-requires
+remove_settled-requires g c = record { settled = subst (λ (l : List Found). AreSettled (take c.settled_edits-settled.result l)) (sym c.loop-i.invariant.told) c.settled_edits-settled.ensures }

@@ -2,7 +2,8 @@ use Rattle.std.proofs.Common.{Some, refl}
 use Rattle.blob_journal.specs.Keeping.{names_in}
 use Rattle.blob_fs.specs.declared.file_system.File.{File}
 use Rattle.blob_fs.proofs.Fixed.{opened_none, opened_through, sets_through}
-use Rattle.blob_fs.proofs.Named.{at_most_self, named_none, named_set, named_through, set_named}
+use Rattle.blob_fs.proofs.Named.{named_none, named_set, set_named}
+use Rattle.blob_fs.proofs.Tracked.{tracked_none, tracked_through}
 use Rattle.blob_fs.proofs.file_system.FileSystem.set_links.Goals as goal
 
 pub invariant_of-self : goal.invariant_of-self
@@ -15,10 +16,12 @@ invariant_of-self g c =
       named = named_set fs.store fs.files (c.get_mut.follows.lender now) c.args.inode (Some now)
           (sets_through fs.files (c.get_mut.follows.lender now) c.args.inode was now c.in-Some.ensures.value (c.get_mut.follows.holds now))
           (set_named (names_in fs.store) c.args.inode was c.args.links fs.files c.in-Some.ensures.value fs.named c.requires.fits) fs.named;
+      tracked = tracked_through fs.store fs.files (c.get_mut.follows.lender now) c.args.inode was now c.in-Some.ensures.value (c.get_mut.follows.holds now) refl fs.tracked;
     }
 
 pub invariant_of-self-in_default : goal.invariant_of-self-in_default
 invariant_of-self-in_default g c = record {
   opened = opened_none c.args.self.now.store c.args.self.now.files _ c.get_mut.follows.holds-at-none c.args.self.now.opened;
   named = named_none c.args.self.now.store c.args.self.now.files _ c.get_mut.follows.holds-at-none c.args.self.now.named;
+  tracked = tracked_none c.args.self.now.store c.args.self.now.files _ c.get_mut.follows.holds-at-none c.args.self.now.tracked;
 }

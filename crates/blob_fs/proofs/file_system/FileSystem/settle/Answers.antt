@@ -8,6 +8,7 @@ use Rattle.blob_fs.proofs.Calls.{always_ok, on_ok}
 use Rattle.blob_fs.proofs.Fixed.{contents_self, fixed_after, fixed_twice, opened_store}
 use Rattle.blob_fs.proofs.Syncing.{done_after, done_all, done_more, seen_same, seen_twice}
 use Rattle.blob_fs.proofs.Named.{named_store}
+use Rattle.blob_fs.proofs.Tracked.{tracked_store}
 use Rattle.blob_fs.proofs.file_system.FileSystem.settle.Goals as goal
 
 pub loop-inode-init : goal.loop-inode-init
@@ -30,6 +31,7 @@ invariant_of-self g c =
     record {
       opened = opened_store one.store c.set_config.new.self one.files c.set_config.ensures.still one.opened;
       named = named_store one.store c.set_config.new.self one.files c.set_config.ensures.names one.named;
+      tracked = tracked_store one.store c.set_config.new.self one.files c.set_config.ensures.names c.set_config.ensures.journal.told one.tracked;
     }
 
 pub loop-inode-preserved : goal.loop-inode-preserved

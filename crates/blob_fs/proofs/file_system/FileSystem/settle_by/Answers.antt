@@ -2,6 +2,7 @@ use Rattle.std.proofs.Common.{◌≤◌, arith}
 use Rattle.blob_fs.proofs.Fixed.{contents_self, fixed_after, fixed_twice, opened_store}
 use Rattle.blob_fs.proofs.Settling.{settles_then}
 use Rattle.blob_fs.proofs.Named.{named_store}
+use Rattle.blob_fs.proofs.Tracked.{tracked_settled}
 use Rattle.blob_fs.proofs.file_system.FileSystem.settle_by.Goals as goal
 
 pub returns-clause-settled : goal.returns-clause-settled
@@ -14,6 +15,7 @@ pub invariant_of-self : goal.invariant_of-self
 invariant_of-self g c = record {
   opened = opened_store c.args.self.now.store c.settle.new.self c.args.self.now.files c.settle.ensures.still c.args.self.now.opened;
   named = named_store c.args.self.now.store c.settle.new.self c.args.self.now.files c.settle.ensures.names c.args.self.now.named;
+  tracked = tracked_settled (record { may = c.bindings.ensures.settled; within = c.bindings.ensures.within_settled; freed = c.bindings.ensures.freed_settled }) c.args.self.now.store c.settle.new.self c.args.self.now.files c.settle.ensures.names c.settle.ensures.some c.args.self.now.tracked;
 }
 
 pub returns-clause-fixed : goal.returns-clause-fixed

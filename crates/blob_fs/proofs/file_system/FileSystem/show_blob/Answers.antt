@@ -4,6 +4,7 @@ use Rattle.blob_fs.specs.declared.file_system.File.{File}
 use Rattle.blob_fs.proofs.Fixed.{Sets, contents_same, contents_through, contents_twice, fixed_after, opened_none, opened_through, sets_through, still_same}
 use Rattle.blob_fs.proofs.Syncing.{seen_same, seen_set}
 use Rattle.blob_fs.proofs.Named.{at_most_self, named_none, named_through}
+use Rattle.blob_fs.proofs.Tracked.{tracked_none, tracked_through}
 use Rattle.std.proofs.Common.{◌∙◌}
 use Rattle.blob_fs.proofs.Named.{links_kept, links_through}
 use Rattle.blob_fs.proofs.file_system.FileSystem.show_blob.Goals as goal
@@ -12,6 +13,7 @@ pub invariant_of-self : goal.invariant_of-self
 invariant_of-self g c = record {
   opened = opened_none c.args.self.now.store c.args.self.now.files c.get_mut.follows.lender-at-none c.get_mut.follows.holds-at-none c.args.self.now.opened;
   named = named_none c.args.self.now.store c.args.self.now.files c.get_mut.follows.lender-at-none c.get_mut.follows.holds-at-none c.args.self.now.named;
+  tracked = tracked_none c.args.self.now.store c.args.self.now.files c.get_mut.follows.lender-at-none c.get_mut.follows.holds-at-none c.args.self.now.tracked;
 }
 
 pub invariant_of-self-2 : goal.invariant_of-self-2
@@ -20,6 +22,7 @@ invariant_of-self-2 g c =
     record {
       opened = opened_through c.args.self.now.store c.args.self.now.files (c.get_mut.follows.lender new) c.args.inode c.in-Some.file.now new c.in-Some.ensures.value (c.get_mut.follows.holds new) (record { blob = refl; synced = refl; truncations = refl }) c.args.self.now.opened;
       named = named_through c.args.self.now.store c.args.self.now.files (c.get_mut.follows.lender new) c.args.inode c.in-Some.file.now new c.in-Some.ensures.value (c.get_mut.follows.holds new) (at_most_self _) c.args.self.now.named;
+      tracked = tracked_through c.args.self.now.store c.args.self.now.files (c.get_mut.follows.lender new) c.args.inode c.in-Some.file.now new c.in-Some.ensures.value (c.get_mut.follows.holds new) refl c.args.self.now.tracked;
     }
 
 pub returns-clause-fixed : goal.returns-clause-fixed

@@ -1,14 +1,16 @@
-use Rattle.std.proofs.Common.{◌<◌, ◌≤◌, ◌^◌, false, inr, arith}
+use Rattle.std.proofs.Common.{refl, ◌<◌, ◌≤◌, ◌^◌, false, inr, arith}
 use Rattle.blob_fs.specs.declared.file_system.File.{File}
 use Rattle.blob_fs.proofs.Fixed.{fixed_changed, fixed_twice, opened_changed, opened_none, sets_through}
 use Rattle.blob_fs.proofs.Syncing.{fixes_synced, seen_below, seen_synced, synced_whole}
 use Rattle.blob_fs.proofs.Named.{at_most_self, links_set, named_after, named_none}
+use Rattle.blob_fs.proofs.Tracked.{freed_set, tracked_after, tracked_none}
 use Rattle.blob_fs.proofs.file_system.FileSystem.sync_bytes.Goals as goal
 
 pub invariant_of-self : goal.invariant_of-self
 invariant_of-self g c = record {
   opened = opened_none c.args.self.now.store c.args.self.now.files c.get_mut.follows.lender-at-none c.get_mut.follows.holds-at-none c.args.self.now.opened;
   named = named_none c.args.self.now.store c.args.self.now.files c.get_mut.follows.lender-at-none c.get_mut.follows.holds-at-none c.args.self.now.named;
+  tracked = tracked_none c.args.self.now.store c.args.self.now.files c.get_mut.follows.lender-at-none c.get_mut.follows.holds-at-none c.args.self.now.tracked;
 }
 
 pub invariant_of-self-in-Err-1 : goal.invariant_of-self-in-Err-1
@@ -22,6 +24,7 @@ invariant_of-self-in-Err-1 g c =
       named = named_after fs.store c.sync_file.new.self fs.files (c.get_mut.follows.lender new) c.sync_file.ensures.names
           (links_set fs.files (c.get_mut.follows.lender new) c.args.inode was new c.in-Some.ensures.value
           (sets_through fs.files (c.get_mut.follows.lender new) c.args.inode was new c.in-Some.ensures.value (c.get_mut.follows.holds new)) (at_most_self _)) fs.named;
+      tracked = tracked_after fs.store c.sync_file.new.self fs.files (c.get_mut.follows.lender new) c.sync_file.ensures.names c.sync_file.ensures.told (freed_set fs.files (c.get_mut.follows.lender new) c.args.inode was new c.in-Some.ensures.value (sets_through fs.files (c.get_mut.follows.lender new) c.args.inode was new c.in-Some.ensures.value (c.get_mut.follows.holds new)) refl) fs.tracked;
     }
 
 pub returns-in-Err-clause-fixed : goal.returns-in-Err-clause-fixed
@@ -49,6 +52,7 @@ invariant_of-self-2 g c =
       named = named_after fs.store c.sync_file.new.self fs.files (c.get_mut.follows.lender new) c.sync_file.ensures.names
           (links_set fs.files (c.get_mut.follows.lender new) c.args.inode was new c.in-Some.ensures.value
           (sets_through fs.files (c.get_mut.follows.lender new) c.args.inode was new c.in-Some.ensures.value (c.get_mut.follows.holds new)) (at_most_self _)) fs.named;
+      tracked = tracked_after fs.store c.sync_file.new.self fs.files (c.get_mut.follows.lender new) c.sync_file.ensures.names c.sync_file.ensures.told (freed_set fs.files (c.get_mut.follows.lender new) c.args.inode was new c.in-Some.ensures.value (sets_through fs.files (c.get_mut.follows.lender new) c.args.inode was new c.in-Some.ensures.value (c.get_mut.follows.holds new)) refl) fs.tracked;
     }
 
 pub returns-clause-fixed : goal.returns-clause-fixed

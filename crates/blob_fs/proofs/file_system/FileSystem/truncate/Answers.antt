@@ -1,9 +1,11 @@
-use Rattle.std.proofs.Common.{◌≡◌, ◌<◌, ◌≤◌, ◌^◌, ◌∷◌, [], ◌++◌, List, Some, ℕ, ap, inl, inr, sym, refl, ◌∙◌, arith}
+use Rattle.std.proofs.Common.{◌≡◌, ◌<◌, ◌≤◌, ◌^◌, ◌∷◌, [], ◌++◌, List, Some, false, ℕ, ap, inl, inr, sym, refl, ◌∙◌, arith}
 use Rattle.blob_journal.specs.Fixed.{ChangesOpen, KeepsOpen}
 use Rattle.std.specs.BTreeMap.{BTreeMap, get}
 use Rattle.std.proofs.lemmas.Bool.{cond-true}
 use Rattle.std.specs.Ordering.{is_eq, nat_cmp}
 use Rattle.blob_directory.specs.declared.unsettled.Unsettled.{Unsettled}
+use Rattle.blob_directory.specs.Names.{resizes}
+use Rattle.blob_directory.specs.Sectors.{Found}
 use Rattle.blob_journal.specs.Settling.{unsettled_of}
 use Rattle.blob_fs.specs.Bytes.{file_in}
 use Rattle.blob_fs.specs.Noted.{truncations_in}
@@ -14,6 +16,7 @@ use Rattle.blob_fs.specs.Fixed.{KeepsFixed}
 use Rattle.blob_fs.specs.Files.{descriptor_number}
 use Rattle.blob_fs.proofs.Fixed.{changes_after, changes_again, changes_less, contents_same, contents_through, fixed_after, fixed_twice, keeps_spared, opened_after, opened_changed, opened_none, opened_through, sets_through, still_self, still_twice, synced_kept, synced_more}
 use Rattle.blob_fs.proofs.Named.{links_set, named_after, named_none, named_through, same_at_most}
+use Rattle.blob_fs.proofs.Tracked.{freed_set, tracked_after, tracked_freed, tracked_none, tracked_store, tracked_through}
 use Rattle.blob_faulty.specs.Wrapper.{next_write_of, size_of}
 use Rattle.blob_journal.specs.Blobs.{ResizesFile}
 use Rattle.blob_journal.specs.Journals.{store_of}
@@ -50,6 +53,7 @@ invariant_of-self g c =
     record {
       opened = opened_none one.store one.files c.get_mut.follows.lender-at-none c.get_mut.follows.holds-at-none one.opened;
       named = named_none one.store one.files c.get_mut.follows.lender-at-none c.get_mut.follows.holds-at-none one.named;
+      tracked = tracked_none one.store one.files c.get_mut.follows.lender-at-none c.get_mut.follows.holds-at-none one.tracked;
     }
 
 pub returns-in_default-clause-fixed : goal.returns-in_default-clause-fixed
@@ -69,6 +73,7 @@ invariant_of-self-in-Break-branch-6 g c =
     record {
       opened = opened_through one.store one.files (c.get_mut.follows.lender new) c.in_ok-inode.inode was new c.in-Some.ensures.value (c.get_mut.follows.holds new) c.reserve_shown.ensures.content one.opened;
       named = named_through one.store one.files (c.get_mut.follows.lender new) c.in_ok-inode.inode was new c.in-Some.ensures.value (c.get_mut.follows.holds new) (same_at_most (sym c.reserve_shown.ensures.links)) one.named;
+      tracked = tracked_through one.store one.files (c.get_mut.follows.lender new) c.in_ok-inode.inode was new c.in-Some.ensures.value (c.get_mut.follows.holds new) c.reserve_shown.ensures.gone one.tracked;
     }
 
 pub returns-in_err-reserve_shown-clause-fixed : goal.returns-in_err-reserve_shown-clause-fixed
@@ -93,6 +98,7 @@ invariant_of-self-in-Break-branch-7 g c =
       opened = opened_through one.store one.files (c.get_mut.follows.lender new) c.in_ok-inode.inode was new c.in-Some.ensures.value (c.get_mut.follows.holds new)
           (record { blob = c.reserve_shown.ensures.content.blob; synced = c.reserve_shown.ensures.content.synced; truncations = c.reserve.ensures.items ∙ c.reserve_shown.ensures.content.truncations }) one.opened;
       named = named_through one.store one.files (c.get_mut.follows.lender new) c.in_ok-inode.inode was new c.in-Some.ensures.value (c.get_mut.follows.holds new) (same_at_most (sym c.reserve_shown.ensures.links)) one.named;
+      tracked = tracked_through one.store one.files (c.get_mut.follows.lender new) c.in_ok-inode.inode was new c.in-Some.ensures.value (c.get_mut.follows.holds new) c.reserve_shown.ensures.gone one.tracked;
     }
 
 pub returns-in_err-reserve-clause-fixed : goal.returns-in_err-reserve-clause-fixed
@@ -118,6 +124,7 @@ invariant_of-self-in-Break-branch-8 g c =
           (contents_through one.files (c.get_mut.follows.lender new) c.in_ok-inode.inode was new c.in-Some.ensures.value (c.get_mut.follows.holds new) (record { blob = c.reserve_shown.ensures.content.blob; synced = c.reserve_shown.ensures.content.synced; truncations = c.reserve.ensures.items ∙ c.reserve_shown.ensures.content.truncations })) c.record_truncation.ensures.still one.opened;
       named = named_after one.store c.record_truncation.new.self one.files (c.get_mut.follows.lender new) c.record_truncation.ensures.names
           (links_set one.files (c.get_mut.follows.lender new) c.in_ok-inode.inode was new c.in-Some.ensures.value (sets_through one.files (c.get_mut.follows.lender new) c.in_ok-inode.inode was new c.in-Some.ensures.value (c.get_mut.follows.holds new)) (same_at_most (sym c.reserve_shown.ensures.links))) one.named;
+      tracked = tracked_after one.store c.record_truncation.new.self one.files (c.get_mut.follows.lender new) c.record_truncation.ensures.names c.in_err-edit.ensures.untold (freed_set one.files (c.get_mut.follows.lender new) c.in_ok-inode.inode was new c.in-Some.ensures.value (sets_through one.files (c.get_mut.follows.lender new) c.in_ok-inode.inode was new c.in-Some.ensures.value (c.get_mut.follows.holds new)) c.reserve_shown.ensures.gone) one.tracked;
     }
 
 pub returns-in_err-edit-clause-fixed : goal.returns-in_err-edit-clause-fixed
@@ -150,6 +157,10 @@ invariant_of-self-in-Break-branch-9 g c =
     record {
       opened = opened_changed spares one.store c.resize_file.new.self one.files (c.get_mut.follows.lender new) c.in_ok-inode.inode was new (omega arith) c.in-Some.ensures.value sets changes one.opened;
       named = named_after one.store c.resize_file.new.self one.files (c.get_mut.follows.lender new) (c.resize_file.ensures.names ∙ c.set_config.ensures.names ∙ c.record_truncation.ensures.names) (links_set one.files (c.get_mut.follows.lender new) c.in_ok-inode.inode was new c.in-Some.ensures.value sets (same_at_most (sym c.reserve_shown.ensures.links))) one.named;
+      tracked = tracked_store c.record_truncation.new.self c.resize_file.new.self (c.get_mut.follows.lender new) (c.resize_file.ensures.names ∙ c.set_config.ensures.names) (c.resize_file.ensures.told ∙ c.set_config.ensures.journal.told)
+          (tracked_freed (record { may = c.bindings.ensures.one_more; within = c.bindings.ensures.within_one_more; freed = c.bindings.ensures.freed_one_more })
+          one.store c.record_truncation.new.self c.in_ok-inode.inode one.files (c.get_mut.follows.lender new) c.record_truncation.ensures.names c.in_ok-edit.ensures.told
+          (freed_set one.files (c.get_mut.follows.lender new) c.in_ok-inode.inode was new c.in-Some.ensures.value sets c.reserve_shown.ensures.gone) one.named one.tracked);
     }
 
 pub returns-in_err-resize_file-clause-fixed : goal.returns-in_err-resize_file-clause-fixed
@@ -190,6 +201,10 @@ invariant_of-self-2 g c =
     record {
       opened = opened_changed spares one.store c.resize_file.new.self one.files (c.get_mut.follows.lender new) c.in_ok-inode.inode was new (omega arith) c.in-Some.ensures.value sets changes one.opened;
       named = named_after one.store c.resize_file.new.self one.files (c.get_mut.follows.lender new) (c.resize_file.ensures.names ∙ c.set_config.ensures.names ∙ c.record_truncation.ensures.names) (links_set one.files (c.get_mut.follows.lender new) c.in_ok-inode.inode was new c.in-Some.ensures.value sets (same_at_most (sym (c.end_truncate-now.ensures.links ∙ c.reserve_shown.ensures.links)))) one.named;
+      tracked = tracked_store c.record_truncation.new.self c.resize_file.new.self (c.get_mut.follows.lender new) (c.resize_file.ensures.names ∙ c.set_config.ensures.names) (c.resize_file.ensures.told ∙ c.set_config.ensures.journal.told)
+          (tracked_freed (record { may = c.bindings.ensures.one_more; within = c.bindings.ensures.within_one_more; freed = c.bindings.ensures.freed_one_more })
+          one.store c.record_truncation.new.self c.in_ok-inode.inode one.files (c.get_mut.follows.lender new) c.record_truncation.ensures.names c.in_ok-edit.ensures.told
+          (freed_set one.files (c.get_mut.follows.lender new) c.in_ok-inode.inode was new c.in-Some.ensures.value sets (c.end_truncate-now.ensures.gone ∙ c.reserve_shown.ensures.gone)) one.named one.tracked);
     }
 
 pub returns-then-is_failed-clause-fixed : goal.returns-then-is_failed-clause-fixed
@@ -333,3 +348,24 @@ returns-clause-size g c =
       };
       size = c.end_truncate-now.ensures.content.size sized ∙ c.in_ok-reached.ensures.whole c.if-is_failed.false;
     }
+
+pub returns-in_err-resize_file-clause-told : goal.returns-in_err-resize_file-clause-told
+returns-in_err-resize_file-clause-told g c =
+    let inode = c.in_ok-inode.inode in
+    let opens = ap (λ (m : BTreeMap ℕ ℕ). get nat_cmp m (descriptor_number c.args.file)) (sym c.begin_call.ensures.files.opens) ∙ c.in_ok-inode.ensures in
+    let recorded = c.in_ok-edit.ensures.told ∙ ap (λ (l : List Found). l ++ Some (resizes inode, false) ∷ []) (c.draw_truncation.ensures.drawn.told ∙ c.begin_call.ensures.told) in
+    inr (inode, opens, c.resize_file.ensures.told ∙ c.set_config.ensures.journal.told ∙ recorded)
+
+pub returns-then-is_failed-clause-told : goal.returns-then-is_failed-clause-told
+returns-then-is_failed-clause-told g c =
+    let inode = c.in_ok-inode.inode in
+    let opens = ap (λ (m : BTreeMap ℕ ℕ). get nat_cmp m (descriptor_number c.args.file)) (sym c.begin_call.ensures.files.opens) ∙ c.in_ok-inode.ensures in
+    let recorded = c.in_ok-edit.ensures.told ∙ ap (λ (l : List Found). l ++ Some (resizes inode, false) ∷ []) (c.draw_truncation.ensures.drawn.told ∙ c.begin_call.ensures.told) in
+    inr (inode, opens, c.count.ensures.told ∙ c.resize_file.ensures.told ∙ c.set_config.ensures.journal.told ∙ recorded)
+
+pub returns-clause-told : goal.returns-clause-told
+returns-clause-told g c =
+    let inode = c.in_ok-inode.inode in
+    let opens = ap (λ (m : BTreeMap ℕ ℕ). get nat_cmp m (descriptor_number c.args.file)) (sym c.begin_call.ensures.files.opens) ∙ c.in_ok-inode.ensures in
+    let recorded = c.in_ok-edit.ensures.told ∙ ap (λ (l : List Found). l ++ Some (resizes inode, false) ∷ []) (c.draw_truncation.ensures.drawn.told ∙ c.begin_call.ensures.told) in
+    inr (inode, opens, c.count.ensures.told ∙ c.resize_file.ensures.told ∙ c.set_config.ensures.journal.told ∙ recorded)

@@ -8,6 +8,9 @@ use Rattle.blob_fs.specs.Named.{links_in}
 use Rattle.blob_fs.proofs.Naming.{file_is}
 use Rattle.blob_fs.specs.Files.{names_of}
 use Rattle.blob_fs.proofs.Named.{edit_is, freed, one_freed}
+use Rattle.blob_fs.proofs.Growing.{told_as}
+use Rattle.blob_fs.specs.Files.{told_of}
+use Rattle.std.proofs.Common.{◌∷◌, [], List, None, ap, ℕ, ◌∙◌}
 use Rattle.blob_fs.proofs.file_system.FileSystem.unlink_at.Goals as goal
 
 pub returns-in_err-make-in-File-clause-fixed : goal.returns-in_err-make-in-File-clause-fixed
@@ -35,3 +38,7 @@ drop_link-requires g c =
       fewer = subst (λ (m : BTreeMap ℕ fs_file.File). ∥ NamedAtMost (names_of two) was.inode (pred (links_in (get nat_cmp m was.inode))) ∥₁) (sym c.make.ensures.files.files)
           (one_freed (names_of one) (names_of two) one.files c.in_ok-entry.entry.items was.inode bound made one.named);
     }
+
+pub returns-in_ok-make-in-File-clause-told : goal.returns-in_ok-make-in-File-clause-told
+returns-in_ok-make-in-File-clause-told g c = told_as (told_of c.args.self.now) (told_of c.begin_call.new.self) (told_of c.drop_link.new.self) _ _
+    (c.one.ensures ∙ ap (λ (x : List ℕ). (x, None) ∷ []) c.in_ok-entry.ensures) c.begin_call.ensures.told (c.drop_link.ensures.told ∙ c.in_ok-make-in-File.ensures.told)

@@ -17,6 +17,7 @@ use Rattle.blob_fs.specs.Files.{descriptor_number}
 use Rattle.blob_fs.proofs.Calls.{was_ok}
 use Rattle.blob_fs.proofs.Fixed.{changes_again, contents_same, contents_through, fixed_after, fixed_twice, keeps_spared, opened_changed, opened_none, opened_through, sets_through, still_self, synced_kept}
 use Rattle.blob_fs.proofs.Named.{links_set, named_after, named_none, named_through, same_at_most}
+use Rattle.blob_fs.proofs.Tracked.{freed_set, tracked_after, tracked_none, tracked_through}
 use Rattle.blob_fs.proofs.file_system.FileSystem.write.Goals as goal
 
 pub returns-in_err-begin_call-clause-fixed : goal.returns-in_err-begin_call-clause-fixed
@@ -40,6 +41,7 @@ invariant_of-self g c =
     record {
       opened = opened_none one.store one.files c.get_mut.follows.lender-at-none c.get_mut.follows.holds-at-none one.opened;
       named = named_none one.store one.files c.get_mut.follows.lender-at-none c.get_mut.follows.holds-at-none one.named;
+      tracked = tracked_none one.store one.files c.get_mut.follows.lender-at-none c.get_mut.follows.holds-at-none one.tracked;
     }
 
 pub returns-in_default-clause-fixed : goal.returns-in_default-clause-fixed
@@ -58,6 +60,7 @@ invariant_of-self-in-Break-branch-6 g c =
     record {
       opened = opened_through one.store one.files (c.get_mut.follows.lender new) c.in_ok-inode.inode was new c.in-Some.ensures.value (c.get_mut.follows.holds new) c.reserve_shown.ensures.content one.opened;
       named = named_through one.store one.files (c.get_mut.follows.lender new) c.in_ok-inode.inode was new c.in-Some.ensures.value (c.get_mut.follows.holds new) (same_at_most (sym c.reserve_shown.ensures.links)) one.named;
+      tracked = tracked_through one.store one.files (c.get_mut.follows.lender new) c.in_ok-inode.inode was new c.in-Some.ensures.value (c.get_mut.follows.holds new) c.reserve_shown.ensures.gone one.tracked;
     }
 
 pub returns-in_err-reserve_shown-clause-fixed : goal.returns-in_err-reserve_shown-clause-fixed
@@ -83,6 +86,7 @@ invariant_of-self-2 g c =
     record {
       opened = opened_changed spares one.store c.write_blob-written.new.store one.files (c.get_mut.follows.lender new) c.in_ok-inode.inode was new (omega arith) c.in-Some.ensures.value sets changes one.opened;
       named = named_after one.store c.write_blob-written.new.store one.files (c.get_mut.follows.lender new) c.write_blob-written.ensures.names (links_set one.files (c.get_mut.follows.lender new) c.in_ok-inode.inode was new c.in-Some.ensures.value sets (same_at_most (sym (c.end_write-now.ensures.links ∙ c.reserve_shown.ensures.links)))) one.named;
+      tracked = tracked_after one.store c.write_blob-written.new.store one.files (c.get_mut.follows.lender new) c.write_blob-written.ensures.names c.write_blob-written.ensures.told (freed_set one.files (c.get_mut.follows.lender new) c.in_ok-inode.inode was new c.in-Some.ensures.value sets (c.end_write-now.ensures.gone ∙ c.reserve_shown.ensures.gone)) one.tracked;
     }
 
 pub returns-in-Ok-clause-recorded : goal.returns-in-Ok-clause-recorded

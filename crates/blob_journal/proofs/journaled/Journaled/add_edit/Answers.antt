@@ -1,7 +1,10 @@
-use Rattle.std.proofs.Common.{List, [], ◌∷◌, ◌++◌, false, refl}
+use Rattle.std.proofs.Common.{List, [], ◌∷◌, ◌++◌, ◌≡◌, Some, false, refl, rules}
 use Rattle.blob_directory.specs.declared.unsettled.Unsettled.{Unsettled}
 use Rattle.std.proofs.Math.Logic.{∥∥₁_elim}
 use Rattle.blob_directory.specs.Profiles.{found_in_all}
+use Rattle.blob_directory.specs.Names.{Edit, edit_of}
+use Rattle.blob_directory.specs.Sectors.{Found, found_in, sector_of}
+use Rattle.blob_journal.specs.Keeping.{told_by}
 use Rattle.blob_journal.proofs.Limits.{still_accepted}
 use Rattle.blob_journal.proofs.Growing.{told_prop}
 use Rattle.blob_journal.proofs.Found.{on_err}
@@ -47,7 +50,10 @@ pub returns-in_err-sector-clause-untold : goal.returns-in_err-sector-clause-unto
 returns-in_err-sector-clause-untold g c = on_err _ _ (ap₂ (λ (n : ℕ) (l : List ℕ). found_in_all n l) c.in_err-sector.ensures.unmoved c.in_err-sector.ensures.refused)
 
 pub returns-clause-told : goal.returns-clause-told
-returns-clause-told g c = ∥∥₁_elim c.args.self.now.kept (told_prop _ _) (λ k. c.in_ok-sector.ensures.told k.sectors)
+returns-clause-told g c =
+    let edit : Edit = edit_of c.args.edit in
+    let trip : found_in (sector_of edit false) ≡ Some (edit, false) = c.sectors.ensures.trip edit false (c.fits.ensures (search rules)) in
+    ∥∥₁_elim c.args.self.now.kept (told_prop _ _) (λ k. c.in_ok-sector.ensures.told k.sectors ∙ ap (λ (f : Found). told_by c.args.self.now.journal ++ f ∷ []) trip)
 
 pub returns-in_err-sector-clause-still : goal.returns-in_err-sector-clause-still
 returns-in_err-sector-clause-still g c =

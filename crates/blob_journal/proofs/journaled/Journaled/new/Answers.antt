@@ -35,7 +35,7 @@ invariant_of-result g c =
       current = o.current;
       given = omega arith;
       accepted = c.open.ensures.accepted (subst (λ (d : Directory). AcceptsOpens d) (sym (ap directory c.new-store.ensures.inner ∙ c.new-memory.ensures.directory)) (λ p n. refl));
-      kept = ∣ fixed_kept opened journal _ [] files o.current o.given fixed (o.bytes ∙ none) refl (o.sectors ∙ ap (λ (l : List ℕ). length l / 1024) none) c.new-2.ensures.items ∣₁;
+      kept = ∣ fixed_kept opened journal _ [] files o.current o.given fixed (o.bytes ∙ none) refl (o.sectors ∙ ap (λ (l : List ℕ). length l / 1024) none) tt c.new-2.ensures.items ∣₁;
     }
 
 pub returns-clause-told : goal.returns-clause-told

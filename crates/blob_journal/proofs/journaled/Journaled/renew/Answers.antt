@@ -149,7 +149,7 @@ invariant_of-self-2 g c =
           let fixed_then : IsFixed begun at bytes = subst (λ (x : List ℕ). IsFixed begun at x) c.deref.ensures.value (subst (λ (o : Place). IsFixed begun o c.deref.result.now) (sym same) fixed) in
           fixed_kept new journal _ bytes (c.remove.ensures.files (two.files, two.stands)) there (still_above begun new at.number removed given_then)
           (fixed_same begun new at bytes (c.remove.ensures.bytes at other) (c.remove.ensures.pending at other) fixed_then)
-          (b.live (c.in_ok-journal.ensures.bytes ∙ nothing) ∙ c.deref.ensures.value) c.in_ok-bytes.ensures.whole (b.sectors ∙ ap (λ (l : List ℕ). length l / 1024) c.deref.ensures.value) c.clear.ensures.items);
+          (b.live (c.in_ok-journal.ensures.bytes ∙ nothing) ∙ c.deref.ensures.value) c.in_ok-bytes.ensures.whole (b.sectors ∙ ap (λ (l : List ℕ). length l / 1024) c.deref.ensures.value) c.in_ok-bytes.ensures.settled c.clear.ensures.items);
     }
 
 pub returns-clause-gives : goal.returns-clause-gives
@@ -213,7 +213,7 @@ returns-clause-told g c = λ fits.
     let count : c.begin.new.self.sectors ≡ length bytes / 1024 = b.sectors ∙ ap (λ (l : List ℕ). length l / 1024) c.deref.ensures.value in
     let told : found_in_all c.begin.new.self.sectors (live (inside c.begin.new.self.blob)) ≡ found_in_all (length bytes / 1024) bytes =
     ap₂ (λ (n : ℕ) (l : List ℕ). found_in_all n l) count there in
-    let settled : AreSettled (found_in_all (length bytes / 1024) bytes) = c.in_ok-bytes.ensures.settled fits in
+    let settled : AreSettled (found_in_all (length bytes / 1024) bytes) = c.in_ok-bytes.ensures.settled in
     record {
       settled = subst AreSettled (sym told) settled;
       names = λ keeps chosen e. ap (λ (l : List Found). names_kept keeps chosen l e) told

@@ -1,4 +1,4 @@
-use Rattle.std.proofs.Common.{not, rules}
+use Rattle.std.proofs.Common.{rules}
 use Rattle.std.proofs.Math.Logic.{∥∥₁_elim, ∥∥₁_map}
 use Rattle.std.proofs.lemmas.Fn.{filter_same}
 use Rattle.blob_memory.specs.Store.{directory}
@@ -6,6 +6,7 @@ use Rattle.blob_faulty.specs.Wrapper.{inner_of}
 use Rattle.blob_journal.specs.Found.{IsKept}
 use Rattle.blob_journal.specs.Keeping.{told_by}
 use Rattle.blob_journal.specs.Told.{is_marked_in, settled_in}
+use Rattle.blob_journal.proofs.Unsettled.{unwanted}
 use Rattle.blob_journal.proofs.Limits.{still_accepted}
 use Rattle.blob_journal.proofs.Growing.{grows_prop, grows_same, same_length, told_prop}
 use Rattle.blob_journal.proofs.Found.{filtered_kept, marked_kept, same_next, still_given}
@@ -20,7 +21,7 @@ use Rattle.blob_directory.specs.Syncs.{Wants, marked}
 use Rattle.blob_memory.specs.Store.{place}
 use Rattle.blob_faulty.specs.Wrapper.{inside}
 use Rattle.blob_journal.specs.Settling.{Changes, all_settled}
-use Rattle.std.specs.Prelude.{codes}
+use Rattle.std.specs.Prelude.{codes, filter}
 use Rattle.blob_journal.proofs.Blobs.{journal_apart}
 use Rattle.blob_journal.proofs.Fixed.{current_given, incarnations_same, keeps_open}
 use Rattle.blob_journal.proofs.journaled.Journaled.settle.Goals as goal
@@ -82,16 +83,17 @@ invariant_of-self-2 g c =
     ∙ m.is ∙ ap (map (marked m.wants)) value in
     let new = c.settle_marked.new.store in
     let s = c.settle_marked.ensures in
-    let left = filter_same _ (λ (e : Unsettled). not e.is_wanted) _ (λ x b f' h. search rules) _ _ c.retain.ensures.filtered in
+    let left = filter_same _ unwanted _ (λ x b f' h. search rules) _ _ c.retain.ensures.filtered in
     record {
       partition = ap (λ (o : Place). o.partition) s.place ∙ self.partition;
       name = ap (λ (o : Place). o.name) s.place ∙ self.name ∙ ap (λ (n : ℕ). to_be_bytes w64 n) (sym s.generation);
       current = ap₂ (λ (d : Directory) (o : Place). is_current d o) s.directory s.place ∙ self.current;
       given = still_given self.store new self.opened (same_next (directory (inner_of self.store)) (directory (inner_of new)) s.directory) self.given;
       accepted = still_accepted self.store new s.directory self.accepted;
-      kept = ∥∥₁_map self.kept (λ k. filtered_kept new c.settle_marked.new.journal _ _ (λ (e : Unsettled). not e.is_wanted) left
-          (subst (λ (es : List Unsettled). IsKept new c.settle_marked.new.journal es) c.deref.ensures.value
-          (s.kept (marked_kept self.store self.journal edits c.deref.result.now m.wants same k))));
+      kept = ∥∥₁_map self.kept (λ k.
+          let was : IsKept self.store self.journal c.deref.result.now = marked_kept self.store self.journal edits c.deref.result.now m.wants same k in
+          filtered_kept self.store new self.journal c.settle_marked.new.journal c.deref.result.now _ (left ∙ ap (filter unwanted) (sym c.deref.ensures.value))
+          (c.in_ok-settle_marked.ensures.told was) was (s.kept was));
     }
 
 pub returns-clause-settled : goal.returns-clause-settled

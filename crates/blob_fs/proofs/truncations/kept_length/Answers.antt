@@ -1,7 +1,7 @@
 use Rattle.std.proofs.Common.{◌≡◌, arith, drop}
 use Rattle.blob_fs.specs.Bytes.{common_length}
 use Rattle.blob_fs.proofs.Cutting.{common_past_seen}
-use Rattle.blob_fs.proofs.recovery.kept_length.Goals as goal
+use Rattle.blob_fs.proofs.truncations.kept_length.Goals as goal
 
 pub returns-else-at-live : goal.returns-else-at-live
 returns-else-at-live c =
