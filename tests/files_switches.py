@@ -122,8 +122,9 @@ def test_where_a_crash_kept_bytes():
         f, g = files.stat("/f").inode, files.stat("/g").inode
         kept = files.crash()
         places = [(place, digits) for place, (_, digits) in zip(kept.places, kept.writes)]
-        of_edits = [place for place, digits in places if len(digits) == 1024]
-        assert of_edits == [(None, 0), (None, 1024)] and len(kept.places) == len(kept.writes) == 5
+        # A record of the journal has 34 bytes and its entry, 8 bytes of the directory's number and the name.
+        of_edits = [(place[1], len(digits)) for place, digits in places if place[0] is None]
+        assert of_edits == [(0, 43), (43, 43)] and len(kept.places) == len(kept.writes) == 5
         assert [place for place in places if place[0][0]] == [((f, 0), "11"), ((g, 0), "11"), ((g, 7), "1")]
 
 

@@ -174,7 +174,7 @@ struct blobcrash_ran blobcrash_files_durable(struct blobcrash_files *files, uint
 
 /*
  * Returns the first run of kept bytes at or after the index `from` of one write. The last call is a CRASH, and `row` counts the writes
- * for which it drew, from 0 on, in the order of their issue. The sector of an unsettled edit, of 1,024 bytes, is a write too.
+ * for which it drew, from 0 on, in the order of their issue. The record of an unsettled edit in the journal is a write too.
  *
  * DONE, also if no further byte was kept; OTHER_REPLY if the last call has no such row; CLOSED. None changes anything.
  */

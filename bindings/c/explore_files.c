@@ -233,10 +233,10 @@ static void scripts(void) {
                                         "truncate 0 0\n"
                                         "crash\n"
                                         "# of the unsettled edits it keeps 100\n"
-                                        "# of write 0 it keeps bytes 0 to 1023 of 1024\n"
+                                        "# of write 0 it keeps bytes 0 to 44 of 45\n"
                                         "# of write 1 it keeps bytes 0 to 0 of 1\n"
-                                        "# of write 2 it keeps none of 1024\n"
-                                        "# of write 3 it keeps bytes 0 to 1023 of 1024\n"
+                                        "# of write 2 it keeps none of 71\n"
+                                        "# of write 3 it keeps bytes 0 to 41 of 42\n"
                                         "find /c is NotFound\n";
     struct run run = {.forgets = NOTHING};
     char *text = NULL;

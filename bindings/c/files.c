@@ -282,10 +282,10 @@ static void crashes(void) {
     CHECK(blobcrash_files_kept_edit(&files, 0).len == 0 && blobcrash_files_kept_edit(&files, 1).len == 1);
     CHECK(blobcrash_files_kept_edit(&files, 2).status == BLOBCRASH_OTHER_REPLY &&
           blobcrash_files_kept_run(&files, 2, 0).status == BLOBCRASH_OTHER_REPLY);
-    CHECK(is_run(blobcrash_files_kept_run(&files, 0, 0), 1024, 1024, 0) &&
-          is_run(blobcrash_files_kept_run(&files, 1, 5), 1024, 5, 1019));
-    CHECK(is_run(blobcrash_files_kept_run(&files, 1, SIZE_MAX), 1024, 1024, 0));
-    CHECK(is(blobcrash_files_kept_place(&files, 0), 0, 0, 0) && is(blobcrash_files_kept_place(&files, 1), 0, 0, 1024) &&
+    /* A record of the journal: 17 bytes, 17 of a change, and its entry, 8 bytes of the directory's number and the name. */
+    CHECK(is_run(blobcrash_files_kept_run(&files, 0, 0), 43, 43, 0) && is_run(blobcrash_files_kept_run(&files, 1, 5), 43, 5, 38));
+    CHECK(is_run(blobcrash_files_kept_run(&files, 1, SIZE_MAX), 43, 43, 0));
+    CHECK(is(blobcrash_files_kept_place(&files, 0), 0, 0, 0) && is(blobcrash_files_kept_place(&files, 1), 0, 0, 43) &&
           refuses(blobcrash_files_kept_place(&files, 2), BLOBCRASH_OTHER_REPLY));
     CHECK(lists("/", "b,") && blobcrash_files_kept_edit(&files, 0).status == BLOBCRASH_OTHER_REPLY);
     CHECK(refuses(by(BLOBCRASH_F_SIZE, 1), BLOBCRASH_F_STALE) && write_at(1, 0, "x") == BLOBCRASH_F_STALE);

@@ -197,9 +197,10 @@ fn what_a_crash_kept() -> Result<(), Error> {
     assert_eq!(kept.edits, [true]);
     assert_eq!(files.words_left(), Some(1));
     let half = [vec![true; 512], vec![false; 512]].concat();
-    assert_eq!(kept.writes, [(0, vec![true; 1024]), (1, half)]);
+    // The record of the create: 34 bytes and its entry, 8 bytes of the directory's number and the name.
+    assert_eq!(kept.writes, [(0, vec![true; 43]), (1, half)]);
     assert_eq!(files.read("/f")?, [b'a'; 512]);
-    let told = "# of the unsettled edits it keeps 1\n# of write 0 it keeps bytes 0 to 1023 of 1024\n\
+    let told = "# of the unsettled edits it keeps 1\n# of write 0 it keeps bytes 0 to 42 of 43\n\
                 # of write 1 it keeps bytes 0 to 511 of 1024\nopen /f # is 1\nsize 1\nread 1 0 512\nclose 1\n";
     assert!(files.script().ends_with(told), "{}", files.script());
     Ok(())

@@ -144,7 +144,7 @@ fn a_failure_has_its_words_and_calls() {
     assert_eq!((error, run), (Error::Loop, 3));
     let expected = "words max 0\nprofile posix\nkeep 1 2\nconfig write 0 1 1 2 sectors 512\n\
                     mkdir /a\nmkdir /b\n# choose(1) is 0\ncrash\n# of the unsettled edits it keeps 01\n\
-                    # of write 0 it keeps none of 1024\n# of write 1 it keeps bytes 0 to 1023 of 1024\n";
+                    # of write 0 it keeps none of 43\n# of write 1 it keeps bytes 0 to 42 of 43\n";
     assert_eq!(script, expected);
 }
 

@@ -1,5 +1,5 @@
--- The names that a journal of settled sectors gives.
-use Rattle.std.proofs.Common.{◌≡◌, ℕ, ◌+◌, ◌-◌, ◌*◌, ◌/◌, ◌<◌, List, [], ◌∷◌, ◌++◌, Bool, true, false, Option, None, Some, Vec, Global, length, take, drop, get_or, is_some, append-nil, refl, replicate, sym, ap, ap₂, subst, ◌∙◌, ◌⊎◌, inl, inr, ⊎_elim, arith, append_assoc, length-append, if◌then◌else◌}
+-- The names that a journal of settled records gives.
+use Rattle.std.proofs.Common.{◌≡◌, ℕ, suc, ◌+◌, ◌<◌, ◌^◌, List, [], ◌∷◌, ◌++◌, Bool, true, false, Option, None, Some, Vec, Global, length, take, map, get_or, is_some, append-nil, refl, sym, ap, ap₂, subst, ◌∙◌, ◌⊎◌, inl, inr, ⊎_elim, arith, append_assoc, length-append, if◌then◌else◌}
 use Rattle.std.specs.List.{All, Contains}
 use Rattle.std.specs.Cmp.Lexicographic.{bytes_decides}
 use Rattle.std.specs.Str.{bytes_eq}
@@ -8,19 +8,22 @@ use Rattle.std.specs.Cmp.{Equal-is}
 use Rattle.std.specs.Map.{lookup}
 use Rattle.std.specs.Ordering.{is_eq, nat_cmp}
 use Rattle.std.proofs.lemmas.Map.Lookups.{exact_unsigned}
-use Rattle.std.proofs.Math.Seq.{drop-append_seam, take-append_seam}
 use Rattle.std.proofs.lemmas.Bool.{cases_Bool, cond-true, cond-false, false≢true}
-use Rattle.std.proofs.lemmas.List.{length-replicate, length-take, take_more}
+use Rattle.std.proofs.lemmas.List.{take_more}
 use Rattle.std.proofs.lemmas.List.Elements.{All-append, All-cons, All-contains, All-head, All-nil, All-tail, Contains-append_cases, Contains-append_left, Contains-append_right, Contains-push}
+use Rattle.blob_packed.specs.Records.{FitFrom, IsPacked, Record, packed, packed_from, record_bytes}
+use Rattle.blob_packed.proofs.Fits.{fit_append}
+use Rattle.blob_packed.proofs.Losses.{packed_append}
+use Rattle.blob_packed.proofs.Scans.{packed_are_found}
 use Rattle.blob_directory.specs.declared.edit.Binding.{Binding}
 use Rattle.blob_directory.specs.declared.profile.Keeps.{Keeps}
-use Rattle.blob_directory.specs.Checkpoints.{Bindings, FitSectors, HasWholeSectors, bindings_in, settled_sectors}
+use Rattle.blob_directory.specs.Checkpoints.{Bindings, FitRecords, bindings_in, settled_records}
 use Rattle.blob_directory.specs.Names.{Edit, Names, Same, all_edited, changed, entry}
 use Rattle.blob_directory.specs.Settled.{AreSettled}
 use Rattle.blob_directory.specs.Tables.{HasName}
-use Rattle.blob_directory.specs.Profiles.{edits_of, found_in_all, kept_edits, names_told}
-use Rattle.blob_directory.specs.Sectors.{FitsSector, Found, edit_bytes, edit_told, filled, found_in, has_change, sector_of}
-use Rattle.blob_directory.proofs.Sectors.{round_trip}
+use Rattle.blob_directory.specs.Profiles.{edits_of, kept_edits, names_told}
+use Rattle.blob_directory.specs.Records.{FitsRecord, Found, edit_bytes, edit_found, edit_told, found_in, has_edit, record_of}
+use Rattle.blob_directory.proofs.Records.{round_trip}
 
 abbrev pub edit_for : List ℕ × Binding → Edit
 edit_for b = (b.0, Some b.1) ∷ []
@@ -33,54 +36,37 @@ abbrev pub founds_for : Bindings → List Found
 founds_for [] = []
 founds_for (b ∷ bs) = Some (edit_for b, true) ∷ founds_for bs
 
-pub sectors_append : (xs ys : Bindings) → settled_sectors (xs ++ ys) ≡ settled_sectors xs ++ settled_sectors ys
-sectors_append [] ys = refl
-sectors_append (x ∷ xs) ys =
-    ap (λ l. sector_of (edit_for x) true ++ l) (sectors_append xs ys) ∙ sym (append_assoc (sector_of (edit_for x) true) (settled_sectors xs) (settled_sectors ys))
+pub records_append : (xs ys : Bindings) → settled_records (xs ++ ys) ≡ settled_records xs ++ settled_records ys
+records_append [] ys = refl
+records_append (x ∷ xs) ys = ap (λ l. record_of (edit_for x) true ∷ l) (records_append xs ys)
 
-filled_long : (bytes : List ℕ) → length (filled bytes) ≡ 1024
-filled_long bytes = simp (length-append, length-replicate, length-take) (omega arith)
+-- one more record
+pub packed_more : (n m : ℕ) (before bytes bytes' : List ℕ) (xs : List Record) (r : Record) → m ≡ n + length xs → bytes ≡ before ++ packed_from n xs → bytes' ≡ bytes ++ record_bytes m r
+    → bytes' ≡ before ++ packed_from n (xs ++ r ∷ [])
+packed_more n m before bytes bytes' xs r e is more =
+    more ∙ ap (λ l. l ++ record_bytes m r) is ∙ append_assoc before (packed_from n xs) (record_bytes m r)
+    ∙ ap (λ l. before ++ (packed_from n xs ++ l)) (sym (append-nil (record_bytes m r)))
+    ∙ ap (λ l. before ++ l) (sym (packed_append m n xs (r ∷ []) e))
 
-pub sector_long : (edit : Edit) (settled : Bool) → length (sector_of edit settled) ≡ 1024
-unfolding sector_of
-sector_long edit settled = filled_long ((if settled then 2 else 1) ∷ edit_bytes edit)
+pub fit_more : (n m : ℕ) (xs : List Record) (r : Record) → m ≡ n + length xs → FitFrom n xs → m < 2 ^ 64 → length r.0 < 2 ^ 64 → FitFrom n (xs ++ r ∷ [])
+fit_more n m xs r e fit low short = fit_append m n xs (r ∷ []) e fit (low, short, tt)
 
-sectors_long : (bs : Bindings) → length (settled_sectors bs) ≡ length bs * 1024
-sectors_long [] = refl
-sectors_long (b ∷ bs) =
-    let one = sector_long (edit_for b) true in
-    let rest = sectors_long bs in
-    let both = length-append (sector_of (edit_for b) true) (settled_sectors bs) in
-    omega (arith, one, rest, both)
-
-whole : (n : ℕ) → n * 1024 / 1024 ≡ n
-whole n = omega arith
-
-first_sector : (s r : List ℕ) → length s ≡ 1024 → take 1024 (s ++ r) ≡ s
-first_sector s r e = ap (λ n. take n (s ++ r)) (sym e) ∙ take-append_seam s r
-
-behind_sector : (s r : List ℕ) → length s ≡ 1024 → drop 1024 (s ++ r) ≡ r
-behind_sector s r e = ap (λ n. drop n (s ++ r)) (sym e) ∙ drop-append_seam s r
-
--- the sectors have these edits, settled
-all_sectors : (bs : Bindings) → All (λ b. FitsSector (edit_for b)) bs → found_in_all (length bs) (settled_sectors bs) ≡ founds_for bs
-all_sectors [] fit = refl
-all_sectors (b ∷ bs) fit =
-    let s : List ℕ = sector_of (edit_for b) true in
-    let long : length s ≡ 1024 = sector_long (edit_for b) true in
-    let fits : FitsSector (edit_for b) = All-head (λ b. FitsSector (edit_for b)) b bs fit in
-    ap₂ (λ x y. found_in x ∷ found_in_all (length bs) y) (first_sector s (settled_sectors bs) long) (behind_sector s (settled_sectors bs) long)
-    ∙ ap₂ (λ x y. x ∷ y) (round_trip (edit_for b) true fits) (all_sectors bs (All-tail (λ b. FitsSector (edit_for b)) b bs fit))
+-- the records have these edits, settled
+all_records : (bs : Bindings) → All (λ b. FitsRecord (edit_for b)) bs → map edit_found (map (λ r. Some r) (settled_records bs)) ≡ founds_for bs
+all_records [] fit = refl
+all_records (b ∷ bs) fit =
+    ap₂ (λ x y. x ∷ y) (round_trip (edit_for b) true (All-head (λ b. FitsRecord (edit_for b)) b bs fit))
+    (all_records bs (All-tail (λ b. FitsRecord (edit_for b)) b bs fit))
 
 all_kept : (keeps : Keeps) (bs : Bindings) → kept_edits keeps false (founds_for bs) ≡ edits_for bs
 all_kept keeps [] = refl
 all_kept keeps (b ∷ bs) = ap (λ l. edit_for b ∷ l) (all_kept keeps bs)
 
--- the names of settled sectors
-pub sectors_told : (keeps : Keeps) (bs : Bindings) → All (λ b. FitsSector (edit_for b)) bs → edits_of keeps (settled_sectors bs) ≡ edits_for bs
-sectors_told keeps bs fit =
-    ap (λ n. kept_edits keeps false (found_in_all n (settled_sectors bs))) (ap (λ n. n / 1024) (sectors_long bs) ∙ whole (length bs))
-    ∙ ap (kept_edits keeps false) (all_sectors bs fit)
+-- the names of settled records
+pub records_told : (keeps : Keeps) (bs : Bindings) → FitFrom 0 (settled_records bs) → All (λ b. FitsRecord (edit_for b)) bs → edits_of keeps (packed (settled_records bs)) ≡ edits_for bs
+records_told keeps bs room fit =
+    ap (λ l. kept_edits keeps false (map edit_found l)) (packed_are_found (settled_records bs) room)
+    ∙ ap (kept_edits keeps false) (all_records bs fit)
     ∙ all_kept keeps bs
 
 -- what edits that bind as some names do leave
@@ -132,23 +118,24 @@ module _ (names : Names) where
       (λ more. all_after bs (changed a (b.0, Some b.1)) rest e to has more)
       (Contains-append_cases (b ∷ []) bs (e, to) h)
 
-  -- a journal of settled sectors for each of the names gives the names
+  -- a journal of settled records for each of the names gives the names
   by_cases : (told : Names) → ((e : List ℕ) (to : Binding) → told e ≡ Some to → names e ≡ Some to) → ((e : List ℕ) (to : Binding) → names e ≡ Some to → told e ≡ Some to)
       → (e : List ℕ) (x y : Option Binding) → told e ≡ x → names e ≡ y → told e ≡ names e
   by_cases told sound all e x (Some to) t n = all e to n ∙ sym n
   by_cases told sound all e None None t n = t ∙ sym n
   by_cases told sound all e (Some to) None t n = let both : None ≡ Some to = sym n ∙ sound e to t in absurd (cc)
 
-  pub checkpoint_gives : (bs : Bindings) → FitSectors names → All (λ b. names b.0 ≡ Some b.1) bs → ((e : List ℕ) (to : Binding) → names e ≡ Some to → Contains bs (e, to))
-      → (keeps : Keeps) → Same (names_told keeps (settled_sectors bs)) names
-  checkpoint_gives bs fit sound all keeps =
-      let fits : All (λ b. FitsSector (edit_for b)) bs = λ k d h. fit _ _ (sound k d h) in
-      let told : names_told keeps (settled_sectors bs) ≡ all_edited (λ _. None) (edits_for bs) = ap (all_edited (λ _. None)) (sectors_told keeps bs fits) in
+  pub checkpoint_gives : (bs : Bindings) → FitFrom 0 (settled_records bs) → FitRecords names → All (λ b. names b.0 ≡ Some b.1) bs
+      → ((e : List ℕ) (to : Binding) → names e ≡ Some to → Contains bs (e, to)) → (keeps : Keeps) → Same (names_told keeps (packed (settled_records bs))) names
+  checkpoint_gives bs room fit sound all keeps =
+      let journal : List ℕ = packed (settled_records bs) in
+      let fits : All (λ b. FitsRecord (edit_for b)) bs = λ k d h. fit _ _ (sound k d h) in
+      let told : names_told keeps journal ≡ all_edited (λ _. None) (edits_for bs) = ap (all_edited (λ _. None)) (records_told keeps bs room fits) in
       let none : (e : List ℕ) (to : Binding) → None ≡ Some to → names e ≡ Some to = λ e to h. absurd (cc) in
-      λ e. by_cases (names_told keeps (settled_sectors bs))
+      λ e. by_cases (names_told keeps journal)
       (λ x to h. sound_after bs (λ _. None) sound none x to (sym (ap (λ (t : Names). t x) told) ∙ h))
       (λ x to h. ap (λ (t : Names). t x) told ∙ all_after bs (λ _. None) sound x to h (all x to h))
-      e (names_told keeps (settled_sectors bs) e) (names e) refl refl
+      e (names_told keeps journal e) (names e) refl refl
 
 abbrev pub Listed : Type 0
 Listed = List (Vec ℕ Global × Binding)
@@ -157,15 +144,18 @@ bindings_append : (d : ℕ) (xs ys : Listed) → bindings_in d (xs ++ ys) ≡ bi
 bindings_append d [] ys = refl
 bindings_append d (x ∷ xs) ys = ap (λ l. (entry d x.0.items, x.1) ∷ l) (bindings_append d xs ys)
 
--- one more name's sector
-pub next_sector : (d : ℕ) (names : Listed) (i : ℕ) (n : Vec ℕ Global × Binding) → i < length names → n ≡ get_or names i n
-    → settled_sectors (bindings_in d (take (i + 1) names)) ≡ settled_sectors (bindings_in d (take i names)) ++ sector_of ((entry d n.0.items, Some n.1) ∷ []) true
-next_sector d names i n h is =
+pub records_long : (d : ℕ) (names : Listed) → length (settled_records (bindings_in d names)) ≡ length names
+records_long d [] = refl
+records_long d (n ∷ names) = ap suc (records_long d names)
+
+-- one more name's record
+pub next_name : (d : ℕ) (names : Listed) (i : ℕ) (n : Vec ℕ Global × Binding) → i < length names → n ≡ get_or names i n
+    → settled_records (bindings_in d (take (i + 1) names)) ≡ settled_records (bindings_in d (take i names)) ++ record_of ((entry d n.0.items, Some n.1) ∷ []) true ∷ []
+next_name d names i n h is =
     let more : take (i + 1) names ≡ take i names ++ n ∷ [] = take_more names i n h ∙ ap (λ x. take i names ++ x ∷ []) (sym is) in
-    ap (λ l. settled_sectors (bindings_in d l)) more
-    ∙ ap settled_sectors (bindings_append d (take i names) (n ∷ []))
-    ∙ sectors_append (bindings_in d (take i names)) ((entry d n.0.items, n.1) ∷ [])
-    ∙ ap (λ l. settled_sectors (bindings_in d (take i names)) ++ l) (append-nil (sector_of ((entry d n.0.items, Some n.1) ∷ []) true))
+    ap (λ l. settled_records (bindings_in d l)) more
+    ∙ ap settled_records (bindings_append d (take i names) (n ∷ []))
+    ∙ records_append (bindings_in d (take i names)) ((entry d n.0.items, n.1) ∷ [])
 
 bindings_sound : (names : Names) (d : ℕ) (ns : Listed) → All (λ n. names (entry d n.0.items) ≡ Some n.1) ns → All (λ b. names b.0 ≡ Some b.1) (bindings_in d ns)
 bindings_sound names d [] all = All-nil (λ b. names b.0 ≡ Some b.1)
@@ -198,29 +188,42 @@ among_keys (e ∷ es) d h = ⊎_elim
     (λ n. inr (among_keys es d (ap is_some (sym (cond-false (is_eq (nat_cmp d e.0)) (Some e.1) (lookup (is_at (nat_cmp d)) es) n)) ∙ h)))
     (cases_Bool (is_eq (nat_cmp d e.0)))
 
--- the bytes are sectors of the names, except those in directories that are left
-pub record Written (names : Names) (has : ℕ → Bool) (left : List (ℕ × ℕ)) (bytes : List ℕ) : Type 0 where
+-- the bytes are so many records of the names, except those in directories that are left
+pub record Written (names : Names) (has : ℕ → Bool) (left : List (ℕ × ℕ)) (bytes : List ℕ) (number : ℕ) : Type 0 where
   pub list : Bindings
-  pub is : bytes ≡ settled_sectors list
+  pub is : bytes ≡ packed (settled_records list)
+  pub counted : length (settled_records list) ≡ number
+  pub room : FitFrom 0 (settled_records list)
   pub sound : All (λ b. names b.0 ≡ Some b.1) list
   pub all : (d : ℕ) (name : List ℕ) (to : Binding) → has d ≡ true → names (entry d name) ≡ Some to → Contains list (entry d name, to) ⊎ AmongKeys left d
 
-pub written_none : (names : Names) (has : ℕ → Bool) (left : List (ℕ × ℕ)) (bytes : List ℕ) → bytes ≡ [] → ((d : ℕ) → has d ≡ true → AmongKeys left d) → Written names has left bytes
+pub written_none : (names : Names) (has : ℕ → Bool) (left : List (ℕ × ℕ)) (bytes : List ℕ) → bytes ≡ [] → ((d : ℕ) → has d ≡ true → AmongKeys left d) → Written names has left bytes 0
 written_none names has left bytes none all = record {
   list = [];
   is = none;
+  counted = refl;
+  room = tt;
   sound = All-nil (λ b. names b.0 ≡ Some b.1);
   all = λ d name to h _. inr (all d h);
 }
 
-pub written_more : (names : Names) (has : ℕ → Bool) (t u : List (ℕ × ℕ)) (e : ℕ × ℕ) (bytes bytes' : List ℕ) (ns : Listed)
-    → t ≡ e ∷ u → bytes' ≡ bytes ++ settled_sectors (bindings_in e.0 ns) → All (λ n. names (entry e.0 n.0.items) ≡ Some n.1) ns
-    → ((name : List ℕ) (to : Binding) → names (entry e.0 name) ≡ Some to → HasName ns name to) → Written names has t bytes → Written names has u bytes'
-written_more names has t u e bytes bytes' ns more made told all w =
+pub written_more : (names : Names) (has : ℕ → Bool) (t u : List (ℕ × ℕ)) (e : ℕ × ℕ) (bytes bytes' : List ℕ) (number number' : ℕ) (ns : Listed)
+    → t ≡ e ∷ u → bytes' ≡ bytes ++ packed_from number (settled_records (bindings_in e.0 ns)) → number' ≡ number + length ns → FitFrom number (settled_records (bindings_in e.0 ns))
+    → All (λ n. names (entry e.0 n.0.items) ≡ Some n.1) ns
+    → ((name : List ℕ) (to : Binding) → names (entry e.0 name) ≡ Some to → HasName ns name to) → Written names has t bytes number → Written names has u bytes' number'
+written_more names has t u e bytes bytes' number number' ns more made count room told all w =
     let new : Bindings = bindings_in e.0 ns in
+    let first : List Record = settled_records w.list in
+    let second : List Record = settled_records new in
+    let both : settled_records (w.list ++ new) ≡ first ++ second = records_append w.list new in
+    let next : number ≡ 0 + length first = omega (arith, w.counted) in
+    let long : length second ≡ length ns = records_long e.0 ns in
+    let added : length (first ++ second) ≡ length first + length second = length-append first second in
     record {
       list = w.list ++ new;
-      is = made ∙ ap (λ l. l ++ settled_sectors new) w.is ∙ sym (sectors_append w.list new);
+      is = made ∙ ap (λ l. l ++ packed_from number second) w.is ∙ sym (packed_append number 0 first second next) ∙ ap (λ (l : List Record). packed l) (sym both);
+      counted = ap (λ (l : List Record). length l) both ∙ (let all_of : length (first ++ second) ≡ number' = omega (arith, count, w.counted, long, added) in all_of);
+      room = subst (λ (l : List Record). FitFrom 0 l) (sym both) (fit_append number 0 first second next w.room room);
       sound = All-append (λ b. names b.0 ≡ Some b.1) w.list new w.sound (bindings_sound names e.0 ns told);
       all = λ d name to h bound. ⊎_elim
           (λ x. inl (Contains-append_left w.list new (entry d name, to) x))
@@ -235,45 +238,32 @@ written_more names has t u e bytes bytes' ns more made told all w =
           (w.all d name to h bound);
     }
 
-pub written_all : (names : Names) (has : ℕ → Bool) (left : List (ℕ × ℕ)) (bytes : List ℕ) → left ≡ [] → Written names has left bytes → FitSectors names
+pub written_all : (names : Names) (has : ℕ → Bool) (left : List (ℕ × ℕ)) (bytes : List ℕ) (number : ℕ) → left ≡ [] → Written names has left bytes number → FitRecords names
     → ((e : List ℕ) (to : Binding) → names e ≡ Some to → (d : ℕ) × (name : List ℕ) × (e ≡ entry d name) × (has d ≡ true))
     → (keeps : Keeps) → Same (names_told keeps bytes) names
-written_all names has left bytes none w fit places keeps =
+written_all names has left bytes number none w fit places keeps =
     subst (λ l. Same (names_told keeps l) names) (sym w.is)
-    (checkpoint_gives names w.list fit w.sound
+    (checkpoint_gives names w.list w.room fit w.sound
     (λ e to h.
     let at = places e to h in
     subst (λ k. Contains w.list (k, to)) (sym at.2)
     (⊎_elim (λ x. x) (λ x. absurd (subst (λ l. AmongKeys l at.0) none x)) (w.all at.0 at.1 to at.3 (ap names (sym at.2) ∙ h))))
     keeps)
 
-whole_by : (n m : ℕ) → n ≡ m * 1024 → n / 1024 * 1024 ≡ n
-whole_by n m e = omega (arith, e)
+pub written_packed : (names : Names) (has : ℕ → Bool) (left : List (ℕ × ℕ)) (bytes : List ℕ) (number : ℕ) → Written names has left bytes number → IsPacked number bytes
+written_packed names has left bytes number w = record { records = settled_records w.list; is = w.is; counted = w.counted; fit = w.room }
 
-pub written_whole : (names : Names) (has : ℕ → Bool) (left : List (ℕ × ℕ)) (bytes : List ℕ) → Written names has left bytes → HasWholeSectors bytes
-written_whole names has left bytes w = whole_by (length bytes) (length w.list) (ap (λ (l : List ℕ). length l) w.is ∙ sectors_long w.list)
-
--- a settled sector has no edit that isn't settled
+-- a settled record has no edit that isn't settled
 flagged : (b : Bool) (edit : Edit) (found : List Found) → AreSettled found → AreSettled ((if b then Some (edit, true) else None) ∷ found)
 flagged true edit found h = (refl, h)
 flagged false edit found h = h
 
-one_settled : (edit : Edit) (found : List Found) → AreSettled found → AreSettled (found_in (sector_of edit true) ∷ found)
-unfolding sector_of found_in
-one_settled edit found h =
-    let rest : List ℕ = take 1023 (edit_bytes edit) ++ replicate (1024 - length (2 ∷ edit_bytes edit)) 0 in
-    flagged (has_change rest) (edit_told rest) found h
+records_settled : (bs : Bindings) → AreSettled (map edit_found (map (λ r. Some r) (settled_records bs)))
+records_settled [] = tt
+records_settled (b ∷ bs) =
+    let bytes : List ℕ = edit_bytes (edit_for b) in
+    flagged (has_edit bytes) (edit_told bytes) (map edit_found (map (λ r. Some r) (settled_records bs))) (records_settled bs)
 
-sectors_settled : (bs : Bindings) → AreSettled (found_in_all (length bs) (settled_sectors bs))
-sectors_settled [] = tt
-sectors_settled (b ∷ bs) =
-    let s : List ℕ = sector_of (edit_for b) true in
-    let long : length s ≡ 1024 = sector_long (edit_for b) true in
-    subst AreSettled
-    (sym (ap₂ (λ x y. found_in x ∷ found_in_all (length bs) y) (first_sector s (settled_sectors bs) long) (behind_sector s (settled_sectors bs) long)))
-    (one_settled (edit_for b) (found_in_all (length bs) (settled_sectors bs)) (sectors_settled bs))
-
-pub written_settled : (names : Names) (has : ℕ → Bool) (left : List (ℕ × ℕ)) (bytes : List ℕ) → Written names has left bytes → AreSettled (found_in_all (length bytes / 1024) bytes)
-written_settled names has left bytes w =
-    let count : length bytes / 1024 ≡ length w.list = ap (λ (l : List ℕ). length l / 1024) w.is ∙ ap (λ (n : ℕ). n / 1024) (sectors_long w.list) ∙ whole (length w.list) in
-    subst AreSettled (sym (ap₂ (λ (n : ℕ) (l : List ℕ). found_in_all n l) count w.is)) (sectors_settled w.list)
+pub written_settled : (names : Names) (has : ℕ → Bool) (left : List (ℕ × ℕ)) (bytes : List ℕ) (number : ℕ) → Written names has left bytes number → AreSettled (found_in bytes)
+written_settled names has left bytes number w =
+    subst AreSettled (sym (ap found_in w.is ∙ ap (map edit_found) (packed_are_found (settled_records w.list) w.room))) (records_settled w.list)

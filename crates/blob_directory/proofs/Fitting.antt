@@ -1,18 +1,20 @@
--- Each name that a journal gives fits in a sector.
-use Rattle.std.proofs.Common.{◌≡◌, ℕ, zero, suc, ◌+◌, ◌<◌, ◌≤◌, ◌/◌, ◌^◌, ◌∷◌, [], List, Bool, true, false, ◌||◌, ◌&&◌, not, None, Some, length, take, drop, get_or, sym, ap, subst, ◌∙◌, ⊎_elim, arith, lit<, nat_eq, nat_lt, nat_le, length-drop}
+-- Each name that a journal gives fits in a record.
+use Rattle.std.proofs.Common.{◌≡◌, ℕ, zero, suc, ◌+◌, ◌-◌, ◌<◌, ◌≤◌, ◌^◌, ◌∷◌, ◌++◌, [], List, Option, map, replicate, Bool, true, false, ◌||◌, ◌&&◌, not, None, Some, length, take, drop, get_or, sym, ap, subst, ◌∙◌, ⊎_elim, arith, lit<, nat_eq, nat_lt, nat_le, length-drop}
 use Rattle.std.specs.List.{All}
 use Rattle.std.specs.Cmp.Lexicographic.{bytes_decides}
 use Rattle.std.specs.Str.{bytes_eq}
 use Rattle.std.specs.Int.{w64, from_be_bytes}
 use Rattle.std.proofs.lemmas.Bool.{cases_Bool, cond-true, cond-false, and_parts, ltb-true, leb-true}
-use Rattle.std.proofs.lemmas.List.{length-take, length-take-le}
+use Rattle.std.proofs.lemmas.List.{length-take-le}
 use Rattle.std.proofs.lemmas.List.Elements.{All-drop, All-head, All-tail, All-take}
+use Rattle.blob_packed.specs.Numbers.{number_told}
+use Rattle.blob_packed.specs.Records.{Record, begins_record, first_length, first_number, first_record, found_from, scanned}
 use Rattle.blob_directory.specs.declared.profile.Keeps.{Keeps}
-use Rattle.blob_directory.specs.Checkpoints.{FitSectors}
+use Rattle.blob_directory.specs.Checkpoints.{FitRecords}
 use Rattle.blob_directory.specs.Names.{Change, Edit, Names, all_edited, changed, edited}
-use Rattle.blob_directory.specs.Profiles.{edits_of, found_in_all, is_prefix, kept_edits, names_told}
-use Rattle.blob_directory.specs.Sectors.{FitsSector, Found, binding_told, change_told, edit_bytes, edit_told, found_in, has_change, inode_told, more_told, number_told}
-use Rattle.blob_directory.proofs.Sectors.{length-change_bytes, one_bytes}
+use Rattle.blob_directory.specs.Profiles.{edits_of, is_prefix, kept_edits, names_told}
+use Rattle.blob_directory.specs.Records.{FitsRecord, Found, binding_told, change_told, edit_bytes, edit_found, edit_told, found_in, has_change, has_edit, inode_told, more_told}
+use Rattle.blob_directory.proofs.Records.{length-change_bytes, one_bytes}
 
 abbrev Small : List ℕ → Type 0
 Small bytes = All (λ b. b < 256) bytes
@@ -49,7 +51,7 @@ binding_small kind inode h = ⊎_elim
 tests : (n m : ℕ) → (nat_lt 0 n && nat_le (17 + n) m) ≡ true → (0 < n) × (17 + n ≤ m)
 tests n m e = let p = and_parts (nat_lt 0 n) (nat_le (17 + n) m) e in (ltb-true 0 n p.0, leb-true (17 + n) m p.1)
 
-change_fits : (bytes : List ℕ) → Small bytes → length bytes ≤ 1023 → has_change bytes ≡ true → FitsSector (change_told bytes ∷ [])
+change_fits : (bytes : List ℕ) → Small bytes → length bytes ≤ 1024 → has_change bytes ≡ true → FitsRecord (change_told bytes ∷ [])
 unfolding change_told
 change_fits bytes all short has =
     let n = number_told bytes in
@@ -60,16 +62,16 @@ change_fits bytes all short has =
     let whole : length (edit_bytes (change_told bytes ∷ [])) ≡ 17 + length entry = ap length (one_bytes (change_told bytes)) ∙ length-change_bytes (change_told bytes) in (
       record {
         named = omega (arith, size.0, long);
-        short = omega (arith, size.1, long, lit< {m = 1023} {n = 2 ^ 64} tt);
+        short = omega (arith, size.1, long, lit< {m = 1024} {n = 2 ^ 64} tt);
         inode = binding_small (get_or bytes 8 0) (number_told (drop 9 bytes)) (number_small (drop 9 bytes) (All-drop (λ b. b < 256) 9 bytes all));
       },
       omega (arith, size.1, long, whole),
     )
 
--- each change of an edit fits in a sector of its own
+-- each change of an edit fits in a record of its own
 abbrev FitEdit : Edit → Type 0
 FitEdit [] = Unit {0}
-FitEdit (c ∷ edit) = FitsSector (c ∷ []) × FitEdit edit
+FitEdit (c ∷ edit) = FitsRecord (c ∷ []) × FitEdit edit
 
 abbrev FitEdits : List Edit → Type 0
 FitEdits [] = Unit {0}
@@ -83,35 +85,54 @@ abbrev FitFounds : List Found → Type 0
 FitFounds [] = Unit {0}
 FitFounds (f ∷ found) = FitFound f × FitFounds found
 
-more_fits : (bytes : List ℕ) → Small bytes → length bytes ≤ 1023 → FitEdit (more_told bytes)
+more_fits : (bytes : List ℕ) → Small bytes → length bytes ≤ 1024 → FitEdit (more_told bytes)
 more_fits bytes all short = ⊎_elim
     (λ y. subst FitEdit (sym (cond-true (has_change bytes) (change_told bytes ∷ []) [] y)) (change_fits bytes all short y, tt))
     (λ n. subst FitEdit (sym (cond-false (has_change bytes) (change_told bytes ∷ []) [] n)) tt)
     (cases_Bool (has_change bytes))
 
-edit_fits : (bytes : List ℕ) → Small bytes → length bytes ≤ 1023 → has_change bytes ≡ true → FitEdit (edit_told bytes)
+edit_fits : (bytes : List ℕ) → Small bytes → length bytes ≤ 1024 → has_change bytes ≡ true → FitEdit (edit_told bytes)
 unfolding edit_told
 edit_fits bytes all short has =
     let k = 17 + number_told bytes in
-    let less : length (drop k bytes) ≤ 1023 = omega (arith, length-drop k bytes) in
+    let less : length (drop k bytes) ≤ 1024 = omega (arith, length-drop k bytes) in
     (change_fits bytes all short has, more_fits (drop k bytes) (All-drop (λ b. b < 256) k bytes all) less)
 
-sector_fits : (sector : List ℕ) → Small sector → length sector ≤ 1024 → FitFound (found_in sector)
-unfolding found_in
-sector_fits [] all short = tt
-sector_fits (mark ∷ bytes) all short =
-    let small : Small bytes = All-tail (λ b. b < 256) mark bytes all in
-    let less : length bytes ≤ 1023 = omega arith in
-    ⊎_elim
-    (λ y. subst FitFound (sym (cond-true (has_change bytes) (Some (edit_told bytes, nat_eq mark 2)) None y)) (edit_fits bytes small less y))
-    (λ n. subst FitFound (sym (cond-false (has_change bytes) (Some (edit_told bytes, nat_eq mark 2)) None n)) tt)
-    (cases_Bool (has_change bytes))
+edit_tests : (n : ℕ) (b : Bool) → (nat_le n 1024 && b) ≡ true → (n ≤ 1024) × (b ≡ true)
+edit_tests n b e = let p = and_parts (nat_le n 1024) b e in (leb-true n 1024 p.0, p.1)
 
-sectors_fit : (n : ℕ) (bytes : List ℕ) → Small bytes → FitFounds (found_in_all n bytes)
-sectors_fit zero bytes all = tt
-sectors_fit (suc n) bytes all =
-    let less : length (take 1024 bytes) ≤ 1024 = omega (arith, length-take 1024 bytes) in
-    (sector_fits (take 1024 bytes) (All-take (λ b. b < 256) 1024 bytes all) less, sectors_fit n (drop 1024 bytes) (All-drop (λ b. b < 256) 1024 bytes all))
+record_fits : (bytes : List ℕ) (settled : Bool) → Small bytes → FitFound (edit_found (Some (bytes, settled)))
+record_fits bytes settled all = ⊎_elim
+    (λ y.
+    let has = edit_tests (length bytes) (has_change bytes) y in
+    subst FitFound (sym (cond-true (has_edit bytes) (Some (edit_told bytes, settled)) None y)) (edit_fits bytes all has.0 has.1))
+    (λ n. subst FitFound (sym (cond-false (has_edit bytes) (Some (edit_told bytes, settled)) None n)) tt)
+    (cases_Bool (has_edit bytes))
+
+passed_fit : (k : ℕ) (records : List (Option Record)) → FitFounds (map edit_found records) → FitFounds (map edit_found (replicate k None ++ records))
+passed_fit zero records h = h
+passed_fit (suc k) records h = (tt, passed_fit k records h)
+
+scanned_fit : (fuel next : ℕ) (bytes : List ℕ) → Small bytes → FitFounds (map edit_found (scanned fuel next bytes))
+scanned_fit zero next bytes all = tt
+scanned_fit (suc fuel) next bytes all =
+    let size = first_length bytes in
+    let number = first_number bytes in
+    let more : List (Option Record) = scanned fuel (suc number) (drop (17 + size) bytes) in
+    let here : List (Option Record) = replicate (number - next) None ++ (Some (first_record bytes) ∷ more) in
+    let behind : List (Option Record) = scanned fuel next (drop 1 bytes) in
+    let record_small : Small (first_record bytes).0 = All-take (λ b. b < 256) size (drop 17 bytes) (All-drop (λ b. b < 256) 17 bytes all) in
+    let rest : FitFounds (map edit_found more) = scanned_fit fuel (suc number) (drop (17 + size) bytes) (All-drop (λ b. b < 256) (17 + size) bytes all) in
+    ⊎_elim
+    (λ y. subst (λ l. FitFounds (map edit_found l)) (sym (cond-true (begins_record next bytes) here behind y))
+    (passed_fit (number - next) (Some (first_record bytes) ∷ more) (record_fits (first_record bytes).0 (first_record bytes).1 record_small, rest)))
+    (λ n. subst (λ l. FitFounds (map edit_found l)) (sym (cond-false (begins_record next bytes) here behind n))
+    (scanned_fit fuel next (drop 1 bytes) (All-drop (λ b. b < 256) 1 bytes all)))
+    (cases_Bool (begins_record next bytes))
+
+records_fit : (bytes : List ℕ) → Small bytes → FitFounds (found_in bytes)
+unfolding found_from
+records_fit bytes all = scanned_fit (length bytes) 0 bytes all
 
 kept_fit : (keeps : Keeps) (lost : Bool) (found : List Found) → FitFounds found → FitEdits (kept_edits keeps lost found)
 kept_fit keeps lost [] h = tt
@@ -121,25 +142,25 @@ kept_fit keeps lost (Some (edit, settled) ∷ found) h = ⊎_elim
     (λ n. subst FitEdits (sym (cond-false (settled || not lost) (edit ∷ kept_edits keeps lost found) (kept_edits keeps lost found) n)) (kept_fit keeps lost found h.1))
     (cases_Bool (settled || not lost))
 
-changed_fits : (a : Names) (c : Change) → FitSectors a → FitsSector (c ∷ []) → FitSectors (changed a c)
+changed_fits : (a : Names) (c : Change) → FitRecords a → FitsRecord (c ∷ []) → FitRecords (changed a c)
 changed_fits a c before fits e to h = ⊎_elim
     (λ y.
     let key : c.0 ≡ e = (bytes_decides c.0 e).0 y in
     let value : c.1 ≡ Some to = sym (cond-true (bytes_eq c.0 e) c.1 (a e) y) ∙ h in
-    subst (λ k. FitsSector ((k, Some to) ∷ [])) key (subst (λ v. FitsSector ((c.0, v) ∷ [])) value fits))
+    subst (λ k. FitsRecord ((k, Some to) ∷ [])) key (subst (λ v. FitsRecord ((c.0, v) ∷ [])) value fits))
     (λ n. before e to (sym (cond-false (bytes_eq c.0 e) c.1 (a e) n) ∙ h))
     (cases_Bool (bytes_eq c.0 e))
 
-edited_fits : (a : Names) (edit : Edit) → FitSectors a → FitEdit edit → FitSectors (edited a edit)
+edited_fits : (a : Names) (edit : Edit) → FitRecords a → FitEdit edit → FitRecords (edited a edit)
 edited_fits a [] before fits = before
 edited_fits a (c ∷ edit) before fits = edited_fits (changed a c) edit (changed_fits a c before fits.0) fits.1
 
-all_fit : (a : Names) (edits : List Edit) → FitSectors a → FitEdits edits → FitSectors (all_edited a edits)
+all_fit : (a : Names) (edits : List Edit) → FitRecords a → FitEdits edits → FitRecords (all_edited a edits)
 all_fit a [] before fits = before
 all_fit a (edit ∷ edits) before fits = all_fit (edited a edit) edits (edited_fits a edit before fits.0) fits.1
 
--- each name that a journal gives fits in a sector
-pub told_fits : (keeps : Keeps) (journal : List ℕ) → All (λ b. b < 256) journal → FitSectors (names_told keeps journal)
+-- each name that a journal gives fits in a record
+pub told_fits : (keeps : Keeps) (journal : List ℕ) → All (λ b. b < 256) journal → FitRecords (names_told keeps journal)
 told_fits keeps journal all =
     all_fit (λ _. None) (edits_of keeps journal) (λ e to h. absurd (let none : None ≡ Some to = h in cc))
-    (kept_fit keeps false (found_in_all (length journal / 1024) journal) (sectors_fit (length journal / 1024) journal all))
+    (kept_fit keeps false (found_in journal) (records_fit journal all))

@@ -1,11 +1,13 @@
--- The names of a journal, sector by sector.
-use Rattle.std.proofs.Common.{◌≡◌, ℕ, suc, List, [], ◌∷◌, ◌++◌, take, drop, Bool, true, false, not, ◌||◌, ◌&&◌, Some, None, refl, sym, ap, ap₂, ◌∙◌, append_assoc, if◌then◌else◌}
+-- The names of a journal, record by record.
+use Rattle.std.proofs.Common.{◌≡◌, ℕ, zero, suc, ◌+◌, ◌-◌, ◌≤◌, List, [], ◌∷◌, ◌++◌, length, map, replicate, Bool, true, false, not, ◌||◌, ◌&&◌, Option, Some, None, refl, sym, ap, ap₂, ◌∙◌, append_assoc, arith, length-append, if◌then◌else◌}
 use Rattle.std.specs.Str.{bytes_eq}
+use Rattle.std.proofs.lemmas.List.{length-replicate}
+use Rattle.blob_packed.specs.Records.{Record, found_from}
 use Rattle.blob_directory.specs.declared.profile.Keeps.{Keeps}
 use Rattle.blob_directory.specs.declared.profile.Keeps.TheVariants.{Any, Prefix}
 use Rattle.blob_directory.specs.Names.{Change, Edit, Names, Same, all_edited, changed, edited}
-use Rattle.blob_directory.specs.Profiles.{all_counts, counts, found_in_all, is_prefix, kept_edits, with_found}
-use Rattle.blob_directory.specs.Sectors.{Found, found_in}
+use Rattle.blob_directory.specs.Profiles.{all_counts, counts, is_prefix, kept_edits, lost_behind, with_found}
+use Rattle.blob_directory.specs.Records.{Found, edit_found, edits_from}
 
 same_changed : (a b : Names) (c : Change) → Same a b → Same (changed a c) (changed b c)
 same_changed a b c h = λ e. ap (λ x. if bytes_eq c.0 e then c.1 else x) (h e)
@@ -47,33 +49,84 @@ flag_one Prefix false (Some (edit, true)) found = refl
 flag_one Prefix true (Some (edit, false)) found = refl
 flag_one Prefix false (Some (edit, false)) found = refl
 
--- the flag of one more sector
-pub one_flag : (keeps : Keeps) (lost lost' kept : Bool) (flags flags' : List Bool) (n m : ℕ) (left sector behind : List ℕ) (all : List Bool)
-    → n ≡ suc m → sector ≡ take 1024 left → behind ≡ drop 1024 left
-    → kept ≡ counts lost (found_in sector) → lost' ≡ (lost || (is_prefix keeps && not (counts lost (found_in sector)))) → flags' ≡ flags ++ kept ∷ []
-    → flags ++ all_counts keeps lost (found_in_all n left) ≡ all
-    → flags' ++ all_counts keeps lost' (found_in_all m behind) ≡ all
-one_flag keeps lost lost' kept flags flags' n m left sector behind all en es eb ek el ef before =
-    ap (λ l. l ++ all_counts keeps lost' (found_in_all m behind)) ef
-    ∙ append_assoc flags (kept ∷ []) (all_counts keeps lost' (found_in_all m behind))
-    ∙ ap₂ (λ k l. flags ++ k ∷ all_counts keeps l (found_in_all m behind)) ek el
-    ∙ ap (λ l. flags ++ l) (flag_one keeps lost (found_in sector) (found_in_all m behind))
-    ∙ ap₂ (λ s b. flags ++ all_counts keeps lost (found_in s ∷ found_in_all m b)) es eb
-    ∙ ap (λ k. flags ++ all_counts keeps lost (found_in_all k left)) (sym en)
+-- Records that are passed over.
+
+lost_more : (keeps : Keeps) (lost : Bool) (k : ℕ) → lost_behind keeps (lost || is_prefix keeps) k ≡ (lost || is_prefix keeps)
+lost_more keeps lost zero = refl
+lost_more Any true (suc k) = refl
+lost_more Any false (suc k) = refl
+lost_more Prefix true (suc k) = refl
+lost_more Prefix false (suc k) = refl
+
+flags_behind : (keeps : Keeps) (lost : Bool) (k : ℕ) (found : List Found)
+    → replicate k false ++ all_counts keeps (lost_behind keeps lost k) found ≡ all_counts keeps lost (replicate k None ++ found)
+flags_behind keeps lost zero found = refl
+flags_behind keeps lost (suc k) found =
+    ap (λ (l : Bool). false ∷ (replicate k false ++ all_counts keeps l found)) (sym (lost_more keeps lost k))
+    ∙ ap (λ l. false ∷ l) (flags_behind keeps (lost || is_prefix keeps) k found)
+
+kept_behind : (keeps : Keeps) (lost : Bool) (k : ℕ) (found : List Found)
+    → kept_edits keeps (lost_behind keeps lost k) found ≡ kept_edits keeps lost (replicate k None ++ found)
+kept_behind keeps lost zero found = refl
+kept_behind keeps lost (suc k) found =
+    ap (λ (l : Bool). kept_edits keeps l found) (sym (lost_more keeps lost k)) ∙ kept_behind keeps (lost || is_prefix keeps) k found
+
+edits_behind : (k : ℕ) (found : List (Option Record)) → map edit_found (replicate k None ++ found) ≡ replicate k None ++ map edit_found found
+edits_behind zero found = refl
+edits_behind (suc k) found = ap (λ l. None ∷ l) (edits_behind k found)
+
+-- the edits of bytes, from those of the first record on
+edits_next : (next number : ℕ) (left behind : List ℕ) (r : Record)
+    → found_from next left ≡ replicate (number - next) None ++ (Some r ∷ found_from (number + 1) behind)
+    → edits_from next left ≡ replicate (number - next) None ++ (edit_found (Some r) ∷ edits_from (number + 1) behind)
+edits_next next number left behind r is = ap (map edit_found) is ∙ edits_behind (number - next) (Some r ∷ found_from (number + 1) behind)
+
+-- how many flags there are then
+pub flags_long : (flags between flags' : List Bool) (kept : Bool) (number : ℕ) → length flags ≤ number
+    → between ≡ flags ++ replicate (number - length flags) false → flags' ≡ between ++ kept ∷ [] → length flags' ≡ number + 1
+flags_long flags between flags' kept number low eb ef =
+    let some : length between ≡ length flags + (number - length flags) =
+    ap length eb ∙ length-append flags (replicate (number - length flags) false) ∙ ap (λ n. length flags + n) (length-replicate (number - length flags) false) in
+    let all : length flags' ≡ length between + 1 = ap length ef ∙ length-append between (kept ∷ []) in
+    omega (arith, low, some, all)
+
+-- the flag of one more record
+pub one_flag : (keeps : Keeps) (lost passed lost' kept : Bool) (flags between flags' : List Bool) (next number : ℕ) (left behind : List ℕ) (r : Record) (all : List Bool)
+    → found_from next left ≡ replicate (number - next) None ++ (Some r ∷ found_from (number + 1) behind)
+    → between ≡ flags ++ replicate (number - next) false → passed ≡ lost_behind keeps lost (number - next)
+    → kept ≡ counts passed (edit_found (Some r)) → lost' ≡ (passed || (is_prefix keeps && not (counts passed (edit_found (Some r))))) → flags' ≡ between ++ kept ∷ []
+    → flags ++ all_counts keeps lost (edits_from next left) ≡ all
+    → flags' ++ all_counts keeps lost' (edits_from (number + 1) behind) ≡ all
+one_flag keeps lost passed lost' kept flags between flags' next number left behind r all step eb ep ek el ef before =
+    let k = number - next in
+    let more : List Found = edits_from (number + 1) behind in
+    let f : Found = edit_found (Some r) in
+    ap (λ l. l ++ all_counts keeps lost' more) ef
+    ∙ append_assoc between (kept ∷ []) (all_counts keeps lost' more)
+    ∙ ap₂ (λ k l. between ++ k ∷ all_counts keeps l more) ek el
+    ∙ ap (λ l. between ++ l) (flag_one keeps passed f more)
+    ∙ ap₂ (λ b p. b ++ all_counts keeps p (f ∷ more)) eb ep
+    ∙ append_assoc flags (replicate k false) (all_counts keeps (lost_behind keeps lost k) (f ∷ more))
+    ∙ ap (λ l. flags ++ l) (flags_behind keeps lost k (f ∷ more))
+    ∙ ap (λ l. flags ++ all_counts keeps lost l) (sym (edits_next next number left behind r step))
     ∙ before
 
--- one more sector
-pub one_sector : (keeps : Keeps) (lost lost' : Bool) (names names' : Names) (n m : ℕ) (left sector behind : List ℕ) (told : Names)
-    → n ≡ suc m → sector ≡ take 1024 left → behind ≡ drop 1024 left
-    → Same names' (with_found names lost (found_in sector)) → lost' ≡ (lost || (is_prefix keeps && not (counts lost (found_in sector))))
-    → Same (all_edited names (kept_edits keeps lost (found_in_all n left))) told
-    → Same (all_edited names' (kept_edits keeps lost' (found_in_all m behind))) told
-one_sector keeps lost lost' names names' n m left sector behind told en es eb same el before =
+-- the names after one more record
+pub one_record : (keeps : Keeps) (lost passed lost' : Bool) (names names' : Names) (next number : ℕ) (left behind : List ℕ) (r : Record) (told : Names)
+    → found_from next left ≡ replicate (number - next) None ++ (Some r ∷ found_from (number + 1) behind)
+    → passed ≡ lost_behind keeps lost (number - next)
+    → Same names' (with_found names passed (edit_found (Some r))) → lost' ≡ (passed || (is_prefix keeps && not (counts passed (edit_found (Some r)))))
+    → Same (all_edited names (kept_edits keeps lost (edits_from next left))) told
+    → Same (all_edited names' (kept_edits keeps lost' (edits_from (number + 1) behind))) told
+one_record keeps lost passed lost' names names' next number left behind r told step ep same el before =
+    let k = number - next in
+    let more : List Found = edits_from (number + 1) behind in
+    let f : Found = edit_found (Some r) in
     λ e.
-    ap (λ l. all_edited names' (kept_edits keeps l (found_in_all m behind)) e) el
-    ∙ same_all names' (with_found names lost (found_in sector)) (kept_edits keeps (lost || (is_prefix keeps && not (counts lost (found_in sector)))) (found_in_all m behind)) same e
-    ∙ ap (λ x. x e) (apply_one keeps lost names (found_in sector) (found_in_all m behind))
-    ∙ ap (λ l. all_edited names (kept_edits keeps lost (found_in l ∷ found_in_all m behind)) e) es
-    ∙ ap (λ l. all_edited names (kept_edits keeps lost (found_in (take 1024 left) ∷ found_in_all m l)) e) eb
-    ∙ ap (λ k. all_edited names (kept_edits keeps lost (found_in_all k left)) e) (sym en)
+    ap (λ l. all_edited names' (kept_edits keeps l more) e) el
+    ∙ same_all names' (with_found names passed f) (kept_edits keeps (passed || (is_prefix keeps && not (counts passed f))) more) same e
+    ∙ ap (λ x. x e) (apply_one keeps passed names f more)
+    ∙ ap (λ p. all_edited names (kept_edits keeps p (f ∷ more)) e) ep
+    ∙ ap (λ l. all_edited names l e) (kept_behind keeps lost k (f ∷ more))
+    ∙ ap (λ l. all_edited names (kept_edits keeps lost l) e) (sym (edits_next next number left behind r step))
     ∙ before e

@@ -6,7 +6,7 @@ pub mod Links
 pub mod Ranges
 pub mod Maps
 pub mod Paths
-pub mod Sectors
+pub mod Records
 pub mod Settled
 pub mod Walks
 pub mod Syncs

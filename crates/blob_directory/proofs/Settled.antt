@@ -1,11 +1,11 @@
 -- A settled edit counts, and later edits of other entries don't change what it made of its own.
-use Rattle.std.proofs.Common.{◌≡◌, ◌/◌, ℕ, length, Bool, true, false, ◌||◌, not, List, [], ◌∷◌, ◌++◌, Some, None, refl, sym, ap, ◌∙◌, ⊎_elim}
+use Rattle.std.proofs.Common.{◌≡◌, ℕ, Bool, true, false, ◌||◌, not, List, [], ◌∷◌, ◌++◌, Some, None, refl, sym, ap, ◌∙◌, ⊎_elim}
 use Rattle.std.specs.Str.{bytes_eq}
 use Rattle.std.proofs.lemmas.Bool.{cases_Bool, cond-false, cond-true, or_cases, or_parts, both_ways}
 use Rattle.blob_directory.specs.declared.profile.Keeps.{Keeps}
 use Rattle.blob_directory.specs.Names.{Edit, Names, all_edited, changed, edited}
-use Rattle.blob_directory.specs.Profiles.{found_in_all, is_prefix, kept_edits}
-use Rattle.blob_directory.specs.Sectors.{Found}
+use Rattle.blob_directory.specs.Profiles.{is_prefix, kept_edits}
+use Rattle.blob_directory.specs.Records.{Found, found_in}
 use Rattle.blob_directory.specs.Settled.{IsBeside, SettledIsFound, changes_entry}
 
 -- the edits that count, in two parts
@@ -76,4 +76,4 @@ settled_counts keeps found before after edit e is changes beside =
     ∙ edit_here (all_edited none front) none edit e changes
 
 pub settled_is_found : SettledIsFound
-settled_is_found keeps journal edit e last = settled_counts keeps (found_in_all (length journal / 1024) journal) last.before last.after edit e last.sectors last.changes last.beside
+settled_is_found keeps journal edit e last = settled_counts keeps (found_in journal) last.before last.after edit e last.found last.changes last.beside

@@ -3,7 +3,7 @@ pub mod Tables
 pub mod Trees
 pub mod Counts
 pub mod Checkpoints
-pub mod Sectors
+pub mod Records
 pub mod Profiles
 pub mod Syncs
 pub mod Wanted

@@ -1,10 +1,10 @@
 -- A name that a settled edit changes, and no later one.
-use Rattle.std.specs.Prelude.{◌≡◌, ℕ, ◌/◌, Bool, true, false, ◌||◌, List, [], ◌∷◌, ◌++◌, length, Some, None}
+use Rattle.std.specs.Prelude.{◌≡◌, ℕ, Bool, true, false, ◌||◌, List, [], ◌∷◌, ◌++◌, Some, None}
 use Rattle.std.specs.Str.{bytes_eq}
 use Rattle.blob_directory.specs.declared.profile.Keeps.{Keeps}
 use Rattle.blob_directory.specs.Names.{Edit, edited}
-use Rattle.blob_directory.specs.Profiles.{found_in_all, names_told}
-use Rattle.blob_directory.specs.Sectors.{Found}
+use Rattle.blob_directory.specs.Profiles.{names_told}
+use Rattle.blob_directory.specs.Records.{Found, found_in}
 
 -- some change of the edit is of this entry
 abbrev pub changes_entry : List ℕ → Edit → Bool
@@ -17,11 +17,11 @@ IsBeside e [] = Unit {0}
 IsBeside e (None ∷ found) = IsBeside e found
 IsBeside e (Some (edit, settled) ∷ found) = (changes_entry e edit ≡ false) × IsBeside e found
 
--- a sector of the journal has this edit, settled; it changes the entry, and no later edit does
+-- a record of the journal has this edit, settled; it changes the entry, and no later edit does
 pub record IsLastSettled (journal : List ℕ) (edit : Edit) (e : List ℕ) : Type 0 where
   pub before : List Found
   pub after : List Found
-  pub sectors : found_in_all (length journal / 1024) journal ≡ before ++ Some (edit, true) ∷ after
+  pub found : found_in journal ≡ before ++ Some (edit, true) ∷ after
   pub changes : changes_entry e edit ≡ true
   pub beside : IsBeside e after
 

@@ -1,9 +1,9 @@
 //! Edits of names.
 ghost use Rattle.std.specs.Prelude.{◌≡◌, ◌≤◌, true, [], ◌∷◌, length, IfOk, IfSome};
 ghost use Rattle.blob_directory.specs.Names.{change_of, edit_of, entry, exchanges, moves, resizes};
-ghost use Rattle.blob_directory.specs.Sectors.{Fits, FitsSector, change_bytes};
+ghost use Rattle.blob_directory.specs.Records.{Fits, FitsRecord, change_bytes};
 
-use crate::sector::{SECTOR, inode_told};
+use crate::record::inode_told;
 use std::alloc::{AllocError, Global};
 
 /// What a number is that a name is bound to.
@@ -36,21 +36,21 @@ pub struct Edit {
     pub second: Option<Change>,
 }
 
-/// How many bytes of a sector the changes may take: all but the first, which says whether the edit is settled.
-const CAPACITY: usize = SECTOR - 1;
+/// How many bytes the changes of an edit may take.
+pub(crate) const LONGEST: usize = 1024;
 
 /// How many bytes a change takes without its entry: those of the entry's length, the kind and the inode.
 const OVERHEAD: usize = 17;
 
 impl Change {
-    /// Returns how many bytes of a sector the change takes. `None` if its entry is empty or too long for a sector.
+    /// Returns how many bytes of a record the change takes. `None` if its entry is empty or too long.
     fn size(&self) -> Option<usize>
         ensures fits { IfSome result (λ _. Fits (change_of self.now)) }
         ensures size { IfSome result (λ size. size ≡ length (change_bytes (change_of self.now))) }
-        ensures short { IfSome result (λ size. size ≤ 1023) }
+        ensures short { IfSome result (λ size. size ≤ 1024) }
     {
         let entry = self.entry.len();
-        if entry == 0 || entry > CAPACITY - OVERHEAD {
+        if entry == 0 || entry > LONGEST - OVERHEAD {
             return None;
         }
         // as a number of 64 bits, which the proof has to know
@@ -110,9 +110,9 @@ impl Edit {
         Edit::two(first, second)
     }
 
-    /// Returns whether the edit fits in a sector, and no entry of it is empty.
+    /// Returns whether the edit fits in a record, and no entry of it is empty.
     pub fn fits(&self) -> bool
-        ensures { result ≡ true → FitsSector (edit_of self.now) }
+        ensures { result ≡ true → FitsRecord (edit_of self.now) }
     {
         let Some(first) = self.first.size() else {
             return false;
@@ -123,7 +123,7 @@ impl Edit {
         let Some(second) = second.size() else {
             return false;
         };
-        first + second <= CAPACITY
+        first + second <= LONGEST
     }
 }
 

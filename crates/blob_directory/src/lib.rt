@@ -1,4 +1,4 @@
-//! Names, edits of names, and their journal's sectors: what a file system decides without a store.
+//! Names, edits of names, and their journal's records: what a file system decides without a store.
 #![tactic(auto)]
 
 pub mod checkpoint;
@@ -6,7 +6,7 @@ pub mod edit;
 pub mod laws;
 pub mod path;
 pub mod profile;
-pub mod sector;
+pub mod record;
 pub mod table;
 pub mod tree;
 pub mod unsettled;

@@ -1,17 +1,18 @@
-//! The names that a crash leaves, from the sectors of a journal.
-ghost use Rattle.std.specs.Prelude.{◌≡◌, ◌&&◌, ◌||◌, ℕ, false, nat_eq, not, None, IfOk, OnOk};
-ghost use Rattle.blob_directory.specs.Checkpoints.{FitSectors};
+//! The names that a crash leaves, from the records of a journal.
+ghost use Rattle.std.specs.Prelude.{◌≡◌, ◌&&◌, ◌||◌, ◌-◌, ◌++◌, ℕ, false, length, nat_eq, not, replicate, None, IfOk, OnOk};
+ghost use Rattle.blob_directory.specs.Checkpoints.{FitRecords};
 ghost use Rattle.blob_directory.specs.Counts.{CountsNames, count_then, link_count};
 ghost use Rattle.blob_directory.specs.Names.{Names, Same, entry};
-ghost use Rattle.blob_directory.specs.Profiles.{counts, counts_in, is_prefix, names_told, with_found};
-ghost use Rattle.blob_directory.specs.Sectors.{found_in};
+ghost use Rattle.blob_directory.specs.Profiles.{counts, counts_in, is_prefix, lost_behind, names_told, with_found};
+ghost use Rattle.blob_directory.specs.Records.{found_by};
 ghost use Rattle.blob_directory.specs.Tables.{bound};
 ghost use Rattle.blob_directory.specs.Trees.{Finds, HasLinks, HasNamedLinks, HasPlaces, added, has_directory, has_then, is_directory, links_then, has_link};
 
 use crate::edit::{Binding, Kind};
 use crate::profile::Keeps;
-use crate::sector::{SECTOR, decode};
+use crate::record::decode;
 use crate::table::Table;
+use blob_packed::record::{Record, next_record};
 use std::alloc::{AllocError, Global};
 use std::collections::BTreeMap;
 
@@ -73,23 +74,28 @@ impl Tree {
     }
 }
 
-/// Applies the edit of a sector, if the sector has one and the edit is settled or none before it was lost. Returns whether it
-/// did. Fails only if memory runs out.
-fn keep(alloc: Global, names: &mut Table, sector: &[u8], is_lost: bool) -> Result<bool, AllocError>
-    ensures kept { IfOk result (λ kept. kept ≡ counts is_lost (found_in sector.now)) }
-    ensures names { OnOk result (Same (bound names.new) (with_found (bound names.old) is_lost (found_in sector.now))) }
+/// Applies the edit of a record, if the record has one and the edit is settled or none before it was lost. Returns
+/// whether it did. Fails only if memory runs out.
+fn keep(
+    alloc: Global,
+    names: &mut Table,
+    found: Record<'_>,
+    is_lost: bool,
+) -> Result<bool, AllocError>
+    ensures kept { IfOk result (λ kept. kept ≡ counts is_lost (found_by found.entry)) }
+    ensures names { OnOk result (Same (bound names.new) (with_found (bound names.old) is_lost (found_by found.entry))) }
 {
-    let Some(found) = decode(alloc, sector)? else {
+    let Some(edit) = decode(alloc, found.bytes)? else {
         return Ok(false);
     };
     if !found.is_settled && is_lost {
         return Ok(false);
     }
-    names.make(&found.edit)?;
+    names.make(&edit)?;
     Ok(true)
 }
 
-/// Returns whether an unsettled edit of the next sector is lost.
+/// Returns whether an unsettled edit of the next record is lost.
 fn is_next_lost(keeps: Keeps, is_lost: bool, is_kept: bool) -> bool
     ensures { result ≡ (is_lost || (is_prefix keeps && not is_kept)) }
 {
@@ -99,8 +105,26 @@ fn is_next_lost(keeps: Keeps, is_lost: bool, is_kept: bool) -> bool
     }
 }
 
+/// Notes that the records up to a number are lost, if they weren't noted. Returns whether an unsettled edit of the next
+/// record is lost. Fails only if memory runs out.
+fn pass_over(
+    kept: &mut Vec<bool>,
+    number: usize,
+    keeps: Keeps,
+    is_lost: bool,
+) -> Result<bool, AllocError>
+    ensures kept { OnOk result (kept.new.items ≡ kept.old.items ++ replicate (number - length kept.old.items) false) }
+    ensures lost { IfOk result (λ lost. lost ≡ lost_behind keeps is_lost (number - length kept.old.items)) }
+{
+    if number <= kept.len() {
+        return Ok(is_lost);
+    }
+    kept.resize(number, false)?;
+    Ok(is_next_lost(keeps, is_lost, false))
+}
+
 /// Applies the edits of a journal that a crash kept, in order. Where only those up to some point are kept, an unsettled
-/// edit behind a lost one isn't. Returns the names, and of each sector whether its edit was kept. Fails only if memory
+/// edit behind a lost one isn't. Returns the names, and of each record whether its edit was kept. Fails only if memory
 /// runs out.
 pub fn kept_names(
     alloc: Global,
@@ -109,18 +133,18 @@ pub fn kept_names(
 ) -> Result<(Table, Vec<bool>), AllocError>
     ensures names { IfOk result (λ r. Same (bound r.0) (names_told keeps bytes.now)) }
     ensures kept { IfOk result (λ r. r.1.items ≡ counts_in keeps bytes.now) }
-    ensures sectors { IfOk result (λ r. FitSectors (bound r.0)) }
+    ensures fit { IfOk result (λ r. FitRecords (bound r.0)) }
 {
     let mut names = Table::new(alloc);
     let mut kept = Vec::new(alloc);
     let mut is_lost = false;
     let mut left = bytes;
-    for i in 0..bytes.len() / SECTOR {
-        let (sector, behind) = left.split_at(SECTOR);
-        let is_kept = keep(alloc, &mut names, sector, is_lost)?;
+    while let Some(found) = next_record(left, kept.len() as u64) {
+        is_lost = pass_over(&mut kept, found.number as usize, keeps, is_lost)?;
+        let is_kept = keep(alloc, &mut names, found, is_lost)?;
         is_lost = is_next_lost(keeps, is_lost, is_kept);
         kept.push(is_kept)?;
-        left = behind;
+        left = found.rest;
     }
     Ok((names, kept))
 }

@@ -11,8 +11,10 @@ use std::alloc::{AllocError, Global};
 #[derive(Drop)]
 pub struct Unsettled {
     pub edit: Edit,
-    /// Its sector in the journal.
-    pub sector: u64,
+    /// The number of its record in the journal.
+    pub record: u64,
+    /// Where its record begins in the journal, in bytes.
+    pub offset: u64,
     /// Its number, counted from the start of the file system.
     pub number: u64,
     pub about: About,

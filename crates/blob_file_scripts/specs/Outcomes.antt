@@ -3,7 +3,7 @@ use Rattle.std.specs.Prelude.{ℕ, Bool, true, false, List, slice_index_or}
 use Rattle.blob_file_scripts.specs.declared.edit_text.EditOutcome.{EditOutcome}
 use Rattle.blob_file_scripts.specs.declared.edit_text.EditOutcome.TheVariants as outcomes
 
--- by whether the recovery applied it, and whether its sector was kept
+-- by whether the recovery applied it, and whether its record was kept
 abbrev pub edit_outcome : Bool → Bool → EditOutcome
 edit_outcome true kept = outcomes.Kept
 edit_outcome false true = outcomes.Discarded

@@ -4,7 +4,6 @@ use crate::edit_text::{edit_outcome, inode_truncated, outcome_words};
 use crate::path_text::read_path;
 use crate::paths::Paths;
 use blob_faulty::entry::Entry;
-use blob_fs::sector::SECTOR;
 use blob_fs::{Crash, FileSystem, FsError};
 use blob_lab::ScriptedRng;
 use std::alloc::{AllocError, Global};
@@ -15,8 +14,8 @@ use std::collections::BTreeMap;
 pub(crate) struct Issued {
     /// Its number, counted from the start.
     pub(crate) number: u64,
-    /// Its sector in the journal.
-    pub(crate) sector: u64,
+    /// Where its record begins in the journal.
+    pub(crate) offset: u64,
     /// The line of its call.
     pub(crate) line: u64,
     pub(crate) words: String,
@@ -134,15 +133,15 @@ impl Before {
     }
 }
 
-/// Returns of each sector of the journal for which a crash drew whether it was kept.
-fn kept_sectors(alloc: Global, crash: &Crash) -> Result<BTreeMap<u64, bool>, AllocError> {
-    let mut sectors = BTreeMap::new(alloc);
+/// Returns of each record of the journal for which a crash drew whether it was kept, by where it begins.
+fn kept_records(alloc: Global, crash: &Crash) -> Result<BTreeMap<u64, bool>, AllocError> {
+    let mut records = BTreeMap::new(alloc);
     for (place, (_, choices)) in crash.places.iter().zip(crash.rows.rows().iter()) {
         if place.inode.is_none() {
-            sectors.insert(place.offset / SECTOR as u64, choices.first() == Some(&true))?;
+            records.insert(place.offset, choices.first() == Some(&true))?;
         }
     }
-    Ok(sectors)
+    Ok(records)
 }
 
 /// Appends what a crash did with each edit that nothing had settled.
@@ -155,10 +154,10 @@ pub(crate) fn push_edits(
     if edits.is_empty() {
         return Ok(());
     }
-    let sectors = kept_sectors(alloc, crash)?;
+    let records = kept_records(alloc, crash)?;
     text.push_str("unsettled edits:\n")?;
     for (edit, is_applied) in edits.iter().zip(crash.edits.iter()) {
-        let is_kept = sectors.get(&edit.sector).copied().unwrap_or(false);
+        let is_kept = records.get(&edit.offset).copied().unwrap_or(false);
         let (line, words) = (edit.line, &edit.words);
         let outcome = outcome_words(edit_outcome(*is_applied, is_kept));
         writeln!(text, "  line {line}: {words}: {outcome}")?;

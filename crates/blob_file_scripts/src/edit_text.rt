@@ -15,11 +15,11 @@ use std::alloc::AllocError;
 pub enum EditOutcome {
     Kept,
     Lost,
-    /// Its sector was kept, but an edit before it was lost, and the profile keeps edits up to some point.
+    /// Its record was kept, but an edit before it was lost, and the profile keeps edits up to some point.
     Discarded,
 }
 
-/// Returns what a crash did with an edit, by whether its sector was kept, and whether the recovery applied it.
+/// Returns what a crash did with an edit, by whether its record was kept, and whether the recovery applied it.
 pub fn edit_outcome(is_applied: bool, is_kept: bool) -> EditOutcome
     ensures { result ≡ edit_outcome is_applied is_kept }
 {

@@ -105,7 +105,7 @@ fn print_runs(offset: u64, choices: &[bool], line: &mut String) -> Result<(), Al
     }
 }
 
-/// Appends what a crash kept of a write to a file. An edit's sector isn't told: its digit is.
+/// Appends what a crash kept of a write to a file. An edit's record isn't told: its digit is.
 fn print_row(place: &Place, choices: &[bool], line: &mut String) -> Result<(), AllocError> {
     let Some(inode) = place.inode else {
         return Ok(());

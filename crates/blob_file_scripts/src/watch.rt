@@ -195,7 +195,7 @@ impl Watch {
         self.paths.note(&last.edit)?;
         self.edits.push(Issued {
             number: last.number,
-            sector: last.sector,
+            offset: last.offset,
             line,
             words,
         })?;

@@ -4,7 +4,7 @@ use Rattle.std.specs.Prelude.{Err, IfOk, Ok, OnErr, OnOk, Result}
 use Rattle.blob_directory.specs.Names.{Edit, binds, directory_at, entry, exchanges, file, frees, moves, resizes}
 use Rattle.blob_directory.specs.declared.table.Table.{Table}
 use Rattle.blob_directory.specs.Tables.{bound}
-use Rattle.blob_directory.specs.Sectors.{Found}
+use Rattle.blob_directory.specs.Records.{Found}
 use Rattle.blob_journal.specs.Told.{Grows}
 use Rattle.blob_journal.proofs.Growing.{grows_added}
 use Rattle.blob_fs.specs.declared.file_system.Descriptor.{Descriptor}

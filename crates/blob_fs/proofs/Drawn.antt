@@ -50,8 +50,8 @@ module _ {R : Type 0} (stream : R → Stream) (fs : FileSystem R) (after : OverM
       → AllByRecursion (λ (row : ℕ × Vec Bool Global). is_some (get nat_cmp places row.0) ≡ true) (rows_of rows)
   rows_there are draws =
       ∥∥₁_elim fs.store.kept (AllByRecursion-prop (λ (row : ℕ × Vec Bool Global). is_some (get nat_cmp places row.0) ≡ true) (λ row. Coded-set coded_bool (is_some (get nat_cmp places row.0)) true) (rows_of rows))
-      (λ k. let s : IsFor (store_of (journaled_of fs)) k.sectors.found.files = k.sectors.found.stands in
-      numbers_each (λ n. is_some (get nat_cmp places n) ≡ true) (all_needs k.sectors.found.files.log) (rows_of rows) (numbered k.sectors.found.files s draws) (needed k.sectors.found.files s are))
+      (λ k. let s : IsFor (store_of (journaled_of fs)) k.has.found.files = k.has.found.stands in
+      numbers_each (λ n. is_some (get nat_cmp places n) ≡ true) (all_needs k.has.found.files.log) (rows_of rows) (numbered k.has.found.files s draws) (needed k.has.found.files s are))
 
   -- as many places as rows have room
   pub rows_fit : ArePlaces fs places → CrashDraws stream (store_of (journaled_of fs)) after rows → length (rows_of rows) ≤ length places.entries

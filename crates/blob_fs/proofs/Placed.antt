@@ -42,10 +42,10 @@ none_some e = cc
 
 -- a test holds, if it does by any of them
 pub kept_true : {R : Type 0} (fs : FileSystem R) (b : Bool) → ((files : Files) → IsFor (store_of (journaled_of fs)) files → b ≡ true) → b ≡ true
-kept_true fs b f = ∥∥₁_elim fs.store.kept (Coded-set coded_bool b true) (λ k. f k.sectors.found.files k.sectors.found.stands)
+kept_true fs b f = ∥∥₁_elim fs.store.kept (Coded-set coded_bool b true) (λ k. f k.has.found.files k.has.found.stands)
 
 kept_same : {R : Type 0} (fs : FileSystem R) (m n : ℕ) → ((files : Files) → IsFor (store_of (journaled_of fs)) files → m ≡ n) → m ≡ n
-kept_same fs m n f = ∥∥₁_elim fs.store.kept (Coded-set coded_ℕ m n) (λ k. f k.sectors.found.files k.sectors.found.stands)
+kept_same fs m n f = ∥∥₁_elim fs.store.kept (Coded-set coded_ℕ m n) (λ k. f k.has.found.files k.has.found.stands)
 
 pub needs_at : {R : Type 0} (store : OverMemory R) (files : Files) (o : Origin) → IsFor store files → waiting (pending_at store o) ≡ needs (log_of files.log o)
 needs_at store files o s = needs_here (durable (inner_of store) o) (pending_at store o) (files.base o) (log_of files.log o) (s.at o)

@@ -5,7 +5,7 @@ use Rattle.std.proofs.lemmas.Bool.{false≢true}
 use Rattle.blob_directory.specs.declared.edit.Binding.{Binding}
 use Rattle.blob_directory.specs.declared.table.Table.{Table}
 use Rattle.blob_directory.specs.Names.{Edit, Same, edited, exchanges, moves}
-use Rattle.blob_directory.specs.Sectors.{Found}
+use Rattle.blob_directory.specs.Records.{Found}
 use Rattle.blob_directory.specs.Tables.{bound}
 use Rattle.blob_fs.specs.declared.file_system.FileSystem.{FileSystem}
 use Rattle.blob_fs.specs.declared.renames.Rename.{Rename}

@@ -1,6 +1,6 @@
 -- Calls that settle edits and change no other thing about them.
 use Rattle.std.proofs.Common.{◌≡◌, List, ap, length, subst, sym}
-use Rattle.blob_directory.specs.Sectors.{Found}
+use Rattle.blob_directory.specs.Records.{Found}
 use Rattle.blob_journal.specs.Told.{OnlySettles}
 use Rattle.blob_fs.proofs.Growing.{grows_kept}
 

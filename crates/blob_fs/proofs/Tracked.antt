@@ -15,7 +15,7 @@ use Rattle.blob_directory.specs.declared.table.Table.{Table}
 use Rattle.blob_directory.specs.declared.tree.Tree.{Tree}
 use Rattle.blob_directory.specs.Counts.{NamedAtMost}
 use Rattle.blob_directory.specs.Names.{Edit, Names, edited, entry, file, resizes}
-use Rattle.blob_directory.specs.Sectors.{Found}
+use Rattle.blob_directory.specs.Records.{Found}
 use Rattle.blob_directory.specs.Settled.{AreSettled}
 use Rattle.blob_directory.specs.Tables.{bound}
 use Rattle.blob_directory.specs.Trees.{HasNamedLinks, has_link}

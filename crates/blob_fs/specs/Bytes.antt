@@ -86,7 +86,7 @@ pub record FindsFile {R : Type 0} (fs : FileSystem R) (kept : Kept) (lost : List
 abbrev pub kept_by : {R : Type 0} → FileSystem R → Crash → Kept
 kept_by fs crash = unwrap_or fs.kept (record { rows = crash.rows; places = crash.places })
 
--- of each edit that nothing had settled, whether its sector counts in the journal with those of its pending sectors that the crash kept
+-- of each edit that nothing had settled, whether its record counts in the journal with those of its pending records that the crash kept
 abbrev pub FindsEdits : {R : Type 0} → FileSystem R → Crash → Type 0
 FindsEdits fs crash = FindsKeptEdits (journaled_of fs) crash.rows (keeps_of fs) crash.edits.items
 

@@ -14,7 +14,7 @@ use Rattle.blob_directory.specs.declared.unsettled.Synced.TheVariants as synced
 use Rattle.blob_directory.specs.declared.profile.Keeps.{Keeps}
 use Rattle.blob_directory.specs.declared.table.Table.{Table}
 use Rattle.blob_directory.specs.Names.{Edit, Names, Same, edited, resizes}
-use Rattle.blob_directory.specs.Sectors.{Found}
+use Rattle.blob_directory.specs.Records.{Found}
 use Rattle.blob_directory.specs.Tables.{bound}
 use Rattle.blob_directory.specs.Trees.{Finds}
 use Rattle.blob_fs.specs.Named.{links_in}
@@ -76,7 +76,7 @@ keeps_of fs = fs.options.profile.keeps
 abbrev pub FindsNames : {R : Type 0} → FileSystem R → FileSystem R → Type 0
 FindsNames fs fs' = finds_names (journaled_of fs) (keeps_of fs) (names_of fs')
 
--- The same after a crash: the journal has those of its pending sectors that the crash kept.
+-- The same after a crash: the journal has those of its pending records that the crash kept.
 abbrev pub FindsKept : {R : Type 0} → FileSystem R → Selections → FileSystem R → Type 0
 FindsKept fs kept fs' = finds_kept (journaled_of fs) kept (keeps_of fs) (names_of fs')
 

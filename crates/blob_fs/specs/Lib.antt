@@ -13,7 +13,7 @@ pub mod Unreached
 pub mod Errors
 pub use Rattle.blob_directory.specs.Names
 pub use Rattle.blob_directory.specs.Profiles
-pub use Rattle.blob_directory.specs.Sectors
+pub use Rattle.blob_directory.specs.Records
 pub use Rattle.blob_directory.specs.Tables
 pub mod Calls
 pub mod Paths

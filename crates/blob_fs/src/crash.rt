@@ -1,7 +1,7 @@
 //! The crash, and the recovery after it.
-ghost use Rattle.std.specs.Prelude.{◌≡◌, IfOk, OnErr, OnOk, unwrap_or};
+ghost use Rattle.std.specs.Prelude.{◌≡◌, ℕ, IfOk, OnErr, OnOk, unwrap_or};
 ghost use Rattle.blob_fs.specs.Bytes.{FindsBytes, FindsEdits, FindsKnown, HasNoOrphan};
-ghost use Rattle.blob_fs.specs.Errors.{StopsAtLimits};
+ghost use Rattle.blob_fs.specs.Errors.{IsLimited, IsSpent, OnlyMemoryRefuses};
 ghost use Rattle.blob_fs.specs.Fixed.{FindsFixed, FixesFound};
 ghost use Rattle.blob_fs.specs.Files.{FindsKept, FindsTold, GivesNames, GivesTold, IsRecovered, KeepsNames, KeepsTold, SameNames};
 ghost use Rattle.blob_fs.specs.Places.{FindsPlaces};
@@ -11,10 +11,12 @@ use crate::file_system::FileSystem;
 use crate::places::find_places;
 use crate::truncation::Kept;
 use crate::truncations::numbers_of;
+use blob_base::Error;
 use blob_directory::laws::found;
 use blob_faulty::Selections;
 use blob_journal::laws::{blobs, fixed};
 use rand_core::Rng;
+use std::alloc::AllocError;
 
 /// Where a pending write was.
 #[derive(Clone, Copy, Debug, PartialEq, Eq)]
@@ -46,6 +48,17 @@ fn used<'a>(before: &'a Option<Kept>, own: &'a Kept) -> &'a Kept
     }
 }
 
+/// Returns what a crash returns for an error of its recovery. `OffsetOverflow` says that the end of a file or of the journal has no
+/// number of 64 bits. No memory holds so much, so this is `Memory`.
+fn refusal(error: FsError) -> FsError
+    ensures { (next : ℕ) → IsLimited next error → IsSpent next result }
+{
+    match error {
+        FsError::Store(Error::OffsetOverflow) => FsError::Store(Error::Memory(AllocError)),
+        error => error,
+    }
+}
+
 impl<R: Rng + Drop> FileSystem<R> {
     /// Crashes and recovers. The draws decide which unsynced bytes and which unsettled edits are kept. Then all is durable, and
     /// every descriptor is stale. A file that a name reaches has the bytes that the layer's crash leaves of it, with the
@@ -55,9 +68,9 @@ impl<R: Rng + Drop> FileSystem<R> {
     ///
     /// # Errors
     ///
-    /// `Memory`, or `GenerationsExhausted` or `OffsetOverflow` if a counter or a length of 64 bits is at its end. If the layer's crash
-    /// ran out, nothing has changed. If the recovery did, all other calls return `Crashed` until a crash returns Ok, which applies
-    /// truncations by the writes that this one kept.
+    /// `Memory`, also if the end of a file or of the journal has no number of 64 bits; `GenerationsExhausted` if the store has given
+    /// all 2^64 - 1 numbers of blobs. If the layer's crash failed, nothing has changed. If the recovery did, all other calls return
+    /// `Crashed` until a crash returns Ok, which applies truncations by the writes that this one kept.
     pub fn crash(&mut self) -> Result<Crash, FsError>
         ensures found { IfOk result (λ crash. FindsKept self.old crash.rows self.new) }
         ensures gives { OnOk result (GivesNames self.new) }
@@ -73,7 +86,7 @@ impl<R: Rng + Drop> FileSystem<R> {
         ensures orphans { OnOk result (HasNoOrphan self.new) }
         ensures fixed { OnOk result (FindsFixed self.old self.new) }
         ensures fixes { OnOk result (FixesFound self.old self.new) }
-        ensures errors { StopsAtLimits result }
+        ensures errors { OnlyMemoryRefuses self.new result }
         ensures places { IfOk result (λ crash. FindsPlaces self.old crash.rows crash.places.items) }
     {
         found();
@@ -91,7 +104,7 @@ impl<R: Rng + Drop> FileSystem<R> {
             Ok(edits) => edits,
             Err(error) => {
                 self.kept = Some(before.unwrap_or(own));
-                return Err(error);
+                return Err(refusal(error));
             }
         };
         self.is_down = false;

@@ -28,7 +28,7 @@ pub mod whole;
 mod writes;
 
 pub use blob_directory::{
-    Binding, Change, Edit, Keeps, Kind, Profile, Settles, edit, profile, sector, table,
+    Binding, Change, Edit, Keeps, Kind, Profile, Settles, edit, profile, table,
 };
 pub use crash::{Crash, Place};
 pub use error::FsError;

@@ -44,7 +44,7 @@ impl<R: Rng + Drop> FileSystem<R> {
         ensures new { OnOk result (file_in self.now (fresh_inode self.now) ≡ None) }
     {
         let inode = self.next_inode;
-        // doesn't happen, but isn't proved: then a file would be lost
+        // Never true: numbers rise. But no contract says so, and a file that took the number of another would replace it.
         if self.files.contains_key(&inode) {
             return Err(FsError::NoSpace);
         }

@@ -1,12 +1,12 @@
 //! The recovery: the names from the journal, and the files from their blobs.
-ghost use Rattle.std.specs.Prelude.{◌≡◌, ℕ, Some, IfOk, OnOk, OnErr, is_some, true};
+ghost use Rattle.std.specs.Prelude.{◌≡◌, ℕ, Some, IfErr, IfOk, OnOk, OnErr, is_some, true};
 ghost use Rattle.std.specs.BTreeMap.{Updates, get};
 ghost use Rattle.std.specs.Ordering.{nat_cmp};
 ghost use Rattle.blob_directory.specs.Checkpoints.{FitsJournal};
 ghost use Rattle.blob_directory.specs.Tables.{bound};
 ghost use Rattle.blob_directory.specs.Trees.{has_link};
 ghost use Rattle.blob_fs.specs.Bytes.{ChangesOnly, CutsFile, CutsFrom, CutsTo, FindsKnown, HasNoOrphan, HasOnlyKnown, HasOnlyLinked, KeepsBlobsOf, OpensLeft, RecoversBytes, Reopens, ReopensAll, Rewrites, Truncates};
-ghost use Rattle.blob_fs.specs.Errors.{StopsAtLimits, TrackSizes};
+ghost use Rattle.blob_fs.specs.Errors.{IsMemory, StopsAtLimits, TrackSizes};
 ghost use Rattle.blob_fs.specs.Truncations.{lost_of};
 ghost use Rattle.blob_fs.specs.Fixed.{AllFixed, AreWhole, FixesFound, IsWhole};
 ghost use Rattle.blob_fs.specs.Open.{AllOpen, MayChange};
@@ -46,7 +46,7 @@ fn cut_to<R: Rng + Drop>(
     ensures handles { KeepsHandles store.old store.new }
     ensures still { OnOk result (MayChange store.old blob.old store.new blob.new) }
     ensures ready { KeepsReady store.old blob.old store.new blob.new }
-    ensures errors { IsReady store.old blob.old → FailsAtLimits result }
+    ensures errors { IsReady store.old blob.old → FailsAtLimits (store_of store.new) result }
 {
     blobs::<R>();
     store.resize_file(blob, length)?;
@@ -69,7 +69,7 @@ fn rewrite<R: Rng + Drop>(
     ensures handles { KeepsHandles store.old store.new }
     ensures still { OnOk result (MayChange store.old blob.old store.new blob.new) }
     ensures ready { KeepsReady store.old blob.old store.new blob.new }
-    ensures errors { IsReady store.old blob.old → FailsAtLimits result }
+    ensures errors { IsReady store.old blob.old → FailsAtLimits (store_of store.new) result }
 {
     blobs::<R>();
     store.resize_file(blob, 0)?;
@@ -96,7 +96,7 @@ fn truncate_left<R: Rng + Drop>(
     ensures handles { KeepsHandles store.old store.new }
     ensures still { OnOk result (MayChange store.old blob.old store.new blob.new) }
     ensures ready { KeepsReady store.old blob.old store.new blob.new }
-    ensures errors { IsReady store.old blob.old → FailsAtLimits result }
+    ensures errors { IsReady store.old blob.old → FailsAtLimits (store_of store.new) result }
 {
     blobs::<R>();
     let truncations = old.truncations.as_slice();
@@ -126,7 +126,7 @@ fn cut_from<R: Rng + Drop>(
     ensures handles { KeepsHandles store.old store.new }
     ensures still { OnOk result (MayChange store.old blob.old store.new blob.new) }
     ensures ready { KeepsReady store.old blob.old store.new blob.new }
-    ensures errors { IsReady store.old blob.old → TracksSize live.now → FailsAtLimits result }
+    ensures errors { IsReady store.old blob.old → TracksSize live.now → FailsAtLimits (store_of store.new) result }
 {
     blobs::<R>();
     let size = blob.size();
@@ -157,7 +157,7 @@ fn cut<R: Rng + Drop>(
     ensures handles { KeepsHandles store.old store.new }
     ensures still { OnOk result (MayChange store.old blob.old store.new blob.new) }
     ensures ready { KeepsReady store.old blob.old store.new blob.new }
-    ensures errors { IsReady store.old blob.old → TracksSize old.now.blob → FailsAtLimits result }
+    ensures errors { IsReady store.old blob.old → TracksSize old.now.blob → FailsAtLimits (store_of store.new) result }
 {
     blobs::<R>();
     if !loss.cuts {
@@ -185,7 +185,7 @@ fn open_cut<R: Rng + Drop>(
     ensures handles { KeepsHandles store.old store.new }
     ensures still { OnOk result (KeepsOpenBut inode store.old store.new) }
     ensures ready { IsFaultless store.old → IfOk result (λ r. IsReady store.new r.0) }
-    ensures errors { IsFaultless store.old → TrackSizes old.now → FailsAtLimits result }
+    ensures errors { IsFaultless store.old → TrackSizes old.now → FailsAtLimits (store_of store.new) result }
 {
     blobs::<R>();
     let Some(was) = old.get(&inode) else {
@@ -216,7 +216,7 @@ fn open_left<R: Rng + Drop>(
     ensures still { OnOk result (KeepsOpenBut inode store.old store.new) }
     ensures fixes { IfOk result (λ r. AllFixed store.new r.0) }
     ensures faultless { IsFaultless store.old → OnOk result (IsFaultless store.new) }
-    ensures errors { IsFaultless store.old → TrackSizes old.now → FailsAtLimits result }
+    ensures errors { IsFaultless store.old → TrackSizes old.now → FailsAtLimits (store_of store.new) result }
 {
     blobs::<R>();
     let (mut blob, found) = open_cut(store, inode, old, kept, loss)?;
@@ -244,7 +244,7 @@ fn reopen<R: Rng + Drop>(
     ensures whole { IfOk result (IsWhole store.new) }
     ensures links { IfOk result (λ file. file.links ≡ links) }
     ensures faultless { IsFaultless store.old → OnOk result (IsFaultless store.new) }
-    ensures errors { IsFaultless store.old → TrackSizes old.now → FailsAtLimits result }
+    ensures errors { IsFaultless store.old → TrackSizes old.now → FailsAtLimits (store_of store.new) result }
 {
     let (blob, found) = open_left(store, inode, old, kept, loss)?;
     let synced = blob.size();
@@ -258,7 +258,7 @@ fn reopen<R: Rng + Drop>(
 /// Adds a file to a map. The only error is out of memory.
 fn put(files: &mut BTreeMap<u64, File>, inode: u64, file: File) -> Result<(), FsError>
     ensures updated { OnOk result (Updates nat_cmp files.old files.new inode (Some file)) }
-    ensures errors { StopsAtLimits result }
+    ensures errors { IfErr result IsMemory }
 {
     files.insert(inode, file)?;
     Ok(())
@@ -285,7 +285,7 @@ fn reopen_all<R: Rng + Drop>(
     ensures counted { IfOk result (CountsLinks tree.now) }
     ensures present { IfOk result AllPresent }
     ensures faultless { IsFaultless store.old → OnOk result (IsFaultless store.new) }
-    ensures errors { IsFaultless store.old → TrackSizes old.now → StopsAtLimits result }
+    ensures errors { IsFaultless store.old → TrackSizes old.now → StopsAtLimits store.new result }
 {
     blobs::<R>();
     let mut files = BTreeMap::new(loss.alloc);
@@ -345,7 +345,7 @@ impl<R: Rng + Drop> FileSystem<R> {
         ensures orphans { OnOk result (HasNoOrphan self.new) }
         ensures opened { OnOk result (AllOpen (journaled_of self.new) self.new.files) }
         ensures fixes { OnOk result (FixesFound self.old self.new) }
-        ensures errors { StopsAtLimits result }
+        ensures errors { StopsAtLimits (journaled_of self.new) result }
     {
         bindings();
         blobs::<R>();
@@ -378,7 +378,7 @@ impl<R: Rng + Drop> FileSystem<R> {
         ensures opened { OnOk result (AllOpen (journaled_of self.new) files) }
         ensures whole { OnOk result (AreWhole (journaled_of self.old) files → AreWhole (journaled_of self.new) files) }
         ensures numbers { OnOk result (fresh_inode self.new ≡ fresh_inode self.old) }
-        ensures errors { IsFaultless (journaled_of self.old) → StopsAtLimits result }
+        ensures errors { IsFaultless (journaled_of self.old) → StopsAtLimits (journaled_of self.new) result }
     {
         bindings();
         blobs::<R>();

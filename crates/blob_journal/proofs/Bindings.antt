@@ -7,7 +7,7 @@ use Rattle.blob_directory.specs.declared.profile.Keeps.{Keeps}
 use Rattle.blob_directory.specs.declared.profile.Keeps.TheVariants.{Any}
 use Rattle.blob_directory.specs.Names.{Edit, Names, all_edited, changed, edited, file}
 use Rattle.blob_directory.specs.Profiles.{is_prefix, kept_edits}
-use Rattle.blob_directory.specs.Sectors.{Found}
+use Rattle.blob_directory.specs.Records.{Found}
 use Rattle.blob_directory.specs.Settled.{AreSettled}
 use Rattle.blob_journal.specs.Bindings.{FreedIsNotNamed, FreedNow, FreedOneMore, FreedSettled, KeepsBelow, KeptMayName, MayNameOneMore, MayNameSettled, WithinGiven, WithinOneMore, WithinSettled, edits_in}
 use Rattle.blob_journal.specs.Told.{Grows, Stays, after_loss, names_kept, settle_one, settled_in, was_settled}
@@ -41,7 +41,7 @@ left_names chosen told e = ap (λ (l : List Edit). names_of l e) (left_kept chos
 
 -- Whatever a crash keeps by a profile, another crash keeps by `Any`.
 
--- a choice for the first sector, and for those behind it
+-- a choice for the first record, and for those behind it
 abbrev first : Bool → (ℕ → Bool) → ℕ → Bool
 first b chosen zero = b
 first b chosen (suc i) = chosen i
@@ -158,7 +158,7 @@ freed_one_more limit told edit names inode other freed chosen e keeps h =
 
 -- An edit before a sync, and after it.
 
--- the same of the sectors behind the first
+-- the same of the records behind the first
 settled_behind : (which : ℕ → Bool) (n : ℕ) (told : List Found) → settled_in which (suc n) told ≡ settled_in (λ i. which (suc i)) n told
 settled_behind which n [] = refl
 settled_behind which n (f ∷ told) = ap (λ (l : List Found). settle_one (which (suc n)) f ∷ l) (settled_behind which (suc n) told)

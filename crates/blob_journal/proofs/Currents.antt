@@ -105,3 +105,23 @@ file_named p n (Some (Incarnation k layout version)) o e =
 -- the incarnation of a name has this name
 pub current_named : (d : Directory) (p n : List ℕ) (o : Place) → current d p n ≡ Some o → (o.partition ≡ p) × (o.name ≡ n)
 current_named d p n o h = file_named p n (d.file p n) o h
+
+-- a blob that begins gets the next number
+pub begun_number : (d : Directory) (b : Durable) (d' : Directory) (b' : Durable) (p n : List ℕ) (first last : ℕ) (o : Place) (bytes : List ℕ) (version : ℕ)
+    → IsOpened d b d' b' p n first last o bytes version → d.file p n ≡ None → o.number ≡ d.next
+begun_number d b d' b' p n first last o bytes version (Continued number layout found is here same unchanged) none =
+    let e : opening p n None first last ≡ Continues number layout version = ap (λ f. opening p n f first last) (sym none) ∙ found in
+    absurd (cc)
+begun_number d b d' b' p n first last o bytes version (Begun layout found is made unchanged) none = ap (λ (x : Place). x.number) is
+
+-- the name of the generation before is another
+pub last_apart : (p : List ℕ) (a : Place) (g : ℕ) → g < 2 ^ 64 → g + 1 < 2 ^ 64 → a.name ≡ to_be_bytes w64 g
+    → (bytes_eq p a.partition && bytes_eq (to_be_bytes w64 (g + 1)) a.name) ≡ false
+last_apart p a g s t e = ⊎_elim
+    (λ y. absurd (same_number g s t (sym ((bytes_decides (to_be_bytes w64 (g + 1)) a.name).0 (and_parts (bytes_eq p a.partition) _ y).1 ∙ e))))
+    (λ n. n)
+    (cases_Bool (bytes_eq p a.partition && bytes_eq (to_be_bytes w64 (g + 1)) a.name))
+
+-- a name whose blob was removed
+pub removed_gone : (d d' : Directory) (p n : List ℕ) → d' ≡ directory_without d p (Some n) → d'.file p n ≡ None
+removed_gone d d' p n gone = ap (λ (x : Directory). x.file p n) gone ∙ cond-true (bytes_eq p p) _ _ ((bytes_decides p p).1 refl) ∙ cond-true (bytes_eq n n) _ _ ((bytes_decides n n).1 refl)

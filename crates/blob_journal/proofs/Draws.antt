@@ -1,5 +1,5 @@
--- What the writes of a journal record: none fails, and a crash keeps each sector whole or loses it.
-use Rattle.std.proofs.Common.{◌≡◌, ◌⊎◌, inl, inr, ⊎_elim, ℕ, ◌+◌, ◌-◌, ◌*◌, ◌^◌, ◌<◌, ◌==◌, Bool, true, false, List, [], ◌∷◌, length, Option, Some, None, refl, sym, ◌∙◌, ap, ap₂, subst, arith, option_map}
+-- What the writes of a journal record: none fails, and a crash keeps each of them whole or loses it.
+use Rattle.std.proofs.Common.{◌≡◌, ◌⊎◌, inl, inr, ⊎_elim, ℕ, ◌+◌, ◌-◌, ◌/◌, ◌^◌, ◌<◌, ◌≤◌, ◌==◌, Bool, true, false, List, [], ◌∷◌, length, Option, Some, None, refl, sym, ◌∙◌, ap, ap₂, subst, arith, option_map}
 use Rattle.std.specs.Prelude.{nat_lt, if◌then◌else◌}
 use Rattle.std.proofs.lemmas.Bool.{cond-true}
 use Rattle.rand_core.specs.Stream.{Stream}
@@ -17,7 +17,7 @@ use Rattle.blob_draws.specs.Faults.{WriteFate, Done, Uncounted, Idle, Unsynced, 
 use Rattle.blob_draws.specs.Recorded.{live_of_write, recorded_write}
 use Rattle.blob_faulty.specs.Fits.{FitsAll, FitsMode}
 use Rattle.blob_faulty.specs.Outcomes.{IsNotMissing}
-use Rattle.blob_journal.specs.Draws.{DrawsSectors}
+use Rattle.blob_journal.specs.Draws.{DrawsWhole}
 
 no_failure : (rate : Rate) (stream : Stream) → (rate.numerator == 0) ≡ true → draw (Some rate) stream ≡ (false, stream)
 unfolding sample
@@ -31,7 +31,7 @@ calm_by : (b : Bool) (stream : Stream) (drawn : WriteFate × Stream) → drawn.0
 calm_by true stream drawn is = inr refl
 calm_by false stream drawn is = inl is
 
-pub calm : (config : Config) (offset : ℕ) (bytes : List ℕ) (stream : Stream) → DrawsSectors config → IsCalm (write_fate config false offset bytes stream).0
+pub calm : (config : Config) (offset : ℕ) (bytes : List ℕ) (stream : Stream) → DrawsWhole config → IsCalm (write_fate config false offset bytes stream).0
 calm config offset bytes stream faults =
     let d : draw (option_map (λ (c : WriteConfig). c.failure_rate) config.write_rate) stream ≡ (false, stream) =
     ap (λ (w : Option WriteConfig). draw (option_map (λ (c : WriteConfig). c.failure_rate) w) stream) faults.is ∙ no_failure faults.writes.failure_rate stream faults.never in
@@ -57,20 +57,20 @@ none_written Idle k offset bytes live r is = absurd (⊎_elim (λ e. cc) (λ e. 
 none_written Unsynced k offset bytes live r is = absurd (⊎_elim (λ e. cc) (λ e. cc) is)
 none_written (Failed chosen) k offset bytes live r is = absurd (⊎_elim (λ e. cc) (λ e. cc) is)
 
-pub refused_entries : (config : Config) (number : ℕ) (stream : Stream) (offset : ℕ) (bytes : List ℕ) (r : Refusal) → DrawsSectors config → recorded_write config number stream false offset bytes (Some r) ≡ []
+pub refused_entries : (config : Config) (number : ℕ) (stream : Stream) (offset : ℕ) (bytes : List ℕ) (r : Refusal) → DrawsWhole config → recorded_write config number stream false offset bytes (Some r) ≡ []
 refused_entries config number stream offset bytes r faults =
     none_recorded (write_fate config false offset bytes stream).0 (retention config.write_rate) offset bytes r number (calm config offset bytes stream faults)
 
-pub refused_live : (config : Config) (stream : Stream) (live : List ℕ) (offset : ℕ) (bytes : List ℕ) (r : Refusal) → DrawsSectors config → live_of_write config stream false live offset bytes (Some r) ≡ live
+pub refused_live : (config : Config) (stream : Stream) (live : List ℕ) (offset : ℕ) (bytes : List ℕ) (r : Refusal) → DrawsWhole config → live_of_write config stream false live offset bytes (Some r) ≡ live
 refused_live config stream live offset bytes r faults =
     none_written (write_fate config false offset bytes stream).0 (retention config.write_rate) offset bytes live r (calm config offset bytes stream faults)
 
 -- a write that is done is one that a crash may lose, or isn't recorded
 pub data IsLoose (offset : ℕ) (bytes : List ℕ) : List Entry → Type 0 where
   Nothing : IsLoose offset bytes []
-  One : (w : Write) → w.offset ≡ offset → w.bytes ≡ bytes → w.mode ≡ Sectors 1024 → IsLoose offset bytes (Loose w ∷ [])
+  One : (w : Write) → w.offset ≡ offset → w.bytes ≡ bytes → w.mode ≡ Sectors (2 ^ 64 - 1) → IsLoose offset bytes (Loose w ∷ [])
 
-by_retention : (mode : PartialWriteMode) (rate : Rate) (b : Bool) (number offset : ℕ) (bytes : List ℕ) → mode ≡ Sectors 1024 → IsLoose offset bytes (loose (if b then None else Some (mode, rate)) number offset bytes)
+by_retention : (mode : PartialWriteMode) (rate : Rate) (b : Bool) (number offset : ℕ) (bytes : List ℕ) → mode ≡ Sectors (2 ^ 64 - 1) → IsLoose offset bytes (loose (if b then None else Some (mode, rate)) number offset bytes)
 by_retention mode rate b number offset [] is = Nothing
 by_retention mode rate true number offset (x ∷ bytes) is = Nothing
 by_retention mode rate false number offset (x ∷ bytes) is = One (record { number = number; offset = offset; bytes = x ∷ bytes; mode = mode; rate = rate }) refl refl is
@@ -82,7 +82,7 @@ by_fate Idle k number offset bytes is one = Nothing
 by_fate Unsynced k number offset bytes is one = Nothing
 by_fate (Failed chosen) k number offset bytes is one = Nothing
 
-pub done_entries : (config : Config) (number : ℕ) (stream : Stream) (offset : ℕ) (bytes : List ℕ) → DrawsSectors config → IsLoose offset bytes (recorded_write config number stream false offset bytes None)
+pub done_entries : (config : Config) (number : ℕ) (stream : Stream) (offset : ℕ) (bytes : List ℕ) → DrawsWhole config → IsLoose offset bytes (recorded_write config number stream false offset bytes None)
 done_entries config number stream offset bytes faults =
     by_fate (write_fate config false offset bytes stream).0 (retention config.write_rate) number offset bytes (calm config offset bytes stream faults)
     (subst (λ (w : Option WriteConfig). IsLoose offset bytes (loose (retention w) number offset bytes)) (sym faults.is)
@@ -93,24 +93,28 @@ pub loose_lasting : (offset : ℕ) (bytes : List ℕ) (es : List Entry) (x : Lis
 loose_lasting offset bytes es x Nothing = refl
 loose_lasting offset bytes es x (One w at is mode) = refl
 
--- choices of a sector
-pub record KeepsSector (offset : ℕ) (bytes x y : List ℕ) : Type 0 where
+-- all bytes of a write, or none
+pub record KeepsWhole (offset : ℕ) (bytes x y : List ℕ) : Type 0 where
   pub chosen : ℕ → Bool
   pub same : (j : ℕ) → j < length bytes → chosen j ≡ chosen 0
   pub is : y ≡ overlay_by x offset bytes chosen
 
-pub loses_sector : (offset : ℕ) (bytes x : List ℕ) → KeepsSector offset bytes x x
-loses_sector offset bytes x = record { chosen = λ _. false; same = λ j low. refl; is = sym (none_chosen x offset bytes) }
+pub loses_whole : (offset : ℕ) (bytes x : List ℕ) → KeepsWhole offset bytes x x
+loses_whole offset bytes x = record { chosen = λ _. false; same = λ j low. refl; is = sym (none_chosen x offset bytes) }
 
-pub loose_crash : (n offset : ℕ) (bytes : List ℕ) (es : List Entry) (x : List ℕ) (t : Choices) → length bytes ≡ 1024 → offset ≡ n * 1024 → IsLoose offset bytes es → FitsAll t es → KeepsSector offset bytes x (replay_log x es t)
-loose_crash n offset bytes es x t size there Nothing fits = loses_sector offset bytes x
-loose_crash n offset bytes es x t size there (One w at is mode) fits =
-    let f : FitsMode (Sectors 1024) offset (length bytes) (t w.number) =
+-- a write that ends below 2^64 lies in one sector
+one_sector : (o n i : ℕ) → o + n ≤ 2 ^ 64 - 1 → i < n → (o + i) / (2 ^ 64 - 1) ≡ 0
+one_sector o n i short low = omega (arith, short, low)
+
+pub loose_crash : (offset : ℕ) (bytes : List ℕ) (es : List Entry) (x : List ℕ) (t : Choices) → offset + length bytes ≤ 2 ^ 64 - 1 → IsLoose offset bytes es → FitsAll t es → KeepsWhole offset bytes x (replay_log x es t)
+loose_crash offset bytes es x t short Nothing fits = loses_whole offset bytes x
+loose_crash offset bytes es x t short (One w at is mode) fits =
+    let f : FitsMode (Sectors (2 ^ 64 - 1)) offset (length bytes) (t w.number) =
     subst (λ (m : PartialWriteMode). FitsMode m offset (length bytes) (t w.number)) mode
     (subst (λ (b : List ℕ). FitsMode w.mode offset (length b) (t w.number)) is (subst (λ (o : ℕ). FitsMode w.mode o (length w.bytes) (t w.number)) at fits.0)) in
     record {
       chosen = t w.number;
-      same = λ j low. f (omega arith) j 0 low (omega (arith, low)) (omega (arith, there, low, size));
+      same = λ j low. f (omega arith) j 0 low (omega (arith, low)) (one_sector offset (length bytes) j short low ∙ sym (one_sector offset (length bytes) 0 short (omega (arith, low))));
       is = ap₂ (λ (o : ℕ) (b : List ℕ). overlay_by x o b (t w.number)) at is;
     }
 

@@ -1,11 +1,11 @@
 -- What may be found of a journal after the calls of its store.
-use Rattle.std.proofs.Common.{◌≡◌, ◌&&◌, ◌==◌, ℕ, ◌+◌, ◌*◌, ◌<◌, ◌≤◌, ◌++◌, ◌/◌, ◌^◌, ⊎_elim, Bool, true, false, List, [], ◌∷◌, length, get_or, map, Option, Some, None, refl, sym, ap, ap₂, subst, ◌∙◌, arith}
+use Rattle.std.proofs.Common.{◌≡◌, ◌&&◌, ◌==◌, ℕ, ◌+◌, ◌-◌, ◌<◌, ◌≤◌, ◌++◌, ◌^◌, ⊎_elim, Bool, true, false, List, [], ◌∷◌, length, get_or, map, Option, Some, None, refl, sym, ap, ap₂, subst, ◌∙◌, arith}
 use Rattle.std.proofs.Math.Logic.{∥∥₁_map}
 use Rattle.std.specs.Prelude.{codes, filter, nat_eq, Result, Ok, Err, OnErr}
 use Rattle.std.specs.Str.{bytes_eq}
 use Rattle.std.specs.Int.{w64, to_be_bytes}
 use Rattle.std.proofs.lemmas.Bool.{cases_Bool, cond-false}
-use Rattle.blob_model.specs.Bytes.{overlay, write_live}
+use Rattle.blob_model.specs.Bytes.{overlay, overlay_by}
 use Rattle.blob_model.specs.Directory.{Directory, current, directory_without, is_current}
 use Rattle.blob_model.specs.Durable.{Durable, is_under}
 use Rattle.blob_model.specs.Files.{after_remove, log_of}
@@ -26,24 +26,22 @@ use Rattle.blob_faulty.specs.Lends.{with_config, with_rng}
 use Rattle.blob_faulty.specs.Names.{Steps}
 use Rattle.blob_faulty.specs.Wrapper.{Adds, inner_of, inside, pending_of}
 use Rattle.blob_faulty.proofs.FoundSteps.{leaves_added}
+use Rattle.blob_packed.specs.Losses.{OneMoreIsLeft, PackedAreFound, PackedIsLeft, SettledIsLeft, may_be_left}
+use Rattle.blob_packed.specs.Records.{IsPacked, Record, packed, record_bytes}
 use Rattle.blob_directory.specs.declared.unsettled.Unsettled.{Unsettled}
-use Rattle.blob_directory.specs.Checkpoints.{HasWholeSectors}
 use Rattle.blob_directory.specs.Names.{edit_of}
-use Rattle.blob_directory.specs.Profiles.{found_in_all}
-use Rattle.blob_directory.specs.Sectors.{Found, found_in, sector_of}
+use Rattle.blob_directory.specs.Records.{Found, edit_bytes, edit_found, found_in, record_of}
 use Rattle.blob_directory.specs.Settled.{AreSettled}
 use Rattle.blob_directory.specs.Syncs.{marked}
-use Rattle.blob_directory.proofs.Checkpoints.{sector_long}
 use Rattle.blob_journal.specs.declared.journal.Journal.{Journal}
 use Rattle.blob_journal.specs.Currents.{FindsNoMore, FindsNoMoreBeside, FindsOnly, IsFixed, KeepsNext, Represents}
-use Rattle.blob_journal.specs.Found.{AreIn, HasSectors, IsKept, told_by}
-use Rattle.blob_journal.specs.Sectors.{AreListed, HasEdit, InSectors, is_settled, may_be_found}
+use Rattle.blob_journal.specs.Found.{AddsEdit, HasRecords, IsKept, KeepsRecords, SettlesEdit, bytes_in, told_by}
+use Rattle.blob_journal.specs.Records.{AreListed, HasEdit, settled_of}
 use Rattle.blob_journal.specs.Told.{is_marked_in, settled_in}
 use Rattle.blob_journal.proofs.Currents.{current_of_name, named_current, removed_keeps, same_number}
-use Rattle.blob_journal.proofs.Draws.{IsLoose, KeepsSector, loose_crash, loose_lasting, loses_sector}
-use Rattle.blob_journal.proofs.Growing.{found_length, told_added, told_settled}
-use Rattle.blob_journal.proofs.Listed.{IsAt, in_added, in_at, in_filtered, in_has, in_marked, in_settled}
-use Rattle.blob_journal.proofs.Sectors.{found_added, found_self, found_settled, long_added, long_settled}
+use Rattle.blob_journal.proofs.Draws.{IsLoose, KeepsWhole, loose_crash, loose_lasting, loses_whole}
+use Rattle.blob_journal.proofs.Listed.{in_added, in_filtered, in_has, in_marked, in_settled}
+use Rattle.blob_journal.proofs.Records.{told_again, told_is, told_long, told_more, told_of}
 use Rattle.blob_journal.proofs.Settling.{kept_over}
 use Rattle.blob_journal.proofs.Unsettled.{listed_added, listed_left, listed_marked, listed_none, listed_settled, unwanted}
 
@@ -129,7 +127,8 @@ only_fixed store o bytes test r now given fixed passes = record {
 pub still_kept : {R : Type 0} (before after : OverMemory R) (journal : Journal) (edits : List Unsettled)
     → ((test : Test) → FindsOnly before (place (inside journal.blob)) test → FindsOnly after (place (inside journal.blob)) test) → ∥ IsKept before journal edits ∥₁ → ∥ IsKept after journal edits ∥₁
 still_kept before after journal edits f h = ∥∥₁_map h (λ k. record {
-  sectors = record { whole = k.sectors.whole; found = f (may_be_found journal.sectors (live (inside journal.blob))) k.sectors.found };
+  records = k.records;
+  has = record { seen = k.has.seen; count = k.has.count; end = k.has.end; fit = k.has.fit; found = f (may_be_left 0 k.records) k.has.found };
   listed = k.listed;
   unsettled = k.unsettled;
 })
@@ -154,146 +153,147 @@ module _ {R : Type 0} (before after : OverMemory R) (o : Place) (es : List Entry
       (λ x passes. ap (λ (l : List Entry). test (durable_after x l)) none ∙ passes)
       (λ x t passes fits. ap (λ (l : List Entry). test (replay_log x l t)) none ∙ passes)
 
-  -- one more sector
-  module _ (n offset : ℕ) (w b : List ℕ) (there : offset ≡ n * 1024) (size : length b ≡ 1024) (long : length w ≡ n * 1024) (fresh : is_settled b ≡ false) (loose : IsLoose offset b es) where
-    step : (x y : List ℕ) → KeepsSector (n * 1024) b x y → may_be_found n w x ≡ true → may_be_found (n + 1) (write_live w (n * 1024) b) y ≡ true
-    step x y k passes = ap (may_be_found (n + 1) (write_live w (n * 1024) b)) k.is ∙ found_added n w x b k.chosen long size fresh k.same passes
+  -- one more record
+  module _ (law : OneMoreIsLeft) (rs : List Record) (x : List ℕ) (offset : ℕ) (b : List ℕ) (there : offset ≡ length (packed rs)) (is : b ≡ record_bytes (length rs) (x, false)) (short : offset + length b ≤ 2 ^ 64 - 1) (loose : IsLoose offset b es) where
+    step : (y z : List ℕ) → KeepsWhole offset b y z → may_be_left 0 rs y ≡ true → may_be_left 0 (rs ++ (x, false) ∷ []) z ≡ true
+    step y z k passes =
+        ap (may_be_left 0 (rs ++ (x, false) ∷ [])) (k.is ∙ ap₂ (λ (m : ℕ) (l : List ℕ). overlay_by y m l k.chosen) there is)
+        ∙ law rs x y k.chosen (λ i low. k.same i (subst (λ (l : List ℕ). i < length l) (sym is) low)) passes
 
-    pub sector_added : FindsOnly before o (may_be_found n w) → FindsOnly after o (may_be_found (n + 1) (write_live w (n * 1024) b))
-    sector_added k = leaves_added (λ o. o) directory durable before after o (may_be_found n w) same k es adds (may_be_found (n + 1) (write_live w (n * 1024) b))
-        (λ x passes. ap (may_be_found (n + 1) (write_live w (n * 1024) b)) (loose_lasting offset b es x loose) ∙ step x x (loses_sector (n * 1024) b x) passes)
-        (λ x t passes fits. step x (replay_log x es t) (subst (λ (m : ℕ). KeepsSector m b x (replay_log x es t)) there (loose_crash n offset b es x t size there loose fits)) passes)
+    pub record_added : FindsOnly before o (may_be_left 0 rs) → FindsOnly after o (may_be_left 0 (rs ++ (x, false) ∷ []))
+    record_added k = leaves_added (λ o. o) directory durable before after o (may_be_left 0 rs) same k es adds (may_be_left 0 (rs ++ (x, false) ∷ []))
+        (λ y passes. ap (may_be_left 0 (rs ++ (x, false) ∷ [])) (loose_lasting offset b es y loose) ∙ step y y (loses_whole offset b y) passes)
+        (λ y t passes fits. step y (replay_log y es t) (loose_crash offset b es y t short loose fits) passes)
 
-  -- a sector again, durably
-  pub sector_settled : (n k : ℕ) (w b : List ℕ) → k < n → length w ≡ n * 1024 → length b ≡ 1024 → (b ≡ [] → ⊥) → es ≡ kept_entries (k * 1024) b
-      → FindsOnly before o (may_be_found n w) → FindsOnly after o (may_be_found n (write_live w (k * 1024) b))
-  sector_settled n k w b low long size some kept f = leaves_added (λ o. o) directory durable before after o (may_be_found n w) same f es adds (may_be_found n (write_live w (k * 1024) b))
-      (λ x passes. ap (λ (l : List Entry). may_be_found n (write_live w (k * 1024) b) (durable_after x l)) kept
-      ∙ ap (may_be_found n (write_live w (k * 1024) b)) (lasting_over (k * 1024) b x some) ∙ found_settled n k w x b low long size passes)
-      (λ x t passes fits. ap (λ (l : List Entry). may_be_found n (write_live w (k * 1024) b) (replay_log x l t)) kept
-      ∙ ap (may_be_found n (write_live w (k * 1024) b)) (kept_over t (k * 1024) b x some) ∙ found_settled n k w x b low long size passes)
+  -- a record again, durably
+  pub record_settled : SettledIsLeft → (first rest : List Record) (x : List ℕ) (was : Bool) (offset : ℕ) (b : List ℕ) → offset ≡ length (packed first) → b ≡ record_bytes (length first) (x, true) → (b ≡ [] → ⊥)
+      → es ≡ kept_entries offset b → FindsOnly before o (may_be_left 0 (first ++ (x, was) ∷ rest)) → FindsOnly after o (may_be_left 0 (first ++ (x, true) ∷ rest))
+  record_settled law first rest x was offset b there is some kept f =
+      leaves_added (λ o. o) directory durable before after o (may_be_left 0 (first ++ (x, was) ∷ rest)) same f es adds (may_be_left 0 (first ++ (x, true) ∷ rest))
+      (λ y passes. ap (λ (l : List Entry). may_be_left 0 (first ++ (x, true) ∷ rest) (durable_after y l)) kept ∙ ap (may_be_left 0 (first ++ (x, true) ∷ rest)) (lasting_over offset b y some) ∙ again y passes)
+      (λ y t passes fits. ap (λ (l : List Entry). may_be_left 0 (first ++ (x, true) ∷ rest) (replay_log y l t)) kept ∙ ap (may_be_left 0 (first ++ (x, true) ∷ rest)) (kept_over t offset b y some) ∙ again y passes)
     where
       lasting_over : (offset : ℕ) (bytes x : List ℕ) → (bytes ≡ [] → ⊥) → durable_after x (kept_entries offset bytes) ≡ overlay x offset bytes
       lasting_over offset [] x some = absurd (some refl)
       lasting_over offset (c ∷ bytes) x some = refl
 
+      again : (y : List ℕ) → may_be_left 0 (first ++ (x, was) ∷ rest) y ≡ true → may_be_left 0 (first ++ (x, true) ∷ rest) (overlay y offset b) ≡ true
+      again y passes = ap₂ (λ (m : ℕ) (l : List ℕ). may_be_left 0 (first ++ (x, true) ∷ rest) (overlay y m l)) there is ∙ law first rest x y was passes
+
 -- the same store and journal
 pub same_kept : {R : Type 0} (s s' : OverMemory R) (j j' : Journal) (edits : List Unsettled) → s ≡ s' → j ≡ j' → IsKept s' j' edits → IsKept s j edits
 same_kept s s' j j' edits store journal h = subst (λ x. IsKept x j edits) (sym store) (subst (λ x. IsKept s' x edits) (sym journal) h)
 
--- What a journal was told, after calls that write a sector.
+-- What a journal was told, after calls that write a record.
 
-told_same_by : (old new : Journal) → new.sectors ≡ old.sectors → live (inside new.blob) ≡ live (inside old.blob) → told_by new ≡ told_by old
-told_same_by old new same unwritten = ap₂ (λ (n : ℕ) (l : List ℕ). found_in_all n l) same unwritten
+told_same_by : (old new : Journal) → live (inside new.blob) ≡ live (inside old.blob) → told_by new ≡ told_by old
+told_same_by old new unwritten = ap found_in unwritten
 
-told_one : (old new : Journal) (item : Unsettled) → new.sectors ≡ old.sectors → live (inside new.blob) ≡ write_live (live (inside old.blob)) (item.sector * 1024) (sector_of (edit_of item.edit) true)
-    → item.sector < old.sectors → HasEdit (live (inside old.blob)) item → length (live (inside old.blob)) ≡ old.sectors * 1024 → told_by new ≡ settled_in (λ i. nat_eq item.sector i) 0 (told_by old)
-told_one old new item same written below has whole =
-    let w : List ℕ = live (inside old.blob) in
-    let w' : List ℕ = live (inside new.blob) in
-    let size = sector_long (edit_of item.edit) true in
-    let long : length w' ≡ old.sectors * 1024 = ap (λ (l : List ℕ). length l) written ∙ long_settled old.sectors item.sector w (sector_of (edit_of item.edit) true) below whole size in
-    ap (λ (n : ℕ). found_in_all n w') same ∙ told_settled old.sectors w w' item below whole long has written
+pub told_one_more : {R : Type 0} → PackedAreFound → (before after : OverMemory R) (old new : Journal) (rs : List Record) (r : Record) → HasRecords before old rs → HasRecords after new (rs ++ r ∷ [])
+    → told_by new ≡ told_by old ++ edit_found (Some r) ∷ []
+told_one_more law before after old new rs r was now =
+    told_is law (rs ++ r ∷ []) (bytes_in new) now.fit now.seen ∙ told_more rs r
+    ∙ ap (λ (l : List Found). l ++ edit_found (Some r) ∷ []) (sym (told_is law rs (bytes_in old) was.fit was.seen))
 
-told_one_more : (old new : Journal) (e : Unsettled) → live (inside new.blob) ≡ write_live (live (inside old.blob)) (old.sectors * 1024) (sector_of (edit_of e.edit) false) → new.sectors ≡ old.sectors + 1
-    → length (live (inside old.blob)) ≡ old.sectors * 1024 → told_by new ≡ told_by old ++ found_in (sector_of (edit_of e.edit) false) ∷ []
-told_one_more old new e written next whole =
-    let w : List ℕ = live (inside old.blob) in
-    let w' : List ℕ = live (inside new.blob) in
-    let b : List ℕ = sector_of (edit_of e.edit) false in
-    let size = sector_long (edit_of e.edit) false in
-    let long : length w' ≡ (old.sectors + 1) * 1024 = ap (λ (l : List ℕ). length l) written ∙ long_added old.sectors w b whole size in
-    ap (λ (n : ℕ). found_in_all n w') next ∙ told_added old.sectors w w' b whole long size written
+-- the record of an edit is settled
+pub told_one : {R : Type 0} → PackedAreFound → (before after : OverMemory R) (old new : Journal) (edits : List Unsettled) (k : ℕ) (item : Unsettled) → k < length edits → item ≡ get_or edits k item
+    → SettlesEdit item before old after new → IsKept before old edits → told_by new ≡ settled_in (λ i. nat_eq item.record i) 0 (told_by old)
+told_one law before after old new edits k item low is left h =
+    let e : HasEdit h.records item = subst (λ (x : Unsettled). HasEdit h.records x) (sym is) (in_has 0 h.records edits k item low h.listed) in
+    let now = left h.records e h.has in
+    let bytes : List ℕ = edit_bytes (edit_of item.edit) in
+    told_is law (settled_of h.records item e) (bytes_in new) now.fit now.seen
+    ∙ told_again e.before e.after bytes e.settled item.record e.number
+    ∙ ap (λ (l : List Record). settled_in (λ i. nat_eq item.record i) 0 (told_of l)) (sym e.is)
+    ∙ ap (settled_in (λ i. nat_eq item.record i) 0) (sym (told_is law h.records (bytes_in old) h.has.fit h.has.seen))
 
-at_end_of : (old : Journal) (e : Unsettled) → e.sector ≡ old.sectors → e.sector ≡ 0 + length (told_by old)
-at_end_of old e at = let long = found_length old.sectors (live (inside old.blob)) in omega (arith, at, long)
-
--- an edit of the list is settled
-pub settled_kept : {R : Type 0} (before after : OverMemory R) (old new : Journal) (edits : List Unsettled) (k : ℕ) (item : Unsettled) → k < length edits → item ≡ get_or edits k item
-    → new.sectors ≡ old.sectors → live (inside new.blob) ≡ write_live (live (inside old.blob)) (item.sector * 1024) (sector_of (edit_of item.edit) true)
-    → (item.sector < old.sectors → HasSectors before old → HasSectors after new) → IsKept before old edits → IsKept after new edits
-settled_kept before after old new edits k item low is same written left h =
-    let w : List ℕ = live (inside old.blob) in
-    let at = subst (λ (e : Unsettled). IsAt 0 old.sectors e) (sym is) (in_at 0 old.sectors w edits k item low h.listed) in
-    let has = subst (λ (e : Unsettled). HasEdit w e) (sym is) (in_has 0 old.sectors w edits k item low h.listed) in
+pub settled_kept : {R : Type 0} → PackedAreFound → (before after : OverMemory R) (old new : Journal) (edits : List Unsettled) (k : ℕ) (item : Unsettled) → k < length edits → item ≡ get_or edits k item
+    → SettlesEdit item before old after new → IsKept before old edits → IsKept after new edits
+settled_kept law before after old new edits k item low is left h =
+    let e : HasEdit h.records item = subst (λ (x : Unsettled). HasEdit h.records x) (sym is) (in_has 0 h.records edits k item low h.listed) in
     record {
-      sectors = left at.below h.sectors;
-      unsettled = subst (λ (l : List Found). AreListed 0 l edits) (sym (told_one old new item same written at.below has h.sectors.whole))
-          (listed_settled (λ i. nat_eq item.sector i) 0 (told_by old) edits h.unsettled);
-      listed = subst (λ (n : ℕ). InSectors 0 n (live (inside new.blob)) edits) (sym same)
-          (subst (λ (l : List ℕ). InSectors 0 old.sectors l edits) (sym written) (in_settled 0 old.sectors (live (inside old.blob)) edits k item low is h.sectors.whole h.listed));
+      records = settled_of h.records item e;
+      has = left h.records e h.has;
+      listed = in_settled 0 h.records item e edits h.listed;
+      unsettled = subst (λ (l : List Found). AreListed 0 l edits) (sym (told_one law before after old new edits k item low is left h))
+          (listed_settled (λ i. nat_eq item.record i) 0 (told_by old) edits h.unsettled);
     }
 
 -- the call that settles one returned an error
-pub refused_kept : {R : Type 0} (before after : OverMemory R) (old new : Journal) (edits : List Unsettled) (k : ℕ) (item : Unsettled) → k < length edits → item ≡ get_or edits k item
-    → new.sectors ≡ old.sectors → (HasSectors before old → live (inside new.blob) ≡ live (inside old.blob))
-    → (item.sector < old.sectors → HasSectors before old → HasSectors after new) → IsKept before old edits → IsKept after new edits
-refused_kept before after old new edits k item low is same unwritten left h =
-    let at = subst (λ (e : Unsettled). IsAt 0 old.sectors e) (sym is) (in_at 0 old.sectors (live (inside old.blob)) edits k item low h.listed) in
-    record {
-      sectors = left at.below h.sectors;
-      listed = subst (λ (n : ℕ). InSectors 0 n (live (inside new.blob)) edits) (sym same) (subst (λ (l : List ℕ). InSectors 0 old.sectors l edits) (sym (unwritten h.sectors)) h.listed);
-      unsettled = subst (λ (l : List Found). AreListed 0 l edits) (sym (told_same_by old new same (unwritten h.sectors))) h.unsettled;
-    }
+
+-- the same records have the same bytes
+pub same_told : {R : Type 0} (before after : OverMemory R) (old new : Journal) (edits : List Unsettled) → KeepsRecords before old after new → IsKept before old edits → told_by new ≡ told_by old
+same_told before after old new edits stays h = told_same_by old new ((stays h.records h.has).seen ∙ sym h.has.seen)
+
+pub refused_kept : {R : Type 0} (before after : OverMemory R) (old new : Journal) (edits : List Unsettled) → KeepsRecords before old after new → IsKept before old edits → IsKept after new edits
+refused_kept before after old new edits stays h = record {
+  records = h.records;
+  has = stays h.records h.has;
+  listed = h.listed;
+  unsettled = subst (λ (l : List Found). AreListed 0 l edits) (sym (same_told before after old new edits stays h)) h.unsettled;
+}
 
 -- the blob of a file isn't that of a journal
 pub other_blob : (a b : Place) → a.partition ≡ codes "f" → b.partition ≡ codes "j" → same_place a b ≡ false
 other_blob a b f j = ap₂ (λ (p q : List ℕ). bytes_eq p q && (bytes_eq a.name b.name && (a.number == b.number && a.start == b.start))) f j
 
--- a sector isn't added
-pub refused_add : {R : Type 0} (before after : OverMemory R) (old new : Journal) (edits edits' : List Unsettled) → edits' ≡ edits → live (inside new.blob) ≡ live (inside old.blob) → new.sectors ≡ old.sectors
-    → HasSectors after new → IsKept before old edits → IsKept after new edits'
-refused_add before after old new edits edits' same unwritten unmoved sectors h = record {
-  sectors = sectors;
-  listed = subst (λ (es : List Unsettled). AreIn new es) (sym same) (subst (λ (n : ℕ). InSectors 0 n (live (inside new.blob)) edits) (sym unmoved) (subst (λ (l : List ℕ). InSectors 0 old.sectors l edits) (sym unwritten) h.listed));
-  unsettled = subst (λ (es : List Unsettled). AreListed 0 (told_by new) es) (sym same) (subst (λ (l : List Found). AreListed 0 l edits) (sym (told_same_by old new unmoved unwritten)) h.unsettled);
-}
+-- a record isn't added
+pub refused_add : {R : Type 0} (before after : OverMemory R) (old new : Journal) (edits edits' : List Unsettled) → edits' ≡ edits → KeepsRecords before old after new → IsKept before old edits → IsKept after new edits'
+refused_add before after old new edits edits' same stays h = subst (λ (es : List Unsettled). IsKept after new es) (sym same) (refused_kept before after old new edits stays h)
 
 -- it is added
 pub done_add : {R : Type 0} (before after : OverMemory R) (old new : Journal) (edits reserved edits' : List Unsettled) (e : Unsettled) → edits' ≡ reserved ++ e ∷ [] → reserved ≡ edits
-    → live (inside new.blob) ≡ write_live (live (inside old.blob)) (old.sectors * 1024) (sector_of (edit_of e.edit) false) → new.sectors ≡ old.sectors + 1 → e.sector ≡ old.sectors
-    → HasSectors after new → IsKept before old edits → IsKept after new edits'
-done_add before after old new edits reserved edits' e more same written next at sectors h = record {
-  sectors = sectors;
-  listed = subst (λ (es : List Unsettled). AreIn new es) (sym (more ∙ ap (λ (l : List Unsettled). l ++ e ∷ []) same)) (subst (λ (n : ℕ). InSectors 0 n (live (inside new.blob)) (edits ++ e ∷ [])) (sym next) (subst (λ (l : List ℕ). InSectors 0 (old.sectors + 1) l (edits ++ e ∷ [])) (sym written)
-      (in_added 0 old.sectors (live (inside old.blob)) (sector_of (edit_of e.edit) false) edits e (omega arith) h.sectors.whole at refl h.listed)));
-  unsettled = subst (λ (es : List Unsettled). AreListed 0 (told_by new) es) (sym (more ∙ ap (λ (l : List Unsettled). l ++ e ∷ []) same))
-      (subst (λ (l : List Found). AreListed 0 l (edits ++ e ∷ [])) (sym (told_one_more old new e written next h.sectors.whole))
-      (listed_added 0 (told_by old) (found_in (sector_of (edit_of e.edit) false)) edits e (at_end_of old e at) h.unsettled));
-}
+    → e.record ≡ old.records → e.offset ≡ old.end
+    → AddsEdit (edit_of e.edit) before old after new → PackedAreFound → IsKept before old edits → IsKept after new edits'
+done_add before after old new edits reserved edits' e more same at there left law h =
+    let r : Record = record_of (edit_of e.edit) false in
+    let rs : List Record = h.records in
+    let number : e.record ≡ length rs = at ∙ sym h.has.count in
+    let offset : e.offset ≡ length (packed rs) = there ∙ sym h.has.end ∙ ap (λ (l : List ℕ). length l) h.has.seen in
+    let count : length (told_by old) ≡ length rs = ap (λ (l : List Found). length l) (told_is law rs (bytes_in old) h.has.fit h.has.seen) ∙ told_long rs in
+    subst (λ (es : List Unsettled). IsKept after new es) (sym (more ∙ ap (λ (l : List Unsettled). l ++ e ∷ []) same)) (record {
+      records = rs ++ r ∷ [];
+      has = left rs h.has;
+      listed = in_added 0 rs edits e (omega arith) number offset h.listed;
+      unsettled = subst (λ (l : List Found). AreListed 0 l (edits ++ e ∷ [])) (sym (told_one_more law before after old new rs r h.has (left rs h.has)))
+          (listed_added 0 (told_by old) (edit_found (Some r)) edits e (omega (arith, number, count)) h.unsettled);
+    })
 
 -- edits that are marked, and some of them
 pub marked_kept : {R : Type 0} (store : OverMemory R) (journal : Journal) (edits edits' : List Unsettled) (wants : Unsettled → Bool) → edits' ≡ map (marked wants) edits → IsKept store journal edits → IsKept store journal edits'
-marked_kept store journal edits edits' wants is h = record {
-  sectors = h.sectors;
-  listed = subst (λ (es : List Unsettled). AreIn journal es) (sym is) (in_marked wants 0 journal.sectors (live (inside journal.blob)) edits h.listed);
-  unsettled = subst (λ (es : List Unsettled). AreListed 0 (told_by journal) es) (sym is) (listed_marked wants 0 (told_by journal) edits h.unsettled);
-}
+marked_kept store journal edits edits' wants is h = subst (λ (es : List Unsettled). IsKept store journal es) (sym is) (record {
+  records = h.records;
+  has = h.has;
+  listed = in_marked wants 0 h.records edits h.listed;
+  unsettled = listed_marked wants 0 (told_by journal) edits h.unsettled;
+})
 
 pub filtered_kept : {R : Type 0} (before after : OverMemory R) (old new : Journal) (edits edits' : List Unsettled) → edits' ≡ filter unwanted edits → told_by new ≡ settled_in (is_marked_in edits) 0 (told_by old)
     → IsKept before old edits → IsKept after new edits → IsKept after new edits'
-filtered_kept before after old new edits edits' is told was h = record {
-  sectors = h.sectors;
-  listed = subst (λ (es : List Unsettled). AreIn new es) (sym is) (in_filtered unwanted 0 new.sectors (live (inside new.blob)) edits h.listed);
-  unsettled = subst (λ (es : List Unsettled). AreListed 0 (told_by new) es) (sym is)
-      (subst (λ (l : List Found). AreListed 0 l (filter unwanted edits)) (sym told) (listed_left edits (told_by old) was.unsettled));
-}
+filtered_kept before after old new edits edits' is told was h = subst (λ (es : List Unsettled). IsKept after new es) (sym is) (record {
+  records = h.records;
+  has = h.has;
+  listed = in_filtered unwanted 0 h.records edits h.listed;
+  unsettled = subst (λ (l : List Found). AreListed 0 l (filter unwanted edits)) (sym told) (listed_left edits (told_by old) was.unsettled);
+})
 
 -- a journal with no unsettled edit, of which nothing is pending
-pub fixed_kept : {R : Type 0} (store : OverMemory R) (journal : Journal) (edits : List Unsettled) (bytes : List ℕ) → Represents store → is_current (directory (inner_of store)) (place (inside journal.blob)) ≡ true
-    → (place (inside journal.blob)).number < (directory (inner_of store)).next → IsFixed store (place (inside journal.blob)) bytes → live (inside journal.blob) ≡ bytes → HasWholeSectors bytes → journal.sectors ≡ length bytes / 1024
-    → AreSettled (found_in_all (length bytes / 1024) bytes) → edits ≡ [] → IsKept store journal edits
-fixed_kept store journal edits bytes files now given fixed is whole count settled none =
-    let long : length (live (inside journal.blob)) ≡ journal.sectors * 1024 = ap (λ (l : List ℕ). length l) is ∙ sym whole ∙ ap (λ (n : ℕ). n * 1024) (sym count) in
-    record {
-      sectors = record {
-        whole = long;
-        found = only_fixed store (place (inside journal.blob)) bytes (may_be_found journal.sectors (live (inside journal.blob))) files now given fixed
-            (ap (may_be_found journal.sectors (live (inside journal.blob))) (sym is) ∙ found_self journal.sectors (live (inside journal.blob)) long);
+pub fixed_kept : {R : Type 0} → PackedIsLeft → (store : OverMemory R) (journal : Journal) (edits : List Unsettled) (bytes : List ℕ) (count : ℕ) → Represents store → is_current (directory (inner_of store)) (place (inside journal.blob)) ≡ true
+    → (place (inside journal.blob)).number < (directory (inner_of store)).next → IsFixed store (place (inside journal.blob)) bytes → bytes_in journal ≡ bytes → IsPacked count bytes → journal.records ≡ count → journal.end ≡ length bytes
+    → AreSettled (found_in bytes) → edits ≡ [] → IsKept store journal edits
+fixed_kept law store journal edits bytes count files now given fixed is p counted long settled none =
+    subst (λ (es : List Unsettled). IsKept store journal es) (sym none) (record {
+      records = p.records;
+      has = record {
+        seen = is ∙ p.is;
+        count = p.counted ∙ sym counted;
+        end = ap (λ (l : List ℕ). length l) is ∙ sym long;
+        fit = p.fit;
+        found = only_fixed store (place (inside journal.blob)) bytes (may_be_left 0 p.records) files now given fixed (ap (may_be_left 0 p.records) p.is ∙ law p.records);
       };
-      listed = subst (λ (es : List Unsettled). AreIn journal es) (sym none) tt;
-      unsettled = listed_none 0 (told_by journal) edits (subst AreSettled (sym (ap₂ (λ (n : ℕ) (l : List ℕ). found_in_all n l) count is)) settled);
-    }
+      listed = tt;
+      unsettled = listed_none 0 (told_by journal) [] (subst (λ (l : List ℕ). AreSettled (found_in l)) (sym is) settled);
+    })
 
 -- the next journal's blob is another
 pub other_journal : (a b : Place) (g : ℕ) → g < 2 ^ 64 → g + 1 < 2 ^ 64 → a.name ≡ to_be_bytes w64 (g + 1) → b.name ≡ to_be_bytes w64 g → same_place a b ≡ false

@@ -1,124 +1,15 @@
 -- What calls make of the edits that a journal was told.
-use Rattle.std.proofs.Common.{◌≡◌, ⊎_elim, ℕ, zero, suc, ◌+◌, ◌*◌, ◌<◌, ◌≤◌, Bool, true, false, ◌&&◌, ◌||◌, List, [], ◌∷◌, ◌++◌, Some, None, length, get_or, drop, take, refl, sym, ◌∙◌, ap, ap₂, arith, ◌-◌}
-use Rattle.std.specs.Prelude.{nat_eq, replicate, if◌then◌else◌}
+use Rattle.std.proofs.Common.{◌≡◌, ℕ, suc, ◌+◌, ◌<◌, Bool, true, false, ◌&&◌, ◌||◌, List, [], ◌∷◌, ◌++◌, Some, None, length, get_or, take, refl, sym, ◌∙◌, ap, ap₂}
+use Rattle.std.specs.Prelude.{nat_eq}
 use Rattle.std.specs.List.{list_any}
 use Rattle.std.specs.Coded.{Coded, Coded-set, Unit-prop, ×_prop, →_prop, coded×, coded_bool, coded_list, coded_option, coded_ℕ}
-use Rattle.std.proofs.lemmas.Bool.{cases_Bool, cases_eq, false≢true}
-use Rattle.std.proofs.lemmas.Bool.Decides.{nat_tests}
-use Rattle.std.proofs.lemmas.List.{length-drop, take_more}
-use Rattle.blob_model.specs.Bytes.{write_live}
+use Rattle.std.proofs.lemmas.Bool.{false≢true}
+use Rattle.std.proofs.lemmas.List.{take_more}
 use Rattle.blob_directory.specs.declared.unsettled.Unsettled.{Unsettled}
 use Rattle.blob_directory.specs.contracts.edit.Binding as binding
-use Rattle.blob_directory.specs.Names.{Edit, edit_of}
-use Rattle.blob_directory.specs.Profiles.{found_in_all}
-use Rattle.blob_directory.specs.Sectors.{Found, edit_bytes, found_in, has_change, edit_told, sector_of}
-use Rattle.blob_directory.proofs.Checkpoints.{sector_long}
-use Rattle.blob_journal.specs.declared.journal.Journal.{Journal}
-use Rattle.blob_journal.specs.Keeping.{bytes_in, told_by}
-use Rattle.blob_journal.specs.Sectors.{HasEdit, sector_at}
+use Rattle.blob_directory.specs.Names.{Edit}
+use Rattle.blob_directory.specs.Records.{Found}
 use Rattle.blob_journal.specs.Told.{Grows, edit_in, is_marked_in, settle_one, settled_in, was_settled}
-use Rattle.blob_journal.proofs.Listed.{live_other, live_written}
-use Rattle.blob_journal.proofs.Told.{first_sector, next_sector}
-
--- what the sectors from one on have
-list_from : ℕ → ℕ → (ℕ → Found) → List Found
-list_from zero k f = []
-list_from (suc n) k f = f k ∷ list_from n (suc k) f
-
-same_list : (n k : ℕ) (f h : ℕ → Found) → ((i : ℕ) → k ≤ i → i < k + n → f i ≡ h i) → list_from n k f ≡ list_from n k h
-unfolding list_from
-same_list zero k f h same = refl
-same_list (suc n) k f h same = ap₂ (λ (a : Found) (b : List Found). a ∷ b) (same k (omega arith) (omega arith)) (same_list n (suc k) f h (λ i low high. same i (omega (arith, low)) (omega (arith, high))))
-
-shifted : (n k : ℕ) (f : ℕ → Found) → list_from n k (λ i. f (suc i)) ≡ list_from n (suc k) f
-unfolding list_from
-shifted zero k f = refl
-shifted (suc n) k f = ap (λ (l : List Found). f (suc k) ∷ l) (shifted n (suc k) f)
-
-last_of : (n k : ℕ) (f : ℕ → Found) → list_from (suc n) k f ≡ list_from n k f ++ f (k + n) ∷ []
-unfolding list_from
-last_of zero k f = ap (λ (i : ℕ). f i ∷ []) (omega arith)
-last_of (suc n) k f = ap (λ (l : List Found). f k ∷ l) (last_of n (suc k) f ∙ ap (λ (i : ℕ). list_from n (suc k) f ++ f i ∷ []) (omega arith))
-
-settled_list : (which : ℕ → Bool) (n k : ℕ) (f : ℕ → Found) → settled_in which k (list_from n k f) ≡ list_from n k (λ i. settle_one (which i) (f i))
-unfolding list_from
-settled_list which zero k f = refl
-settled_list which (suc n) k f = ap (λ (l : List Found). settle_one (which k) (f k) ∷ l) (settled_list which n (suc k) f)
-
-by_sectors : (n : ℕ) (w : List ℕ) → length w ≡ n * 1024 → found_in_all n w ≡ list_from n 0 (λ i. found_in (sector_at w i))
-unfolding list_from
-by_sectors zero w long = refl
-by_sectors (suc n) w long =
-    ap₂ (λ (a : Found) (b : List Found). a ∷ b) (ap found_in (sym (first_sector w (omega (arith, long)))))
-    (by_sectors n (drop 1024 w) (length-drop 1024 w ∙ omega (arith, long))
-    ∙ same_list n 0 (λ i. found_in (sector_at (drop 1024 w) i)) (λ i. found_in (sector_at w (suc i))) (λ i low high. ap found_in (next_sector w i))
-    ∙ shifted n 0 (λ i. found_in (sector_at w i)))
-
--- one more sector
-pub told_added : (n : ℕ) (w w' b : List ℕ) → length w ≡ n * 1024 → length w' ≡ (n + 1) * 1024 → length b ≡ 1024 → w' ≡ write_live w (n * 1024) b → found_in_all (n + 1) w' ≡ found_in_all n w ++ found_in b ∷ []
-told_added n w w' b long long' size made =
-    let more : n + 1 ≡ suc n = omega arith in
-    let at : sector_at w' n ≡ b = ap (λ (l : List ℕ). sector_at l n) made ∙ live_written w n b (omega (arith, long)) size in
-    ap (λ (m : ℕ). found_in_all m w') more
-    ∙ by_sectors (suc n) w' (omega (arith, long'))
-    ∙ last_of n 0 (λ i. found_in (sector_at w' i))
-    ∙ ap₂ (λ (l : List Found) (f : Found). l ++ f ∷ [])
-    (same_list n 0 (λ i. found_in (sector_at w' i)) (λ i. found_in (sector_at w i))
-    (λ i low high. ap found_in (ap (λ (l : List ℕ). sector_at l i) made ∙ live_other w n b i (omega (arith, long)) size (λ e. omega (arith, high, e))))
-    ∙ sym (by_sectors n w long))
-    (ap found_in (ap (λ (i : ℕ). sector_at w' i) (omega arith) ∙ at))
-
--- the sector of an edit that is settled
-rest_of : Edit → List ℕ
-rest_of edit = take 1023 (edit_bytes edit) ++ replicate (1024 - length (1 ∷ edit_bytes edit)) 0
-
-shape : (edit : Edit) (settled : Bool) → sector_of edit settled ≡ (if settled then 2 else 1) ∷ rest_of edit
-unfolding sector_of rest_of
-shape edit true = refl
-shape edit false = refl
-
-by_change : (b s : Bool) (edit : Edit) → (if b then Some (edit, true) else None) ≡ settle_one true (if b then Some (edit, nat_eq (if s then 2 else 1) 2) else None)
-by_change true true edit = refl
-by_change true false edit = refl
-by_change false s edit = refl
-
-of_mark : (settled : Bool) (rest : List ℕ) → found_in (2 ∷ rest) ≡ settle_one true (found_in ((if settled then 2 else 1) ∷ rest))
-unfolding found_in
-of_mark settled rest = by_change (has_change rest) settled (edit_told rest)
-
-flagged : (edit : Edit) (settled : Bool) → found_in (sector_of edit true) ≡ settle_one true (found_in (sector_of edit settled))
-flagged edit settled = ap found_in (shape edit true) ∙ of_mark settled (rest_of edit) ∙ ap (λ (l : List ℕ). settle_one true (found_in l)) (sym (shape edit settled))
-
--- a settled sector
-pub told_settled : (n : ℕ) (w w' : List ℕ) (item : Unsettled) → item.sector < n → length w ≡ n * 1024 → length w' ≡ n * 1024 → HasEdit w item
-    → w' ≡ write_live w (item.sector * 1024) (sector_of (edit_of item.edit) true) → found_in_all n w' ≡ settled_in (λ i. nat_eq item.sector i) 0 (found_in_all n w)
-told_settled n w w' item low long long' has made =
-    let k = item.sector in
-    let b : List ℕ = sector_of (edit_of item.edit) true in
-    let size = sector_long (edit_of item.edit) true in
-    let there : k * 1024 ≤ length w = omega (arith, long, low) in
-    by_sectors n w' long'
-    ∙ same_list n 0 (λ i. found_in (sector_at w' i)) (λ i. settle_one (nat_eq k i) (found_in (sector_at w i))) (λ i _ _. ⊎_elim
-    (λ (at : k ≡ i).
-    let yes : nat_eq k i ≡ true = grind (arith, nat_tests, at) in
-    ap found_in (ap (λ (l : List ℕ). sector_at l i) made ∙ ap (λ (j : ℕ). sector_at (write_live w (k * 1024) b) j) (sym at) ∙ live_written w k b there size)
-    ∙ flagged (edit_of item.edit) has.0 ∙ ap (λ (l : List ℕ). settle_one true (found_in l)) (sym has.1 ∙ ap (λ (j : ℕ). sector_at w j) at)
-    ∙ ap (λ (t : Bool). settle_one t (found_in (sector_at w i))) (sym yes))
-    (λ (other : k ≡ i → ⊥).
-    let no : nat_eq k i ≡ false = apart k i other in
-    ap found_in (ap (λ (l : List ℕ). sector_at l i) made ∙ live_other w k b i there size (λ e. other (sym e)))
-    ∙ sym (settle_none (found_in (sector_at w i))) ∙ ap (λ (t : Bool). settle_one t (found_in (sector_at w i))) (sym no))
-    (cases_eq k i))
-    ∙ sym (settled_list (λ i. nat_eq k i) n 0 (λ i. found_in (sector_at w i)))
-    ∙ ap (settled_in (λ i. nat_eq k i) 0) (sym (by_sectors n w long))
-  where
-    settle_none : (f : Found) → settle_one false f ≡ f
-    settle_none None = refl
-    settle_none (Some (edit, true)) = refl
-    settle_none (Some (edit, false)) = refl
-
-    apart : (k i : ℕ) → (k ≡ i → ⊥) → nat_eq k i ≡ false
-    apart k i other = ⊎_elim (λ (y : nat_eq k i ≡ true). let same : k ≡ i = grind (arith, nat_tests, y) in absurd (other same)) (λ (n : nat_eq k i ≡ false). n) (cases_Bool (nat_eq k i))
 
 -- settling twice, and nothing
 
@@ -154,11 +45,11 @@ any_append test (x ∷ xs) ys = ap (λ (b : Bool). test x || b) (any_append test
     grouped false b c = refl
 
 pub marked_more : (edits : List Unsettled) (k : ℕ) (item : Unsettled) (i : ℕ) → k < length edits → item ≡ get_or edits k item
-    → is_marked_in (take (k + 1) edits) i ≡ (is_marked_in (take k edits) i || (item.is_wanted && nat_eq item.sector i))
+    → is_marked_in (take (k + 1) edits) i ≡ (is_marked_in (take k edits) i || (item.is_wanted && nat_eq item.record i))
 marked_more edits k item i low is =
     ap (λ (l : List Unsettled). is_marked_in l i) (take_more edits k item low ∙ ap (λ (x : Unsettled). take k edits ++ x ∷ []) (sym is))
-    ∙ any_append (λ e. e.is_wanted && nat_eq e.sector i) (take k edits) (item ∷ [])
-    ∙ ap (λ (b : Bool). is_marked_in (take k edits) i || b) (or_false (item.is_wanted && nat_eq item.sector i))
+    ∙ any_append (λ e. e.is_wanted && nat_eq e.record i) (take k edits) (item ∷ [])
+    ∙ ap (λ (b : Bool). is_marked_in (take k edits) i || b) (or_false (item.is_wanted && nat_eq item.record i))
   where
     or_false : (b : Bool) → (b || false) ≡ b
     or_false true = refl
@@ -195,7 +86,7 @@ grows_added (f ∷ told) more = ((refl, λ h. h), grows_added told more)
 
 -- equal edits, and lists that grow, have one proof
 
-abbrev edit_code : Coded Edit
+abbrev pub edit_code : Coded Edit
 edit_code = coded_list (coded× (coded_list coded_ℕ) (coded_option (binding.the_row).coded))
 
 abbrev pub found_code : Coded Found
@@ -212,12 +103,3 @@ grows_prop (f ∷ a) (f' ∷ b) =
     let flag : IsProp (was_settled f ≡ true → was_settled f' ≡ true) = →_prop (Coded-set coded_bool (was_settled f') true) in
     let rest : IsProp (Grows a b) = grows_prop a b in
     ×_prop (×_prop edit flag) rest
-
--- a list of edits is as long as the journal has sectors
-
-pub found_length : (n : ℕ) (w : List ℕ) → length (found_in_all n w) ≡ n
-found_length zero w = refl
-found_length (suc n) w = ap suc (found_length n (drop 1024 w))
-
-pub same_length : (a b : Journal) → b.sectors ≡ a.sectors → length (told_by b) ≡ length (told_by a)
-same_length a b same = found_length b.sectors (bytes_in b) ∙ same ∙ sym (found_length a.sectors (bytes_in a))

@@ -5,7 +5,7 @@ use Rattle.blob_model.specs.Places.{Place}
 use Rattle.blob_memory.specs.Store.{directory, durable}
 use Rattle.blob_faulty.specs.Wrapper.{inner_of}
 use Rattle.blob_directory.specs.declared.unsettled.Unsettled.{Unsettled}
-use Rattle.blob_directory.specs.Sectors.{Found}
+use Rattle.blob_directory.specs.Records.{Found}
 use Rattle.blob_directory.specs.Syncs.{Wants, marked}
 use Rattle.blob_journal.specs.declared.journaled.Journaled.{Journaled}
 use Rattle.blob_journal.specs.Currents.{pending_at}

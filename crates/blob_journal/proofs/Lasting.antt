@@ -2,7 +2,7 @@
 use Rattle.std.proofs.Common.{◌≡◌, ℕ, suc, Bool, true, false, ◌||◌, List, [], ◌∷◌, ◌++◌, Some, None, length, drop, refl, ap, subst, ◌∙◌}
 use Rattle.std.specs.Prelude.{if◌then◌else◌}
 use Rattle.blob_directory.specs.Names.{Edit}
-use Rattle.blob_directory.specs.Sectors.{Found}
+use Rattle.blob_directory.specs.Records.{Found}
 use Rattle.blob_directory.specs.Settled.{AreSettled, IsBeside, changes_entry}
 use Rattle.blob_directory.proofs.Settled.{settled_counts}
 use Rattle.blob_journal.specs.Told.{Grows, SettledIsKept, SettledStays, Stays, after_loss, edit_in, was_settled}

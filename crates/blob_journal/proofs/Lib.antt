@@ -1,4 +1,4 @@
-pub mod Sectors
+pub mod Records
 pub mod Listed
 pub mod Told
 pub mod Growing
@@ -17,4 +17,5 @@ pub mod Telling
 pub mod Writes
 pub mod Fixed
 pub mod Limits
+pub mod Numbers
 pub mod Ready

@@ -13,8 +13,6 @@ use Rattle.blob_draws.specs.Recorded.{kept_entries}
 use Rattle.blob_faulty.specs.Keeps.{OverMemory}
 use Rattle.blob_faulty.specs.Wrapper.{inner_of}
 use Rattle.blob_directory.specs.declared.unsettled.Unsettled.{Unsettled}
-use Rattle.blob_directory.specs.Names.{Edit, edit_of}
-use Rattle.blob_directory.specs.Sectors.{sector_of}
 use Rattle.blob_journal.specs.Currents.{KeepsFiles, left_at, pending_at}
 use Rattle.blob_journal.specs.Settling.{Changes, all_settled, with_marked, with_settled}
 
@@ -60,19 +58,14 @@ pub kept_over : (t : Choices) (offset : ℕ) (bytes x : List ℕ) → (bytes ≡
 kept_over t offset [] x some = absurd (some refl)
 kept_over t offset (b ∷ bytes) x some = refl
 
-pub settled_left : (t : Choices) (entries : List Entry) (offset at : ℕ) (bytes sector : List ℕ) (mid before after : Option (List ℕ)) → entries ≡ kept_entries offset bytes → (sector ≡ [] → ⊥)
-    → offset ≡ at → bytes ≡ sector → mid ≡ before → after ≡ option_map (λ x. replay_log x entries t) mid → after ≡ option_map (λ x. overlay x at sector) before
-settled_left t entries offset at bytes sector mid before after kept some there same old is =
+pub settled_left : (t : Choices) (entries : List Entry) (offset at : ℕ) (bytes written : List ℕ) (mid before after : Option (List ℕ)) → entries ≡ kept_entries offset bytes → (written ≡ [] → ⊥)
+    → offset ≡ at → bytes ≡ written → mid ≡ before → after ≡ option_map (λ x. replay_log x entries t) mid → after ≡ option_map (λ x. overlay x at written) before
+settled_left t entries offset at bytes written mid before after kept some there same old is =
     is
     ∙ ap (λ (es : List Entry). option_map (λ x. replay_log x es t) mid) kept
     ∙ mapped_alike (λ x. replay_log x (kept_entries offset bytes) t) (λ x. overlay x offset bytes) mid (λ x. kept_over t offset bytes x (λ e. some (sym same ∙ e)))
     ∙ ap₂ (λ (n : ℕ) (b : List ℕ). option_map (λ x. overlay x n b) mid) there same
-    ∙ ap (λ (v : Option (List ℕ)). option_map (λ x. overlay x at sector) v) old
-
--- a sector isn't empty
-pub some_sector : (edit : Edit) → sector_of edit true ≡ [] → ⊥
-unfolding sector_of
-some_sector edit e = cc
+    ∙ ap (λ (v : Option (List ℕ)). option_map (λ x. overlay x at written) v) old
 
 -- one more edit of a list
 pub one_more : (edits : List Unsettled) (k : ℕ) (item : Unsettled) → k < length edits → item ≡ get_or edits k item → (x : List ℕ)
@@ -81,10 +74,10 @@ one_more edits k item low is x = ap (with_marked (all_settled (take k edits) x))
 
 module _ {R : Type 0} (edits : List Unsettled) (k : ℕ) (item : Unsettled) (low : k < length edits) (is : item ≡ get_or edits k item) where
   pub marked_more : (a b c : OverMemory R) (o at : Place) → at ≡ o → directory (inner_of b) ≡ directory (inner_of a) → item.is_wanted ≡ true
-      → Changes a b o (all_settled (take k edits)) → Changes b c at (with_settled item.sector (edit_of item.edit)) → Changes a c o (all_settled (take (k + 1) edits))
+      → Changes a b o (all_settled (take k edits)) → Changes b c at (with_settled item) → Changes a c o (all_settled (take (k + 1) edits))
   marked_more a b c o at there same wanted x y =
       let f : List ℕ → List ℕ = all_settled (take k edits) in
-      let h : List ℕ → List ℕ = with_settled item.sector (edit_of item.edit) in
+      let h : List ℕ → List ℕ = with_settled item in
       changes_alike a c o (λ x. h (f x)) (all_settled (take (k + 1) edits)) (λ x. sym (cond-true item.is_wanted (h (f x)) (f x) wanted) ∙ one_more edits k item low is x)
       (changes_more a b c o f h same x (subst (λ (p : Place). Changes b c p h) there y))
 
@@ -92,7 +85,7 @@ module _ {R : Type 0} (edits : List Unsettled) (k : ℕ) (item : Unsettled) (low
   unmarked_more a b o unwanted x =
       let f : List ℕ → List ℕ = all_settled (take k edits) in
       changes_alike a b o f (all_settled (take (k + 1) edits))
-      (λ x. sym (cond-false item.is_wanted (with_settled item.sector (edit_of item.edit) (f x)) (f x) unwanted) ∙ one_more edits k item low is x) x
+      (λ x. sym (cond-false item.is_wanted (with_settled item (f x)) (f x) unwanted) ∙ one_more edits k item low is x) x
 
 -- calls that keep the journal, before a change and after it
 pub changes_before : {R : Type 0} (a b c : OverMemory R) (o : Place) (f : List ℕ → List ℕ) → durable (inner_of b) o ≡ durable (inner_of a) o → pending_at b o ≡ pending_at a o → KeepsFiles a b

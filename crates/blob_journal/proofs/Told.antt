@@ -1,45 +1,22 @@
 -- The edits that may be found of a journal are those that it was told, without some that nothing settled.
-use Rattle.std.proofs.Common.{◌≡◌, ◌⊎◌, inl, inr, ⊎_elim, ℕ, zero, suc, ◌+◌, ◌*◌, ◌/◌, ◌<◌, ◌≤◌, Bool, true, false, not, ◌&&◌, ◌||◌, List, [], ◌∷◌, Some, None, length, get_or, drop, take, refl, sym, ◌∙◌, ap, ap₂, arith}
-use Rattle.std.specs.Prelude.{replicate, nat_eq, if◌then◌else◌}
-use Rattle.std.specs.Str.{bytes_eq}
-use Rattle.std.specs.Cmp.Lexicographic.{bytes_decides}
-use Rattle.std.proofs.lemmas.Bool.{and_parts, cases_Bool, cond-true, cond-false}
-use Rattle.std.proofs.lemmas.List.{get_or-drop, get_or-take, length-take, length-drop}
+use Rattle.std.proofs.Common.{◌≡◌, ℕ, zero, suc, ◌+◌, Bool, true, false, ◌||◌, List, [], ◌∷◌, ◌++◌, Some, None, get_or, is_some, map, refl, sym, ◌∙◌, ap, ap₂, arith}
+use Rattle.std.specs.Prelude.{replicate, not, if◌then◌else◌}
+use Rattle.blob_packed.specs.Losses as losses
+use Rattle.blob_packed.specs.Losses.{HasThese}
+use Rattle.blob_packed.specs.Records.{Record, found_from}
+use Rattle.blob_packed.specs.Records as packed
 use Rattle.blob_directory.specs.declared.profile.Keeps.{Keeps}
 use Rattle.blob_directory.specs.Names.{Edit}
-use Rattle.blob_directory.specs.Profiles.{edits_of, found_in_all, is_prefix, kept_edits}
-use Rattle.blob_directory.specs.Sectors.{Found, edit_told, found_in, has_change}
-use Rattle.blob_directory.proofs.Sectors.{lost_has_none}
-use Rattle.blob_journal.specs.Sectors.{is_left, is_settled, may_be_found, sector_at}
-use Rattle.blob_journal.specs.Told.{after_loss, chosen_of, edits_kept}
-use Rattle.blob_journal.proofs.Sectors.{found_parts, is_sector, length_sector, past_end, sector_byte}
+use Rattle.blob_directory.specs.Profiles.{edits_of, is_prefix, kept_edits}
+use Rattle.blob_directory.specs.Records.{Found, edit_found, edit_told, found_in, has_edit}
+use Rattle.blob_journal.specs.Told.{after_loss, edits_kept}
+use Rattle.blob_journal.proofs.Records.{told_of}
 
--- the first sector, and those behind it
+-- those of the edits that were found
+pub chosen_of : List Found → ℕ → Bool
+chosen_of found n = is_some (get_or found n None)
 
-zero_add : (j : ℕ) → 0 * 1024 + j ≡ j
-zero_add j = omega arith
-
-pub first_sector : (x : List ℕ) → 1024 ≤ length x → sector_at x 0 ≡ take 1024 x
-first_sector x long = is_sector x 0 (take 1024 x) (length-take 1024 x ∙ omega (arith, long)) (λ j low. ap (λ (p : ℕ). get_or x p 0) (zero_add j) ∙ sym (get_or-take 1024 x j 0 low))
-
-pub next_sector : (x : List ℕ) (i : ℕ) → sector_at (drop 1024 x) i ≡ sector_at x (suc i)
-next_sector x i = is_sector (drop 1024 x) i (sector_at x (suc i)) (length_sector x (suc i))
-    (λ j low. get_or-drop 1024 x (i * 1024 + j) 0 ∙ ap (λ (p : ℕ). get_or x p 0) (omega arith) ∙ sym (sector_byte x (suc i) j low))
-
--- what a sector has
-
-abbrev flag : (edit : Edit) (settled : Bool) → Found
-flag edit settled = Some (edit, settled)
-
-marked_as : (s : List ℕ) → (found_in s ≡ None) ⊎ ((edit : Edit) × (found_in s ≡ Some (edit, is_settled s)))
-unfolding found_in
-marked_as [] = inl refl
-marked_as (mark ∷ bytes) = ⊎_elim
-    (λ y. inr (edit_told bytes, cond-true (has_change bytes) (Some (edit_told bytes, nat_eq mark 2)) None y))
-    (λ n. inl (cond-false (has_change bytes) (Some (edit_told bytes, nat_eq mark 2)) None n))
-    (cases_Bool (has_change bytes))
-
--- what is left of one
+-- what is left of an edit
 abbrev left_of : Bool → Found → Found
 left_of chosen None = None
 left_of chosen (Some (edit, settled)) = if settled || chosen then Some (edit, settled) else None
@@ -48,83 +25,84 @@ loses_one : (f : ℕ → Bool) (n : ℕ) (found : Found) (told : List Found) →
 loses_one f n None told = refl
 loses_one f n (Some (edit, settled)) told = refl
 
-left_chosen : (found : Found) → left_of true found ≡ found
-left_chosen None = refl
-left_chosen (Some (edit, true)) = refl
-left_chosen (Some (edit, false)) = refl
+-- The edits of the records that are left.
 
-left_lost : (found : Found) (s : List ℕ) → (found ≡ None) ⊎ ((edit : Edit) × (found ≡ Some (edit, is_settled s))) → is_settled s ≡ false → left_of false found ≡ None
-left_lost found s cases loose = ⊎_elim
-    (λ none. ap (left_of false) none)
-    (λ some. ap (left_of false) (some.1 ∙ ap (λ (b : Bool). flag some.0 b) loose))
-    cases
+abbrev one_if : Bool → Edit → Bool → Found
+one_if has edit settled = if has then Some (edit, settled) else None
 
--- a sector that may be found has what is left of it
-one : (s t : List ℕ) → is_left s t ≡ true → found_in t ≡ left_of (bytes_eq t s) (found_in s)
-one s t h = ⊎_elim
-    (λ (same : bytes_eq t s ≡ true). ap found_in ((bytes_decides t s).0 same) ∙ sym (left_chosen (found_in s)) ∙ ap (λ (b : Bool). left_of b (found_in s)) (sym same))
-    (λ (other : bytes_eq t s ≡ false).
-    let rest : (not (is_settled s) && bytes_eq t (replicate 1024 0)) ≡ true = sym (ap (λ (b : Bool). b || (not (is_settled s) && bytes_eq t (replicate 1024 0))) other) ∙ h in
-    let both = and_parts (not (is_settled s)) (bytes_eq t (replicate 1024 0)) rest in
-    ap found_in ((bytes_decides t (replicate 1024 0)).0 both.1) ∙ lost_has_none
-    ∙ sym (left_lost (found_in s) s (marked_as s) (unset (is_settled s) both.0)) ∙ ap (λ (b : Bool). left_of b (found_in s)) (sym other))
-    (cases_Bool (bytes_eq t s))
-  where
-    unset : (b : Bool) → not b ≡ true → b ≡ false
-    unset true e = cc
-    unset false e = refl
+edit_left : (has kept : Bool) (edit : Edit) (settled : Bool) → (if kept then one_if has edit settled else None) ≡ (if has then one_if kept edit settled else None)
+edit_left true true edit settled = refl
+edit_left true false edit settled = refl
+edit_left false true edit settled = refl
+edit_left false false edit settled = refl
 
--- all sectors are lost from some place on
-none_kept : (keeps : Keeps) (lost : Bool) (n k : ℕ) (f : ℕ → Bool) (w x : List ℕ) → ((i : ℕ) → f (k + i) ≡ bytes_eq (sector_at x i) (sector_at w i)) → length w ≡ n * 1024
-    → ((i : ℕ) → i < n → is_left (sector_at w i) (sector_at x i) ≡ true) → ((i : ℕ) → sector_at x i ≡ replicate 1024 0)
-    → [] ≡ kept_edits keeps lost (after_loss f k (found_in_all n w))
-none_kept keeps lost zero k f w x choice long each zeros = refl
-none_kept keeps lost (suc n) k f w x choice long each zeros =
-    let s : List ℕ = take 1024 w in
-    let at : sector_at w 0 ≡ s = first_sector w (omega (arith, long)) in
-    let t : List ℕ = sector_at x 0 in
-    let here : f k ≡ bytes_eq t s = ap f (omega arith) ∙ choice 0 ∙ ap (λ (l : List ℕ). bytes_eq t l) at in
-    let none : left_of (f k) (found_in s) ≡ None =
-    ap (λ (b : Bool). left_of b (found_in s)) here ∙ sym (one s t (ap (λ (l : List ℕ). is_left l t) (sym at) ∙ each 0 (omega arith))) ∙ ap found_in (zeros 0) ∙ lost_has_none in
-    none_kept keeps (lost || is_prefix keeps) n (suc k) f (drop 1024 w) (drop 1024 x)
-    (λ i. ap f (omega arith) ∙ choice (suc i) ∙ ap₂ (λ (a b : List ℕ). bytes_eq a b) (sym (next_sector x i)) (sym (next_sector w i)))
-    (length-drop 1024 w ∙ omega (arith, long))
-    (λ i low. ap₂ (λ (a b : List ℕ). is_left a b) (next_sector w i) (next_sector x i) ∙ each (suc i) (omega (arith, low)))
-    (λ i. next_sector x i ∙ zeros (suc i))
-    ∙ ap (λ (l : List Found). kept_edits keeps lost l) (ap (λ (e : Found). e ∷ after_loss f (suc k) (found_in_all n (drop 1024 w))) (sym none) ∙ sym (loses_one f k (found_in s) (found_in_all n (drop 1024 w))))
+of_record : (kept : Bool) (r : Record) → edit_found (if kept then Some r else None) ≡ (if kept then edit_found (Some r) else None)
+of_record true r = refl
+of_record false r = refl
 
--- the same first edit, and then those behind it
-cons_kept : (keeps : Keeps) (lost : Bool) (e : Found) (xs ys : List Found) → ((l : Bool) → kept_edits keeps l xs ≡ kept_edits keeps l ys) → kept_edits keeps lost (e ∷ xs) ≡ kept_edits keeps lost (e ∷ ys)
-cons_kept keeps lost None xs ys same = same (lost || is_prefix keeps)
-cons_kept keeps lost (Some (edit, settled)) xs ys same =
-    ap₂ (λ (a b : List Edit). if settled || not lost then edit ∷ a else b) (same lost) (same lost)
+of_edit : (has chosen : Bool) (edit : Edit) (settled : Bool) → (if has then one_if (settled || chosen) edit settled else None) ≡ left_of chosen (one_if has edit settled)
+of_edit true chosen edit settled = refl
+of_edit false chosen edit settled = refl
 
-all_kept : (keeps : Keeps) (n m k : ℕ) (f : ℕ → Bool) (w x : List ℕ) → ((i : ℕ) → f (k + i) ≡ bytes_eq (sector_at x i) (sector_at w i)) → length w ≡ n * 1024 → length x ≡ m * 1024 → m ≤ n
-    → ((i : ℕ) → i < n → is_left (sector_at w i) (sector_at x i) ≡ true) → (lost : Bool)
-    → kept_edits keeps lost (found_in_all m x) ≡ kept_edits keeps lost (after_loss f k (found_in_all n w))
-all_kept keeps n zero k f w x choice long size less each lost = none_kept keeps lost n k f w x choice long each (λ i. past_end x i (omega (arith, size)))
-all_kept keeps zero (suc m) k f w x choice long size less each lost = absurd (omega (arith, less))
-all_kept keeps (suc n) (suc m) k f w x choice long size less each lost =
-    let s : List ℕ = take 1024 w in
-    let t : List ℕ = take 1024 x in
-    let at : sector_at w 0 ≡ s = first_sector w (omega (arith, long)) in
-    let to : sector_at x 0 ≡ t = first_sector x (omega (arith, size)) in
-    let here : f k ≡ bytes_eq t s = ap f (omega arith) ∙ choice 0 ∙ ap₂ (λ (a b : List ℕ). bytes_eq a b) to at in
-    let same : found_in t ≡ left_of (f k) (found_in s) =
-    one s t (ap₂ (λ (a b : List ℕ). is_left a b) (sym at) (sym to) ∙ each 0 (omega arith)) ∙ ap (λ (b : Bool). left_of b (found_in s)) (sym here) in
-    let rest : List Found = found_in_all m (drop 1024 x) in
-    let told : List Found = after_loss f (suc k) (found_in_all n (drop 1024 w)) in
-    ap (λ (e : Found). kept_edits keeps lost (e ∷ rest)) same
-    ∙ cons_kept keeps lost (left_of (f k) (found_in s)) rest told
-    (λ l. all_kept keeps n m (suc k) f (drop 1024 w) (drop 1024 x)
-    (λ i. ap f (omega arith) ∙ choice (suc i) ∙ ap₂ (λ (a b : List ℕ). bytes_eq a b) (sym (next_sector x i)) (sym (next_sector w i)))
-    (length-drop 1024 w ∙ omega (arith, long)) (length-drop 1024 x ∙ omega (arith, size)) (omega (arith, less))
-    (λ i low. ap₂ (λ (a b : List ℕ). is_left a b) (next_sector w i) (next_sector x i) ∙ each (suc i) (omega (arith, low))) l)
-    ∙ ap (λ (l : List Found). kept_edits keeps lost l) (sym (loses_one f k (found_in s) (found_in_all n (drop 1024 w))))
+one_left : (chosen : Bool) (r : Record) → edit_found (if r.1 || chosen then Some r else None) ≡ left_of chosen (edit_found (Some r))
+one_left chosen r = of_record (r.1 || chosen) r ∙ edit_left (has_edit r.0) (r.1 || chosen) (edit_told r.0) r.1 ∙ of_edit (has_edit r.0) chosen (edit_told r.0) r.1
 
-pub found_edits : (keeps : Keeps) (n : ℕ) (w x : List ℕ) → length w ≡ n * 1024 → may_be_found n w x ≡ true → edits_of keeps x ≡ edits_kept keeps (chosen_of w x) (found_in_all n w)
-found_edits keeps n w x long h =
-    let f = found_parts n w x h in
-    let whole = f.whole in
-    let short = f.short in
-    all_kept keeps n (length x / 1024) 0 (chosen_of w x) w x (λ i. ap (chosen_of w x) (omega arith)) long (sym whole) (omega (arith, whole, short)) f.each false
+all_left : (f : ℕ → Bool) (n : ℕ) (rs : List Record) → map edit_found (losses.after_loss f n rs) ≡ after_loss f n (told_of rs)
+all_left f n [] = refl
+all_left f n (r ∷ rs) = ap₂ (λ (x : Found) (l : List Found). x ∷ l) (one_left (f n) r) (all_left f (suc n) rs) ∙ sym (loses_one f n (edit_found (Some r)) (told_of rs))
+
+-- lost ones behind the last that was found
+with_lost : (found : List packed.Found) (last : ℕ) → map edit_found (found ++ replicate last None) ≡ map edit_found found ++ replicate last None
+with_lost [] zero = refl
+with_lost [] (suc last) = ap (λ (l : List Found). None ∷ l) (with_lost [] last)
+with_lost (x ∷ found) last = ap (λ (l : List Found). edit_found x ∷ l) (with_lost found last)
+
+kept_before : (keeps : Keeps) (lost : Bool) (found : List Found) (last : ℕ) → kept_edits keeps lost (found ++ replicate last None) ≡ kept_edits keeps lost found
+kept_before keeps lost [] zero = refl
+kept_before keeps lost [] (suc last) = kept_before keeps (lost || is_prefix keeps) [] last
+kept_before keeps lost (None ∷ found) last = kept_before keeps (lost || is_prefix keeps) found last
+kept_before keeps lost (Some (edit, settled) ∷ found) last =
+    ap (λ (l : List Edit). if settled || not lost then edit ∷ l else l) (kept_before keeps lost found last)
+
+-- The same is lost if the choice is of those that were found.
+
+same_left : (f : Found) (chosen picked : Bool) (left : Found) → left ≡ left_of chosen f → picked ≡ is_some left → left_of picked f ≡ left_of chosen f
+same_left None chosen picked left is same = refl
+same_left (Some (edit, true)) chosen picked left is same = refl
+same_left (Some (edit, false)) true picked left is same = ap (λ (b : Bool). left_of b (Some (edit, false))) (same ∙ ap is_some is)
+same_left (Some (edit, false)) false picked left is same = ap (λ (b : Bool). left_of b (Some (edit, false))) (same ∙ ap is_some is)
+
+parts : (x y : Found) (xs ys : List Found) → x ∷ xs ≡ y ∷ ys → (x ≡ y) × (xs ≡ ys)
+parts x y xs ys is = (cc, cc)
+
+none_left : (x : Found) (xs : List Found) → [] ≡ x ∷ xs → ⊥
+none_left x xs is = cc
+
+same_lost : (f pick : ℕ → Bool) (n last : ℕ) (found told : List Found) → found ++ replicate last None ≡ after_loss f n told → ((i : ℕ) → pick (n + i) ≡ is_some (get_or found i None))
+    → after_loss pick n told ≡ after_loss f n told
+same_lost f pick n last found [] is picks = refl
+same_lost f pick n zero [] (x ∷ told) is picks = absurd (none_left (left_of (f n) x) (after_loss f (suc n) told) (is ∙ loses_one f n x told))
+same_lost f pick n (suc last) [] (x ∷ told) is picks =
+    let both = parts None (left_of (f n) x) (replicate last None) (after_loss f (suc n) told) (is ∙ loses_one f n x told) in
+    loses_one pick n x told
+    ∙ ap₂ (λ (a : Found) (l : List Found). a ∷ l)
+    (same_left x (f n) (pick n) None both.0 (ap pick (omega arith) ∙ picks 0))
+    (same_lost f pick (suc n) last [] told both.1 (λ i. ap pick (omega arith) ∙ picks (suc i)))
+    ∙ sym (loses_one f n x told)
+same_lost f pick n last (y ∷ found) (x ∷ told) is picks =
+    let both = parts y (left_of (f n) x) (found ++ replicate last None) (after_loss f (suc n) told) (is ∙ loses_one f n x told) in
+    loses_one pick n x told
+    ∙ ap₂ (λ (a : Found) (l : List Found). a ∷ l)
+    (same_left x (f n) (pick n) y both.0 (ap pick (omega arith) ∙ picks 0))
+    (same_lost f pick (suc n) last found told both.1 (λ i. ap pick (omega arith) ∙ picks (suc i)))
+    ∙ sym (loses_one f n x told)
+
+-- the edits that count of bytes that may be found
+pub found_edits : (keeps : Keeps) (rs : List Record) (bytes : List ℕ) → HasThese rs bytes → edits_of keeps bytes ≡ edits_kept keeps (chosen_of (found_in bytes)) (told_of rs)
+unfolding chosen_of
+found_edits keeps rs bytes h =
+    let found : List Found = found_in bytes in
+    let all : found ++ replicate h.last None ≡ after_loss h.chosen 0 (told_of rs) =
+    sym (with_lost (found_from 0 bytes) h.last) ∙ ap (map edit_found) h.is ∙ all_left h.chosen 0 rs in
+    sym (kept_before keeps false found h.last)
+    ∙ ap (kept_edits keeps false) (all ∙ sym (same_lost h.chosen (chosen_of found) 0 h.last found (told_of rs) all (λ i. ap (chosen_of found) (omega arith))))

@@ -1,16 +1,17 @@
 -- Each edit of a journal that nothing settled is listed.
-use Rattle.std.proofs.Common.{◌≡◌, ⊎_elim, ℕ, zero, suc, ◌+◌, ◌<◌, Bool, true, false, not, ◌&&◌, ◌||◌, List, [], ◌∷◌, ◌++◌, Some, None, length, take, map, refl, sym, ◌∙◌, ap, ap₂, subst, arith}
+use Rattle.std.proofs.Common.{◌≡◌, ℕ, zero, suc, ◌+◌, ◌<◌, Bool, true, false, not, ◌&&◌, ◌||◌, List, [], ◌∷◌, ◌++◌, Some, None, length, take, map, refl, sym, ◌∙◌, ap, ap₂, subst, arith}
 use Rattle.std.specs.Prelude.{filter, nat_eq, slice_get, if◌then◌else◌}
 use Rattle.std.specs.Coded.{Coded-set, Unit-prop, ×_prop, coded_bool}
-use Rattle.std.proofs.lemmas.Bool.{cases_Bool}
 use Rattle.std.proofs.lemmas.Bool.Decides.{nat_tests}
 use Rattle.blob_directory.specs.declared.unsettled.Unsettled.{Unsettled}
-use Rattle.blob_directory.specs.Sectors.{Found}
+use Rattle.blob_directory.specs.Records.{Found}
 use Rattle.blob_directory.specs.Settled.{AreSettled}
 use Rattle.blob_directory.specs.Syncs.{marked}
-use Rattle.blob_journal.specs.Sectors.{AreListed, InSectors, IsListed, is_listed}
+use Rattle.blob_packed.specs.Records.{Record}
+use Rattle.blob_journal.specs.Records.{AreListed, InRecords, IsListed, is_listed}
 use Rattle.blob_journal.specs.Told.{is_marked_in, settle_one, settled_in}
 use Rattle.blob_journal.proofs.Growing.{any_append}
+use Rattle.blob_journal.proofs.Records.{apart}
 
 -- One edit.
 
@@ -40,18 +41,18 @@ listed_by : (edits edits' : List Unsettled) → ((i : ℕ) → is_listed edits i
 listed_by edits edits' more n [] h = tt
 listed_by edits edits' more n (f ∷ told) h = (listed_then (is_listed edits n) (is_listed edits' n) f (more n) h.0, listed_by edits edits' more (suc n) told h.1)
 
--- marks change no sector
-same_sectors : (wants : Unsettled → Bool) (edits : List Unsettled) (i : ℕ) → is_listed (map (marked wants) edits) i ≡ is_listed edits i
-same_sectors wants [] i = refl
-same_sectors wants (e ∷ edits) i = ap (λ (b : Bool). nat_eq e.sector i || b) (same_sectors wants edits i)
+-- marks change no record
+same_records : (wants : Unsettled → Bool) (edits : List Unsettled) (i : ℕ) → is_listed (map (marked wants) edits) i ≡ is_listed edits i
+same_records wants [] i = refl
+same_records wants (e ∷ edits) i = ap (λ (b : Bool). nat_eq e.record i || b) (same_records wants edits i)
 
 pub listed_marked : (wants : Unsettled → Bool) (n : ℕ) (told : List Found) (edits : List Unsettled) → AreListed n told edits → AreListed n told (map (marked wants) edits)
-listed_marked wants n told edits h = listed_by edits (map (marked wants) edits) (λ i is. same_sectors wants edits i ∙ is) n told h
+listed_marked wants n told edits h = listed_by edits (map (marked wants) edits) (λ i is. same_records wants edits i ∙ is) n told h
 
 abbrev pub unwanted : Unsettled → Bool
 unwanted e = not e.is_wanted
 
-any_if : (i : ℕ) (t : Bool) (e : Unsettled) (rest : List Unsettled) → is_listed (if t then e ∷ rest else rest) i ≡ (if t then (nat_eq e.sector i || is_listed rest i) else is_listed rest i)
+any_if : (i : ℕ) (t : Bool) (e : Unsettled) (rest : List Unsettled) → is_listed (if t then e ∷ rest else rest) i ≡ (if t then (nat_eq e.record i || is_listed rest i) else is_listed rest i)
 any_if i true e rest = refl
 any_if i false e rest = refl
 
@@ -71,7 +72,7 @@ marked_or_left : (edits : List Unsettled) (i : ℕ) → is_listed edits i ≡ tr
 marked_or_left [] i is = is
 marked_or_left (e ∷ edits) i is =
     ap (λ (b : Bool). is_marked_in (e ∷ edits) i || b) (any_if i (not e.is_wanted) e (filter unwanted edits))
-    ∙ by_mark e.is_wanted (nat_eq e.sector i) (is_listed edits i) (is_marked_in edits i) (is_listed (filter unwanted edits) i) (marked_or_left edits i) is
+    ∙ by_mark e.is_wanted (nat_eq e.record i) (is_listed edits i) (is_marked_in edits i) (is_listed (filter unwanted edits) i) (marked_or_left edits i) is
 
 one_left : (listed now left : Bool) (f : Found) → (listed ≡ true → (now || left) ≡ true) → IsListed listed f → IsListed left (settle_one now f)
 one_left listed now left None more h = tt
@@ -92,14 +93,14 @@ or_some : (a b : Bool) → a ≡ true → (a || b) ≡ true
 or_some a b is = ap (λ (x : Bool). x || b) is
 
 more_listed : (edits : List Unsettled) (e : Unsettled) (i : ℕ) → is_listed edits i ≡ true → is_listed (edits ++ e ∷ []) i ≡ true
-more_listed edits e i is = any_append (λ x. nat_eq x.sector i) edits (e ∷ []) ∙ or_some (is_listed edits i) (is_listed (e ∷ []) i) is
+more_listed edits e i is = any_append (λ x. nat_eq x.record i) edits (e ∷ []) ∙ or_some (is_listed edits i) (is_listed (e ∷ []) i) is
 
-last_listed : (edits : List Unsettled) (e : Unsettled) (i : ℕ) → e.sector ≡ i → is_listed (edits ++ e ∷ []) i ≡ true
+last_listed : (edits : List Unsettled) (e : Unsettled) (i : ℕ) → e.record ≡ i → is_listed (edits ++ e ∷ []) i ≡ true
 last_listed edits e i at =
-    let is : nat_eq e.sector i ≡ true = grind (arith, nat_tests, at) in
-    any_append (λ x. nat_eq x.sector i) edits (e ∷ []) ∙ ap (λ (b : Bool). is_listed edits i || (b || false)) is ∙ or_true (is_listed edits i)
+    let is : nat_eq e.record i ≡ true = grind (arith, nat_tests, at) in
+    any_append (λ x. nat_eq x.record i) edits (e ∷ []) ∙ ap (λ (b : Bool). is_listed edits i || (b || false)) is ∙ or_true (is_listed edits i)
 
-pub listed_added : (n : ℕ) (told : List Found) (found : Found) (edits : List Unsettled) (e : Unsettled) → e.sector ≡ n + length told
+pub listed_added : (n : ℕ) (told : List Found) (found : Found) (edits : List Unsettled) (e : Unsettled) → e.record ≡ n + length told
     → AreListed n told edits → AreListed n (told ++ found ∷ []) (edits ++ e ∷ [])
 listed_added n [] found edits e at h = (listed_now found (is_listed (edits ++ e ∷ []) n) (last_listed edits e n (omega (arith, at))), tt)
 listed_added n (f ∷ told) found edits e at h =
@@ -126,30 +127,30 @@ settled_below edits low (suc k) n [] is none h = tt
 settled_below edits low (suc k) n (f ∷ told) is none h =
     with_first f (take k told) (is_listed edits n) (none n (omega (arith, is))) h.0 (settled_below edits low k (suc n) told (omega (arith, is)) none h.1)
 
-apart : (k i : ℕ) → i < k → nat_eq k i ≡ false
-apart k i low = ⊎_elim (λ (y : nat_eq k i ≡ true). let same : k ≡ i = grind (arith, nat_tests, y) in absurd (omega (arith, same, low))) (λ (n : nat_eq k i ≡ false). n) (cases_Bool (nat_eq k i))
+below : (k i : ℕ) → i < k → nat_eq k i ≡ false
+below k i low = apart k i (λ e. omega (arith, e, low))
 
-none_below : (from n : ℕ) (w : List ℕ) (edits : List Unsettled) (i : ℕ) → i < from → InSectors from n w edits → is_listed edits i ≡ false
-none_below from n w [] i low h = refl
-none_below from n w (e ∷ edits) i low h =
+none_below : (from : ℕ) (records : List Record) (edits : List Unsettled) (i : ℕ) → i < from → InRecords from records edits → is_listed edits i ≡ false
+none_below from records [] i low h = refl
+none_below from records (e ∷ edits) i low h =
     let above = h.0 in
-    ap₂ (λ (a b : Bool). a || b) (apart e.sector i (omega (arith, low, above))) (none_below (suc e.sector) n w edits i (omega (arith, low, above)) h.3)
+    ap₂ (λ (a b : Bool). a || b) (below e.record i (omega (arith, low, above))) (none_below (suc e.record) records edits i (omega (arith, low, above)) h.2)
 
-first_below : (n : ℕ) (w : List ℕ) (e : Unsettled) (edits : List Unsettled) (i : ℕ) → i < e.sector → InSectors 0 n w (e ∷ edits) → is_listed (e ∷ edits) i ≡ false
-first_below n w e edits i low h = ap₂ (λ (a b : Bool). a || b) (apart e.sector i low) (none_below (suc e.sector) n w edits i (omega (arith, low)) h.3)
+first_below : (records : List Record) (e : Unsettled) (edits : List Unsettled) (i : ℕ) → i < e.record → InRecords 0 records (e ∷ edits) → is_listed (e ∷ edits) i ≡ false
+first_below records e edits i low h = ap₂ (λ (a b : Bool). a || b) (below e.record i low) (none_below (suc e.record) records edits i (omega (arith, low)) h.2)
 
-settled_first : (n : ℕ) (w : List ℕ) (e : Unsettled) (edits : List Unsettled) (told : List Found) → InSectors 0 n w (e ∷ edits) → AreListed 0 told (e ∷ edits) → AreSettled (take e.sector told)
-settled_first n w e edits told sectors h = settled_below (e ∷ edits) e.sector e.sector 0 told (omega arith) (λ i low. first_below n w e edits i low sectors) h
+settled_first : (records : List Record) (e : Unsettled) (edits : List Unsettled) (told : List Found) → InRecords 0 records (e ∷ edits) → AreListed 0 told (e ∷ edits) → AreSettled (take e.record told)
+settled_first records e edits told has h = settled_below (e ∷ edits) e.record e.record 0 told (omega arith) (λ i low. first_below records e edits i low has) h
 
 settled_all : (k : ℕ) (told : List Found) → AreListed 0 told [] → AreSettled (take k told)
 settled_all k told h = settled_below [] k k 0 told (omega arith) (λ i low. refl) h
 
-pub settled_by_first : (n : ℕ) (w : List ℕ) (e : Unsettled) (edits : List Unsettled) (told : List Found) → Some e ≡ slice_get edits 0 → InSectors 0 n w edits → AreListed 0 told edits → AreSettled (take e.sector told)
-settled_by_first n w e [] told first sectors h = let other : Some e ≡ None = first in absurd (cc)
-settled_by_first n w e (x ∷ edits) told first sectors h =
+pub settled_by_first : (records : List Record) (e : Unsettled) (edits : List Unsettled) (told : List Found) → Some e ≡ slice_get edits 0 → InRecords 0 records edits → AreListed 0 told edits → AreSettled (take e.record told)
+settled_by_first records e [] told first has h = let other : Some e ≡ None = first in absurd (cc)
+settled_by_first records e (x ∷ edits) told first has h =
     let same : Some e ≡ Some x = first in
     let is : e ≡ x = cc in
-    subst (λ (y : Unsettled). AreSettled (take y.sector told)) (sym is) (settled_first n w x edits told sectors h)
+    subst (λ (y : Unsettled). AreSettled (take y.record told)) (sym is) (settled_first records x edits told has h)
 
 pub settled_by_none : (k : ℕ) (edits : List Unsettled) (told : List Found) → None ≡ slice_get edits 0 → AreListed 0 told edits → AreSettled (take k told)
 settled_by_none k [] told first h = settled_all k told h

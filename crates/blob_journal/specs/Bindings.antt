@@ -4,11 +4,11 @@ use Rattle.blob_directory.specs.declared.edit.Binding.{Binding}
 use Rattle.blob_directory.specs.declared.profile.Keeps.{Keeps}
 use Rattle.blob_directory.specs.declared.profile.Keeps.TheVariants.{Any}
 use Rattle.blob_directory.specs.Names.{Edit, Names, Same, all_edited, edited, file}
-use Rattle.blob_directory.specs.Sectors.{Found}
+use Rattle.blob_directory.specs.Records.{Found}
 use Rattle.blob_directory.specs.Settled.{AreSettled}
 use Rattle.blob_journal.specs.Told.{OnlySettles, names_kept}
 
--- the edits of some sectors
+-- the edits of some records
 abbrev pub edits_in : List Found → List Edit
 edits_in [] = []
 edits_in (None ∷ told) = edits_in told

@@ -1,5 +1,5 @@
 -- What calls leave of a store's current incarnations.
-use Rattle.std.specs.Prelude.{◌≡◌, ◌&&◌, ◌<◌, ◌≤◌, [], List, ℕ, Option, Some, false, option_map, true}
+use Rattle.std.specs.Prelude.{◌≡◌, ◌&&◌, ◌<◌, ◌≤◌, [], List, ℕ, None, Option, Some, false, option_map, true}
 use Rattle.std.specs.Str.{bytes_eq}
 use Rattle.blob_model.specs.Directory.{is_current}
 use Rattle.blob_model.specs.Files.{Files}
@@ -24,6 +24,14 @@ KeepsOthers p n before after = (o : Place) → (bytes_eq p o.partition && bytes_
 -- the same names have the same incarnations
 abbrev pub SameDirectory : {R : Type 0} → OverMemory R → OverMemory R → Type 0
 SameDirectory before after = directory (inner_of after) ≡ directory (inner_of before)
+
+-- there is no blob of this name
+abbrev pub HasNoBlob : {R : Type 0} → List ℕ → List ℕ → OverMemory R → Type 0
+HasNoBlob p n store = (directory (inner_of store)).file p n ≡ None
+
+-- a blob that begins gets the store's next number
+abbrev pub BeginsNext : {R : Type 0} → List ℕ → List ℕ → OverMemory R → Place → Type 0
+BeginsNext p n before o = HasNoBlob p n before → o.number ≡ (directory (inner_of before)).next
 
 -- the durable bytes of any other name stay
 abbrev pub KeepsBytes : {R : Type 0} → List ℕ → List ℕ → OverMemory R → OverMemory R → Type 0

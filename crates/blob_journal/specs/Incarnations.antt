@@ -36,3 +36,7 @@ pub record IsIncarnation {R : Type 0} (store : OverMemory R) (p n : List ℕ) (o
 -- each one still is
 abbrev pub KeepsIncarnations : {R : Type 0} → OverMemory R → OverMemory R → Type 0
 KeepsIncarnations before after = (p n : List ℕ) (o : Place) → IsIncarnation before p n o → IsIncarnation after p n o
+
+-- each one of a partition does
+abbrev pub KeepsIncarnationsOf : {R : Type 0} → List ℕ → OverMemory R → OverMemory R → Type 0
+KeepsIncarnationsOf p before after = (n : List ℕ) (o : Place) → IsIncarnation before p n o → IsIncarnation after p n o

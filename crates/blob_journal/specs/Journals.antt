@@ -48,7 +48,7 @@ pub record FindsNames {R : Type 0} (j : Journaled R) (keeps : Keeps) (names : Na
   pub is : IsJournal (store_of j) (generation_of j) journal
   pub finds : Finds names (names_told keeps journal)
 
--- the same after a crash: the journal has those of its pending sectors that the crash kept
+-- the same after a crash: the journal has those of its pending records that the crash kept
 pub record FindsKept {R : Type 0} (j : Journaled R) (kept : Selections) (keeps : Keeps) (names : Names) : Type 0 where
   pub journal : List ℕ
   pub is : IsJournalAfter (store_of j) (generation_of j) kept journal

@@ -1,11 +1,12 @@
 -- The names that calls see, and what calls leave of them.
-use Rattle.std.specs.Prelude.{◌≡◌, ℕ, ◌+◌, ◌*◌, ◌++◌, List, [], ◌∷◌, Bool, false, Some}
+use Rattle.std.specs.Prelude.{◌≡◌, ℕ, ◌+◌, ◌++◌, List, [], ◌∷◌, Bool, false, Some}
 use Rattle.blob_faulty.specs.Lends.{with_rng}
 use Rattle.blob_faulty.specs.Wrapper.{rng_of}
 use Rattle.blob_model.specs.Bytes.{write_live}
+use Rattle.blob_packed.specs.Records.{record_bytes}
 use Rattle.blob_directory.specs.declared.table.Table.{Table}
 use Rattle.blob_directory.specs.Names.{Edit, Names, Same, edited}
-use Rattle.blob_directory.specs.Sectors.{Found, sector_of}
+use Rattle.blob_directory.specs.Records.{Found, record_of}
 use Rattle.blob_directory.specs.Settled.{AreSettled}
 use Rattle.blob_directory.specs.Tables.{bound}
 use Rattle.blob_directory.specs.Trees.{Finds}
@@ -44,19 +45,19 @@ SameBindings j j' = Same (names_in j) (names_in j')
 abbrev pub Edits : {R : Type 0} → Edit → Journaled R → Journaled R → Type 0
 Edits edit j j' = Same (names_in j') (edited (names_in j) edit)
 
--- the same after one write of one more sector, which has this edit whole
-abbrev pub with_sector : Journal → Edit → List ℕ
-with_sector journal edit = write_live (bytes_in journal) (journal.sectors * 1024) (sector_of edit false)
+-- the bytes of a journal after one write at their end, of one more record, which has this edit
+abbrev pub with_record : Journal → Edit → List ℕ
+with_record journal edit = write_live (bytes_in journal) journal.end (record_bytes journal.records (record_of edit false))
 
--- the journal has one more sector, of this edit
-abbrev pub AddsSector : {R : Type 0} → Edit → Journaled R → Journaled R → Type 0
-AddsSector edit j j' = (bytes_in j'.journal ≡ with_sector j.journal edit) × (j'.journal.sectors ≡ j.journal.sectors + 1)
+-- the journal has one more record, of this edit
+abbrev pub AddsRecord : {R : Type 0} → Edit → Journaled R → Journaled R → Type 0
+AddsRecord edit j j' = (bytes_in j'.journal ≡ with_record j.journal edit) × (j'.journal.records ≡ j.journal.records + 1)
 
 -- only the number up to which blobs of files were opened has changed
 abbrev pub NotesOpened : {R : Type 0} → Journaled R → Journaled R → Type 0
 NotesOpened j j' = (j'.store ≡ j.store) × (j'.journal ≡ j.journal) × (j'.names ≡ j.names) × (j'.unsettled ≡ j.unsettled)
 
--- the edits that the journal was told, in its sectors, each settled or not
+-- the edits that the journal was told, in its records, each settled or not
 abbrev pub told_in : {R : Type 0} → Journaled R → List Found
 told_in j = told_by j.journal
 

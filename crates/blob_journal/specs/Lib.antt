@@ -1,4 +1,4 @@
-pub mod Sectors
+pub mod Records
 pub mod Found
 pub mod Told
 pub mod Bindings

@@ -1,24 +1,38 @@
--- Errors that come from memory only, or from a counter or a length of 64 bits that is at its end.
+-- Errors that come only if memory, the numbers of 64 bits or the numbers of blobs run out.
 use Rattle.std.specs.Prelude.{◌≡◌, ◌==◌, ◌&&◌, ◌-◌, ◌^◌, not, ℕ, List, Bool, false, true, Option, None, Some, Result}
 use Rattle.blob_model.specs.Directory.{Directory, File, Incarnation, Raw}
-use Rattle.blob_header.specs.Refusals.{GenerationsExhausted, Memory, OffsetOverflow, Refusal, error_of}
+use Rattle.blob_header.specs.Refusals.{BlobMissing, GenerationsExhausted, Memory, OffsetOverflow, PartitionMissing, Refusal, error_of}
 use Rattle.blob_header.specs.declared.error.Error.{Error}
 use Rattle.blob_draws.specs.declared.config.Config.{Config}
 use Rattle.blob_memory.specs.Store.{directory}
 use Rattle.blob_faulty.specs.Keeps.{OverMemory}
 use Rattle.blob_faulty.specs.Wrapper.{config_of, inner_of}
 
--- no error, or one of these
-abbrev pub IsLimit : Option Refusal → Type 0
-IsLimit None = Unit {0}
-IsLimit (Some Memory) = Unit {0}
-IsLimit (Some GenerationsExhausted) = Unit {0}
-IsLimit (Some OffsetOverflow) = Unit {0}
-IsLimit (Some refusal) = ⊥
+-- by the number of the next blob: no error, or one of these. The last number is given to no blob
+abbrev pub IsLimit : ℕ → Option Refusal → Type 0
+IsLimit next None = Unit {0}
+IsLimit next (Some Memory) = Unit {0}
+IsLimit next (Some OffsetOverflow) = Unit {0}
+IsLimit next (Some GenerationsExhausted) = next ≡ 2 ^ 64 - 1
+IsLimit next (Some refusal) = ⊥
 
--- a result that isn't Ok has one of them
-abbrev pub FailsAtLimits : {T : Type 0} → Result T Error → Type 0
-FailsAtLimits r = IsLimit (error_of r)
+-- a result that isn't Ok has one of them, by the store after the call
+abbrev pub FailsAtLimits : {R T : Type 0} → OverMemory R → Result T Error → Type 0
+FailsAtLimits store r = IsLimit (directory (inner_of store)).next (error_of r)
+
+-- a removal was refused since there is no such blob
+abbrev pub is_missing : Option Refusal → Bool
+is_missing (Some (BlobMissing partition name)) = true
+is_missing (Some (PartitionMissing partition)) = true
+is_missing answer = false
+
+-- a removal returned Ok, or memory ran out, or there is no such blob
+abbrev pub IsRemoval : Option Refusal → Type 0
+IsRemoval None = Unit {0}
+IsRemoval (Some Memory) = Unit {0}
+IsRemoval (Some (BlobMissing partition name)) = Unit {0}
+IsRemoval (Some (PartitionMissing partition)) = Unit {0}
+IsRemoval (Some refusal) = ⊥
 
 -- an open for version 0 accepts the file, and its number isn't the last one
 abbrev pub is_accepted : Option File → Bool
@@ -41,6 +55,10 @@ no_faults = record { open_rate = None; read_rate = None; write_rate = None; sync
 -- no call fails by a draw
 abbrev pub DrawsNothing : {R : Type 0} → OverMemory R → Type 0
 DrawsNothing store = config_of store ≡ no_faults
+
+-- and an open for version 0 accepts each file
+abbrev pub OpensQuietly : {R : Type 0} → OverMemory R → Type 0
+OpensQuietly store = DrawsNothing store × AcceptsOpens (directory (inner_of store))
 
 -- the rates are the same
 abbrev pub SameFaults : {R : Type 0} → OverMemory R → OverMemory R → Type 0

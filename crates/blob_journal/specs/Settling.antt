@@ -1,5 +1,5 @@
--- The sectors that a sync settles.
-use Rattle.std.specs.Prelude.{◌≡◌, ℕ, ◌*◌, ◌++◌, Bool, true, false, List, [], ◌∷◌, get_or, if◌then◌else◌, map, option_map}
+-- The records that a sync settles.
+use Rattle.std.specs.Prelude.{◌≡◌, ℕ, ◌++◌, Bool, true, false, List, [], ◌∷◌, get_or, if◌then◌else◌, map, option_map}
 use Rattle.std.specs.List.{fold}
 use Rattle.blob_model.specs.Bytes.{overlay}
 use Rattle.blob_model.specs.Directory.{is_current}
@@ -8,6 +8,7 @@ use Rattle.blob_draws.specs.declared.selections.Selections.{Selections}
 use Rattle.blob_memory.specs.Store.{directory, durable, place}
 use Rattle.blob_faulty.specs.Keeps.{OverMemory}
 use Rattle.blob_faulty.specs.Wrapper.{inner_of, inside}
+use Rattle.blob_packed.specs.Records.{record_bytes}
 use Rattle.blob_directory.specs.declared.profile.Keeps.{Keeps}
 use Rattle.blob_directory.specs.declared.profile.Settles.{Settles}
 use Rattle.blob_directory.specs.declared.unsettled.About.{About}
@@ -15,7 +16,7 @@ use Rattle.blob_directory.specs.declared.unsettled.Synced.{Synced}
 use Rattle.blob_directory.specs.declared.unsettled.Unsettled.{Unsettled}
 use Rattle.blob_directory.specs.Names.{Edit, edit_of}
 use Rattle.blob_directory.specs.Profiles.{counts_in}
-use Rattle.blob_directory.specs.Sectors.{sector_of}
+use Rattle.blob_directory.specs.Records.{record_of}
 use Rattle.blob_directory.specs.Syncs.{Wants, marked}
 use Rattle.blob_journal.specs.declared.journaled.Journaled.{Journaled}
 use Rattle.blob_journal.specs.Currents.{KeepsFiles, LeftAs, Represents, pending_at}
@@ -39,17 +40,17 @@ pub record AddsUnsettled {R : Type 0} (e : Edit) (a : About) (n : ℕ) (j j' : J
   pub about : last.about ≡ a
   pub number : last.number ≡ n
 
--- by the sectors that count, of each of these edits whether its sector does
+-- by the records that count, of each of these edits whether its record does
 abbrev pub counted : List Bool → List Unsettled → List Bool
-counted counts edits = map (λ e. get_or counts e.sector false) edits
+counted counts edits = map (λ e. get_or counts e.record false) edits
 
--- the journal is found with these bytes, and this is of each edit that nothing settled whether its sector counts
+-- the journal is found with these bytes, and this is of each edit that nothing settled whether its record counts
 pub record FindsEdits {R : Type 0} (j : Journaled R) (keeps : Keeps) (edits : List Bool) : Type 0 where
   pub journal : List ℕ
   pub is : IsJournal (store_of j) (generation_of j) journal
   pub found : edits ≡ counted (counts_in keeps journal) (unsettled_of j)
 
--- the same after a crash that kept these rows: the journal has those of its pending sectors that the crash kept
+-- the same after a crash that kept these rows: the journal has those of its pending records that the crash kept
 pub record FindsKeptEdits {R : Type 0} (j : Journaled R) (kept : Selections) (keeps : Keeps) (edits : List Bool) : Type 0 where
   pub journal : List ℕ
   pub is : IsJournalAfter (store_of j) (generation_of j) kept journal
@@ -63,13 +64,13 @@ CrashKeepsEdits j kept j' = (keeps : Keeps) (edits : List Bool) → FindsEdits j
 abbrev pub place_of : {R : Type 0} → Journaled R → Place
 place_of j = place (inside j.journal.blob)
 
--- the sector of this number is that of the edit, settled
-abbrev pub with_settled : ℕ → Edit → List ℕ → List ℕ
-with_settled sector edit bytes = overlay bytes (sector * 1024) (sector_of edit true)
+-- the record of an edit again, settled
+abbrev pub with_settled : Unsettled → List ℕ → List ℕ
+with_settled e bytes = overlay bytes e.offset (record_bytes e.record (record_of (edit_of e.edit) true))
 
--- so is the sector of each marked edit, in their order
+-- so is that of each marked edit, in their order
 abbrev pub with_marked : List ℕ → Unsettled → List ℕ
-with_marked bytes e = if e.is_wanted then with_settled e.sector (edit_of e.edit) bytes else bytes
+with_marked bytes e = if e.is_wanted then with_settled e bytes else bytes
 
 abbrev pub all_settled : List Unsettled → List ℕ → List ℕ
 all_settled edits bytes = fold with_marked bytes edits
@@ -80,7 +81,7 @@ pub record Changes {R : Type 0} (before after : OverMemory R) (o : Place) (chang
   pub files : Represents before → is_current (directory (inner_of before)) o ≡ true → Represents after
   pub left : Represents before → is_current (directory (inner_of before)) o ≡ true → LeftAs before after o change
 
--- a sync settles exactly those edits that the profile says: their sectors are durable, marked as settled
+-- a sync settles exactly those edits that the profile says: their records are durable, marked as settled
 pub record SettlesEdits {R : Type 0} (settles : Settles) (synced : Synced) (j j' : Journaled R) : Type 0 where
   pub place : place_of j' ≡ place_of j
   pub wants : Unsettled → Bool

@@ -1,16 +1,14 @@
 -- The edits of a journal as they were told, and those of them that a crash keeps.
 use Rattle.std.specs.Prelude.{◌≡◌, ℕ, suc, Bool, true, false, ◌&&◌, ◌||◌, List, [], ◌∷◌, ◌++◌, length, drop, Option, Some, None, option_map, if◌then◌else◌, nat_eq}
 use Rattle.std.specs.List.{list_any}
-use Rattle.std.specs.Str.{bytes_eq}
 use Rattle.blob_directory.specs.declared.profile.Keeps.{Keeps}
 use Rattle.blob_directory.specs.declared.unsettled.Unsettled.{Unsettled}
 use Rattle.blob_directory.specs.Names.{Edit, Names, all_edited, edited}
 use Rattle.blob_directory.specs.Profiles.{kept_edits}
-use Rattle.blob_directory.specs.Sectors.{Found}
+use Rattle.blob_directory.specs.Records.{Found}
 use Rattle.blob_directory.specs.Settled.{IsBeside, changes_entry}
-use Rattle.blob_journal.specs.Sectors.{sector_at}
 
--- a crash loses no settled edit, and of the others those in sectors that it doesn't choose
+-- a crash loses no settled edit, and of the others those in records that it doesn't choose
 abbrev pub after_loss : (ℕ → Bool) → ℕ → List Found → List Found
 after_loss chosen n [] = []
 after_loss chosen n (None ∷ told) = None ∷ after_loss chosen (suc n) told
@@ -25,11 +23,7 @@ edits_kept keeps chosen told = kept_edits keeps false (after_loss chosen 0 told)
 abbrev pub names_kept : Keeps → (ℕ → Bool) → List Found → Names
 names_kept keeps chosen told = all_edited (λ _. None) (edits_kept keeps chosen told)
 
--- the sectors of a journal that are found as they were written
-abbrev pub chosen_of : List ℕ → List ℕ → ℕ → Bool
-chosen_of written found n = bytes_eq (sector_at found n) (sector_at written n)
-
--- a sync settles the edits of some sectors
+-- a sync settles the edits of some records
 abbrev pub settle_one : Bool → Found → Found
 settle_one now None = None
 settle_one now (Some (edit, settled)) = Some (edit, settled || now)
@@ -40,9 +34,9 @@ settled_in which n (found ∷ told) = settle_one (which n) found ∷ settled_in 
 
 -- those of the edits that are marked
 abbrev pub is_marked_in : List Unsettled → ℕ → Bool
-is_marked_in edits n = list_any (λ e. e.is_wanted && nat_eq e.sector n) edits
+is_marked_in edits n = list_any (λ e. e.is_wanted && nat_eq e.record n) edits
 
--- the edit of a sector, and whether it is settled
+-- the edit of a record, and whether it is settled
 abbrev pub edit_in : Found → Option Edit
 edit_in found = option_map (λ f. f.0) found
 

@@ -1,5 +1,5 @@
 //! The crash of the store.
-ghost use Rattle.std.specs.Prelude.{◌≡◌, ℕ, IfOk, OnOk};
+ghost use Rattle.std.specs.Prelude.{◌≡◌, ℕ, IfOk, OnErr, OnOk};
 
 use crate::journaled::Journaled;
 use blob_base::Error;
@@ -11,7 +11,7 @@ impl<R: Rng + Drop> Journaled<R> {
     ghost use Rattle.blob_faulty.specs.Crashes.{CrashDraws};
     ghost use Rattle.blob_journal.specs.Blobs.{crashed_file, current_file};
     ghost use Rattle.blob_journal.specs.Currents.{Represents};
-    ghost use Rattle.blob_journal.specs.Errors.{FailsAtLimits};
+    ghost use Rattle.blob_header.specs.Refusals.{IsMemory};
     ghost use Rattle.blob_journal.specs.Fixed.{KeepsOpen};
     ghost use Rattle.blob_journal.specs.Journals.{CrashKeeps, GivesNames, store_of};
     ghost use Rattle.blob_journal.specs.Keeping.{KeepsTable, KeepsTold};
@@ -34,7 +34,7 @@ impl<R: Rng + Drop> Journaled<R> {
         ensures edits { IfOk result (λ rows. CrashKeepsEdits self.old rows self.new) }
         ensures unsettled { KeepsUnsettled self.old self.new }
         ensures still { KeepsOpen self.old self.new }
-        ensures errors { FailsAtLimits result }
+        ensures errors { OnErr result (IsMemory result) }
     {
         leaves::crashed::<R>();
         leaves::same_bytes::<blob_memory::Storage, R>();

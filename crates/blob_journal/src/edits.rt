@@ -16,15 +16,16 @@ use crate::journaled::Journaled;
 use crate::store::Store;
 use blob_base::{Error, Probability};
 use blob_directory::edit::{Edit, truncation_of};
-use blob_directory::laws::sectors;
+use blob_directory::laws as directory;
 use blob_directory::profile::Settles;
 use blob_directory::table::Table;
 use blob_directory::unsettled::{About, Synced, Unsettled, want};
 use blob_faulty::Config;
+use blob_packed::laws::records;
 use rand_core::Rng;
 use std::alloc::Global;
 
-/// Makes the sectors of the edits that are marked durable. Those before an error stay.
+/// Makes the records of the edits that are marked durable. Those before an error stay.
 fn settle_marked<R: Rng>(
     alloc: Global,
     store: &mut Store<R>,
@@ -33,7 +34,7 @@ fn settle_marked<R: Rng>(
 ) -> Result<(), Error>
     ensures place { place (inside journal.new.blob) ≡ place (inside journal.old.blob) }
     ensures generation { journal.new.generation ≡ journal.old.generation }
-    ensures sectors { journal.new.sectors ≡ journal.old.sectors }
+    ensures records { journal.new.records ≡ journal.old.records }
     ensures directory { SameDirectory store.old store.new }
     ensures settled { OnOk result (Changes store.old store.new (place (inside journal.old.blob)) (all_settled edits.now)) }
     ensures kept { IsKept store.old journal.old edits.now → IsKept store.new journal.new edits.now }
@@ -41,9 +42,10 @@ fn settle_marked<R: Rng>(
     ensures grows { IsKept store.old journal.old edits.now → Grows (told_by journal.old) (told_by journal.new) }
     ensures beside { FindsNoMoreBut (place (inside journal.old.blob)) store.old store.new }
 {
+    records();
     for edit in edits {
         if edit.is_wanted {
-            journal.settle(alloc, store, edit.sector, &edit.edit)?;
+            journal.settle(alloc, store, edit)?;
         }
     }
     Ok(())
@@ -54,7 +56,7 @@ impl<R: Rng + Drop> Journaled<R> {
     ghost use Rattle.blob_journal.specs.Settling.{AddsUnsettled, KeepsJournal, KeepsUnsettled, SettlesEdits, unsettled_of};
     ghost use Rattle.blob_journal.specs.Journals.{store_of};
     ghost use Rattle.blob_journal.specs.Writes.{SameCrashes};
-    ghost use Rattle.blob_journal.specs.Keeping.{AddsSector, AddsTold, Edits, KeepsTable, KeepsTold, SameBindings, SettlesSome, generator_in, names_in, table_in, told_in, with_generator};
+    ghost use Rattle.blob_journal.specs.Keeping.{AddsRecord, AddsTold, Edits, KeepsTable, KeepsTold, SameBindings, SettlesSome, generator_in, names_in, table_in, told_in, with_generator};
 
     /// Returns no names over a new store, with faults drawn from the generator.
     ///
@@ -65,6 +67,7 @@ impl<R: Rng + Drop> Journaled<R> {
         ensures names { IfOk result (λ j. Same (names_in j) (λ _. None)) }
         ensures told { IfOk result (λ j. told_in j ≡ []) }
     {
+        records();
         let memory = blob_memory::Storage::new(alloc);
         let mut store = blob_faulty::Storage::new(alloc, memory, rng, Config::default());
         let (journal, _) = Journal::open(alloc, &mut store, 0)?;
@@ -132,7 +135,8 @@ impl<R: Rng + Drop> Journaled<R> {
     pub fn told_edits(&self) -> u64
         ensures { result ≡ length (told_in self.now) }
     {
-        self.journal.sectors
+        records();
+        self.journal.records
     }
 
     /// Returns how many edits come before the first one of `unsettled`, or how many there are if it has none. They are settled.
@@ -140,8 +144,8 @@ impl<R: Rng + Drop> Journaled<R> {
         ensures { AreSettled (take result (told_in self.now)) }
     {
         match self.unsettled.first() {
-            None => self.journal.sectors,
-            Some(edit) => edit.sector,
+            None => self.journal.records,
+            Some(edit) => edit.record,
         }
     }
 
@@ -158,7 +162,7 @@ impl<R: Rng + Drop> Journaled<R> {
         self.store.next_write()
     }
 
-    /// Adds an edit to the journal, unsynced, in a sector of its own, and to those that nothing settled. Changes no name.
+    /// Adds an edit to the journal, unsynced, in a record of its own, and to those that nothing settled. Changes no name.
     /// Returns the edit's number.
     ///
     /// # Errors
@@ -168,12 +172,13 @@ impl<R: Rng + Drop> Journaled<R> {
         ensures noted { IfOk result (λ number. AddsUnsettled (edit_of edit) about number self.old self.new) }
         ensures refused { OnErr result (KeepsUnsettled self.old self.new) }
         ensures names { KeepsTable self.old self.new }
-        ensures sector { OnOk result (AddsSector (edit_of edit) self.old self.new) }
+        ensures record { OnOk result (AddsRecord (edit_of edit) self.old self.new) }
         ensures told { OnOk result (AddsTold (edit_of edit) self.old self.new) }
         ensures untold { OnErr result (KeepsTold self.old self.new) }
         ensures still { KeepsOpen self.old self.new }
     {
-        sectors();
+        directory::records();
+        records();
         if !edit.fits() {
             return Err(Error::OffsetOverflow);
         }
@@ -182,11 +187,12 @@ impl<R: Rng + Drop> Journaled<R> {
         let Some(next) = number.checked_add(1) else {
             return Err(Error::OffsetOverflow);
         };
-        let sector = self.journal.add(self.alloc, &mut self.store, &edit, rate)?;
+        let (record, offset) = self.journal.add(self.alloc, &mut self.store, &edit, rate)?;
         self.next_edit = next;
         self.unsettled.push_reserved(Unsettled {
             edit,
-            sector,
+            record,
+            offset,
             number,
             about,
             is_wanted: false,
@@ -194,16 +200,16 @@ impl<R: Rng + Drop> Journaled<R> {
         Ok(number)
     }
 
-    /// Makes an edit: it is in the journal, unsynced, in a sector of its own that a crash keeps whole, by this rate, or loses. The
+    /// Makes an edit: it is in the journal, unsynced, in a record of its own that a crash keeps whole, by this rate, or loses. The
     /// names are changed. Draws nothing.
     ///
     /// # Errors
     ///
-    /// `Memory`, `GenerationsExhausted`, `OffsetOverflow` if no sector is left or the edit doesn't fit in one. No name has
+    /// `Memory`, `GenerationsExhausted`, `OffsetOverflow` if no number is left or the edit is too long for a record. No name has
     /// changed.
     pub fn make(&mut self, edit: Edit, about: About, rate: Probability) -> Result<(), Error>
         ensures made { OnOk result (Edits (edit_of edit) self.old self.new) }
-        ensures sector { OnOk result (AddsSector (edit_of edit) self.old self.new) }
+        ensures record { OnOk result (AddsRecord (edit_of edit) self.old self.new) }
         ensures refused { OnErr result (SameBindings self.old self.new) }
         ensures told { OnOk result (AddsTold (edit_of edit) self.old self.new) }
         ensures untold { OnErr result (KeepsTold self.old self.new) }
@@ -218,7 +224,7 @@ impl<R: Rng + Drop> Journaled<R> {
         Ok(())
     }
 
-    /// Records the edit of a truncation of a file: it is in the journal, unsynced, in a sector of its own that a crash keeps
+    /// Records the edit of a truncation of a file: it is in the journal, unsynced, in a record of its own that a crash keeps
     /// whole, by this rate, or loses. Returns the edit's number. No name changes. Draws nothing.
     ///
     /// # Errors
@@ -228,7 +234,7 @@ impl<R: Rng + Drop> Journaled<R> {
         ensures noted { IfOk result (λ n. AddsUnsettled (resizes inode) (of_truncation inode) n self.old self.new) }
         ensures refused { OnErr result (KeepsUnsettled self.old self.new) }
         ensures names { KeepsTable self.old self.new }
-        ensures sector { OnOk result (AddsSector (resizes inode) self.old self.new) }
+        ensures record { OnOk result (AddsRecord (resizes inode) self.old self.new) }
         ensures told { OnOk result (AddsTold (resizes inode) self.old self.new) }
         ensures untold { OnErr result (KeepsTold self.old self.new) }
         ensures still { KeepsOpen self.old self.new }
@@ -248,6 +254,7 @@ impl<R: Rng + Drop> Journaled<R> {
         ensures some { SettlesSome self.old self.new }
         ensures still { KeepsOpen self.old self.new }
     {
+        records();
         want(self.alloc, &mut self.unsettled, settles, synced)?;
         settle_marked(
             self.alloc,

@@ -23,7 +23,7 @@ impl FileBlob {
 }
 
 /// Returns the number of a blob's incarnation.
-fn number_of<R: Rng>(blob: &Handle) -> u64
+pub(crate) fn number_of<R: Rng>(blob: &Handle) -> u64
     ensures { result ≡ (place (inside blob.now)).number }
 {
     Store::<R>::number_of(<Handle as Blob<Store<R>>>::origin_ref(blob))
@@ -43,7 +43,8 @@ impl<R: Rng + Drop> Journaled<R> {
     ///
     /// # Errors
     ///
-    /// Those of the layer's open. If no fault rate is set, none but `Memory`, `GenerationsExhausted` and `OffsetOverflow`.
+    /// Those of the layer's open. If no fault rate is set: `Memory`, and `GenerationsExhausted` if the store has given all of its
+    /// numbers.
     pub fn open_file(&mut self, inode: u64) -> Result<FileBlob, Error>
         ensures names { KeepsTable self.old self.new }
         ensures told { KeepsTold self.old self.new }
@@ -54,7 +55,7 @@ impl<R: Rng + Drop> Journaled<R> {
         ensures still { KeepsOpen self.old self.new }
         ensures reopened { IfOk result (λ file. ReopensFile self.old inode self.new file) }
         ensures ready { IsFaultless self.old → IfOk result (IsReady self.new) }
-        ensures errors { IsFaultless self.old → FailsAtLimits result }
+        ensures errors { IsFaultless self.old → FailsAtLimits (store_of self.new) result }
     {
         let (blob, _) = open(&mut self.store, FILES, &inode.to_be_bytes())?;
         self.note(&blob);
@@ -124,8 +125,8 @@ impl<R: Rng + Drop> Journaled<R> {
     ///
     /// # Errors
     ///
-    /// Those of the layer's read, and `Memory`. If no fault rate is set and its size is that of its bytes, none but `Memory`,
-    /// `GenerationsExhausted` and `OffsetOverflow`.
+    /// Those of the layer's read, and `Memory`. If no fault rate is set and its size is that of its bytes: `Memory`, and
+    /// `OffsetOverflow` if the end of its blob has no number of 64 bits.
     pub fn read_whole(&mut self, file: &FileBlob) -> Result<Vec<u8>, Error>
         ensures names { KeepsTable self.old self.new }
         ensures told { KeepsTold self.old self.new }
@@ -135,7 +136,7 @@ impl<R: Rng + Drop> Journaled<R> {
         ensures same { OnOk result (SameFiles self.old self.new) }
         ensures still { KeepsOpen self.old self.new }
         ensures ready { KeepsAllReady self.old self.new }
-        ensures errors { IsFaultless self.old → TracksSize file.now → FailsAtLimits result }
+        ensures errors { IsFaultless self.old → TracksSize file.now → FailsAtLimits (store_of self.new) result }
     {
         let size = file.size();
         read_all(self.alloc, &mut self.store, &file.blob, size)
@@ -192,7 +193,7 @@ impl<R: Rng + Drop> Journaled<R> {
         ensures still { ChangesOpen (IsBeside offset (length bytes.now)) self.old file.old self.new file.new }
         ensures handles { KeepsHandles self.old self.new }
         ensures ready { KeepsReady self.old file.old self.new file.new }
-        ensures errors { IsReady self.old file.old → FailsAtLimits result }
+        ensures errors { IsReady self.old file.old → FailsAtLimits (store_of self.new) result }
     {
         self.check(file)?;
         leaves::other_blobs::<blob_memory::Storage, R>();
@@ -221,7 +222,7 @@ impl<R: Rng + Drop> Journaled<R> {
         ensures still { ChangesOpen (λ at. at < length) self.old file.old self.new file.new }
         ensures handles { KeepsHandles self.old self.new }
         ensures ready { KeepsReady self.old file.old self.new file.new }
-        ensures errors { IsReady self.old file.old → FailsAtLimits result }
+        ensures errors { IsReady self.old file.old → FailsAtLimits (store_of self.new) result }
     {
         self.check(file)?;
         leaves::other_blobs::<blob_memory::Storage, R>();
@@ -248,7 +249,7 @@ impl<R: Rng + Drop> Journaled<R> {
         ensures handles { KeepsHandles self.old self.new }
         ensures fixes { OnOk result (FixesOpen self.old file.old self.new file.new) }
         ensures ready { KeepsReady self.old file.old self.new file.new }
-        ensures errors { IsReady self.old file.old → FailsAtLimits result }
+        ensures errors { IsReady self.old file.old → FailsAtLimits (store_of self.new) result }
     {
         self.check(file)?;
         leaves::other_blobs::<blob_memory::Storage, R>();

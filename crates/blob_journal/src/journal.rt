@@ -1,30 +1,30 @@
-//! The journal: a blob with one edit in each sector.
-ghost use Rattle.std.specs.Prelude.{◌≡◌, ◌+◌, ◌*◌, ◌++◌, ◌∷◌, ◌<◌, ◌/◌, Some, None, [], true, false, codes, length, IfOk, OnOk, OnErr};
+//! The journal: a blob with one edit in each record.
+ghost use Rattle.std.specs.Prelude.{◌≡◌, ◌+◌, Some, None, [], true, codes, length, IfOk, OnOk, OnErr};
 ghost use Rattle.std.specs.Int.{w64, to_be_bytes};
-ghost use Rattle.blob_model.specs.Bytes.{write_live};
 ghost use Rattle.blob_model.specs.Directory.{current, is_current};
 ghost use Rattle.blob_model.specs.Places.{Place};
 ghost use Rattle.blob_directory.specs.Names.{edit_of};
-ghost use Rattle.blob_directory.specs.Sectors.{found_in, sector_of};
 ghost use Rattle.blob_memory.specs.Store.{directory, durable, place};
 ghost use Rattle.blob_faulty.specs.Wrapper.{inner_of, inside};
 ghost use Rattle.blob_journal.specs.Incarnations.{ChangesOnly, KeepsIncarnations, KeepsPartition};
-ghost use Rattle.blob_journal.specs.Currents.{BeginsAs, FindsNoMore, FindsNoMoreBut, FixesBytes, IsGiven, KeepsCurrent, KeepsFiles, KeepsNext, SameDirectory, SamePending};
-ghost use Rattle.blob_journal.specs.Draws.{DrawsSectors};
-ghost use Rattle.blob_journal.specs.Found.{HasSectors};
-ghost use Rattle.blob_journal.specs.Keeping.{bytes_in, told_by, with_sector};
-ghost use Rattle.blob_journal.specs.Limits.{AcceptsOpens, DrawsNothing, FailsAtLimits, KeepsAccepted, SameFaults};
+ghost use Rattle.blob_journal.specs.Currents.{BeginsAs, BeginsNext, FindsNoMore, FindsNoMoreBut, FixesBytes, IsGiven, KeepsCurrent, KeepsFiles, KeepsNext, SameDirectory, SamePending};
+ghost use Rattle.blob_journal.specs.Draws.{DrawsWhole};
+ghost use Rattle.blob_journal.specs.Found.{AddsEdit, KeepsRecords, SettlesEdit};
+ghost use Rattle.blob_journal.specs.Keeping.{bytes_in, with_record};
+ghost use Rattle.blob_journal.specs.Limits.{DrawsNothing, FailsAtLimits, KeepsAccepted, OpensQuietly, SameFaults};
 ghost use Rattle.blob_journal.specs.Settling.{Changes, with_settled};
 
 use crate::store::{Handle, JOURNALS, Store, open, read_all};
 use blob_base::{Blob, Error, Probability, SectorSize, WriteOptions};
 use blob_directory::edit::Edit;
-use blob_directory::sector::{SECTOR, encode};
+use blob_directory::record::encode;
+use blob_directory::unsettled::Unsettled;
 use blob_faulty::laws::current_handles::found;
 use blob_faulty::laws::keeps::writes;
 use blob_faulty::laws::leaves;
 use blob_faulty::laws::outcomes::recorded;
 use blob_faulty::{Config, PartialWriteMode, WriteConfig};
+use blob_packed::laws::records;
 use rand_core::Rng;
 use std::alloc::Global;
 
@@ -34,15 +34,18 @@ pub(crate) struct Journal {
     pub(crate) blob: Handle,
     /// The number that is its name.
     pub(crate) generation: u64,
-    /// How many sectors it has.
-    pub(crate) sectors: u64,
+    /// How many records it has.
+    pub(crate) records: u64,
+    /// Its length in bytes, where the next record begins.
+    pub(crate) end: u64,
 }
 
-/// Returns the configuration of a journal's writes: none fails, and a crash keeps each sector by this rate, whole.
+/// Returns the configuration of a journal's writes: none fails, and a crash keeps each by this rate, whole. All bytes of a write
+/// are in one sector, since none ends at 2^64 or later.
 fn faults_of(rate: Probability) -> Config
-    ensures { DrawsSectors result }
+    ensures { DrawsWhole result }
 {
-    let mode = SectorSize::new(SECTOR as u64).map_or(
+    let mode = SectorSize::new(u64::MAX).map_or(
         PartialWriteMode::Prefix,
         PartialWriteMode::Sectors,
     );
@@ -54,8 +57,8 @@ fn faults_of(rate: Probability) -> Config
 }
 
 impl Journal {
-    /// Opens the journal of a generation and returns its bytes. The wrapper must draw nothing. The errors are those of
-    /// its open and of its read.
+    /// Opens the journal of a generation and returns its bytes. The wrapper must draw nothing. The journal counts no records: it
+    /// is for reading, or empty. The errors are those of its open and of its read.
     pub(crate) fn open<R: Rng>(
         alloc: Global,
         store: &mut Store<R>,
@@ -71,8 +74,10 @@ impl Journal {
         ensures files { KeepsFiles store.old store.new }
         ensures pending { SamePending store.old store.new }
         ensures bytes { IfOk result (λ r. bytes_in r.0 ≡ r.1.items) }
-        ensures sectors { IfOk result (λ r. r.0.sectors ≡ length r.1.items / 1024) }
+        ensures records { IfOk result (λ r. r.0.records ≡ 0) }
+        ensures end { IfOk result (λ r. r.0.end ≡ 0) }
         ensures begun { IfOk result (λ r. (directory (inner_of store.old)).file (codes "j") (to_be_bytes w64 generation) ≡ None → r.1.items ≡ []) }
+        ensures numbered { IfOk result (λ r. BeginsNext (codes "j") (to_be_bytes w64 generation) store.old (place (inside r.0.blob))) }
         ensures given { IfOk result (λ r. IsGiven store.new (place (inside r.0.blob))) }
         ensures left { FindsNoMore store.old store.new }
         ensures next { KeepsNext store.old store.new }
@@ -80,20 +85,20 @@ impl Journal {
         ensures incarnations { KeepsIncarnations store.old store.new }
         ensures accepted { KeepsAccepted store.old store.new }
         ensures faults { SameFaults store.old store.new }
-        ensures errors { DrawsNothing store.old → AcceptsOpens (directory (inner_of store.old)) → FailsAtLimits result }
+        ensures errors { OpensQuietly store.old → FailsAtLimits store.new result }
     {
         let (blob, size) = open(store, JOURNALS, &generation.to_be_bytes())?;
         let bytes = read_all(alloc, store, &blob, size)?;
-        let sectors = size / SECTOR as u64;
         let journal = Journal {
             blob,
             generation,
-            sectors,
+            records: 0,
+            end: 0,
         };
         Ok((journal, bytes))
     }
 
-    /// Writes an edit to the next sector, unsynced. Returns the number of the sector.
+    /// Writes an edit in one more record, unsynced. Returns the number of the record, and where it begins.
     ///
     /// # Errors
     ///
@@ -104,89 +109,95 @@ impl Journal {
         store: &mut Store<R>,
         edit: &Edit,
         rate: Probability,
-    ) -> Result<u64, Error>
+    ) -> Result<(u64, u64), Error>
         ensures place { place (inside self.new.blob) ≡ place (inside self.old.blob) }
         ensures generation { self.new.generation ≡ self.old.generation }
         ensures directory { SameDirectory store.old store.new }
-        ensures bytes { OnOk result (bytes_in self.new ≡ with_sector self.old (edit_of edit.now)) }
-        ensures sectors { OnOk result (self.new.sectors ≡ self.old.sectors + 1) }
-        ensures sector { IfOk result (λ sector. sector ≡ self.old.sectors) }
+        ensures bytes { OnOk result (bytes_in self.new ≡ with_record self.old (edit_of edit.now)) }
+        ensures records { OnOk result (self.new.records ≡ self.old.records + 1) }
+        ensures number { IfOk result (λ r. r.0 ≡ self.old.records) }
+        ensures offset { IfOk result (λ r. r.1 ≡ self.old.end) }
         ensures refused { OnErr result (bytes_in self.new ≡ bytes_in self.old) }
-        ensures unmoved { OnErr result (self.new.sectors ≡ self.old.sectors) }
-        ensures told { OnOk result (HasSectors store.old self.old → told_by self.new ≡ told_by self.old ++ found_in (sector_of (edit_of edit.now) false) ∷ []) }
-        ensures left { HasSectors store.old self.old → HasSectors store.new self.new }
+        ensures left { OnOk result (AddsEdit (edit_of edit.now) store.old self.old store.new self.new) }
+        ensures same { OnErr result (KeepsRecords store.old self.old store.new self.new) }
         ensures beside { FindsNoMoreBut (place (inside self.old.blob)) store.old store.new }
     {
         leaves::other_blobs::<blob_memory::Storage, R>();
-        let sector = self.sectors;
-        let Some(offset) = sector.checked_mul(SECTOR as u64) else {
+        records();
+        let (number, offset) = (self.records, self.end);
+        let bytes = encode(alloc, number, edit, false)?;
+        let Some(next) = number.checked_add(1) else {
             return Err(Error::OffsetOverflow);
         };
-        let Some(next) = sector.checked_add(1) else {
+        let Some(end) = offset.checked_add(bytes.len() as u64) else {
             return Err(Error::OffsetOverflow);
         };
-        let bytes = encode(alloc, edit, false)?;
         store.set_config(faults_of(rate));
         self.blob
             .write_from(store, offset, &bytes, WriteOptions::default())?;
-        self.sectors = next;
-        Ok(sector)
+        self.records = next;
+        self.end = end;
+        Ok((number, offset))
     }
 
-    /// Makes the edit of a sector durable.
+    /// Makes the record of an edit durable, marked as settled.
     ///
     /// # Errors
     ///
-    /// `Memory`, `OffsetOverflow`. The sector is as it was.
+    /// `Memory`, `OffsetOverflow`. The record is as it was.
     pub(crate) fn settle<R: Rng>(
         &mut self,
         alloc: Global,
         store: &mut Store<R>,
-        sector: u64,
-        edit: &Edit,
+        edit: &Unsettled,
     ) -> Result<(), Error>
         ensures place { place (inside self.new.blob) ≡ place (inside self.old.blob) }
         ensures generation { self.new.generation ≡ self.old.generation }
         ensures directory { SameDirectory store.old store.new }
-        ensures settled { OnOk result (Changes store.old store.new (place (inside self.old.blob)) (with_settled sector (edit_of edit.now))) }
-        ensures sectors { self.new.sectors ≡ self.old.sectors }
-        ensures bytes { OnOk result (bytes_in self.new ≡ write_live (bytes_in self.old) (sector * 1024) (sector_of (edit_of edit.now) true)) }
-        ensures refused { OnErr result (HasSectors store.old self.old → bytes_in self.new ≡ bytes_in self.old) }
-        ensures left { sector < self.old.sectors → HasSectors store.old self.old → HasSectors store.new self.new }
+        ensures settled { OnOk result (Changes store.old store.new (place (inside self.old.blob)) (with_settled edit.now)) }
+        ensures records { self.new.records ≡ self.old.records }
+        ensures left { OnOk result (SettlesEdit edit.now store.old self.old store.new self.new) }
+        ensures same { OnErr result (KeepsRecords store.old self.old store.new self.new) }
         ensures beside { FindsNoMoreBut (place (inside self.old.blob)) store.old store.new }
     {
         leaves::other_blobs::<blob_memory::Storage, R>();
         writes::<blob_memory::Storage, R, blob_memory::Blob>();
         recorded::<blob_memory::Storage, R>();
         found::<R>();
-        let Some(offset) = sector.checked_mul(SECTOR as u64) else {
-            return Err(Error::OffsetOverflow);
-        };
-        let bytes = encode(alloc, edit, true)?;
+        records();
+        let bytes = encode(alloc, edit.record, &edit.edit, true)?;
         store.set_config(Config::default());
         self.blob
-            .write_from(store, offset, &bytes, WriteOptions::SYNC)?;
+            .write_from(store, edit.offset, &bytes, WriteOptions::SYNC)?;
         Ok(())
     }
 
-    /// Makes these bytes those of the journal, durably. It must be empty. `Memory` is the only error of a wrapper that draws nothing.
-    pub(crate) fn begin<R: Rng>(&mut self, store: &mut Store<R>, bytes: &[u8]) -> Result<(), Error>
+    /// Makes these bytes, of so many records, those of the journal, durably. It must be empty. `Memory` is the only error of a
+    /// wrapper that draws nothing.
+    pub(crate) fn begin<R: Rng>(
+        &mut self,
+        store: &mut Store<R>,
+        bytes: &[u8],
+        count: u64,
+    ) -> Result<(), Error>
         ensures place { place (inside self.new.blob) ≡ place (inside self.old.blob) }
         ensures generation { self.new.generation ≡ self.old.generation }
         ensures directory { SameDirectory store.old store.new }
         ensures bytes { OnOk result (BeginsAs (place (inside self.old.blob)) bytes.now store.old store.new) }
         ensures fixed { OnOk result (FixesBytes (place (inside self.old.blob)) bytes.now store.old store.new) }
         ensures live { OnOk result (bytes_in self.old ≡ [] → bytes_in self.new ≡ bytes.now) }
-        ensures sectors { OnOk result (self.new.sectors ≡ length bytes.now / 1024) }
+        ensures records { OnOk result (self.new.records ≡ count) }
+        ensures end { OnOk result (self.new.end ≡ length bytes.now) }
         ensures left { FindsNoMoreBut (place (inside self.old.blob)) store.old store.new }
         ensures only { OnOk result (ChangesOnly (place (inside self.old.blob)) store.old store.new) }
-        ensures errors { DrawsNothing store.old → is_current (directory (inner_of store.old)) (place (inside self.old.blob)) ≡ true → FailsAtLimits result }
+        ensures errors { DrawsNothing store.old → is_current (directory (inner_of store.old)) (place (inside self.old.blob)) ≡ true → FailsAtLimits store.new result }
     {
         writes::<blob_memory::Storage, R, blob_memory::Blob>();
         recorded::<blob_memory::Storage, R>();
         leaves::other_blobs::<blob_memory::Storage, R>();
         self.blob.write_from(store, 0, bytes, WriteOptions::SYNC)?;
-        self.sectors = bytes.len() as u64 / SECTOR as u64;
+        self.records = count;
+        self.end = bytes.len() as u64;
         Ok(())
     }
 }

@@ -29,11 +29,13 @@ pub struct Journaled<R> {
     ghost partition: { (place (inside journal.blob)).partition ≡ codes "j" },
     ghost name: { (place (inside journal.blob)).name ≡ to_be_bytes w64 journal.generation },
     ghost current: { is_current (directory (inner_of store)) (place (inside journal.blob)) ≡ true },
+    // a later journal's blob has a greater number, so there are no more generations than numbers
+    ghost numbered: { journal.generation ≤ (place (inside journal.blob)).number },
     // the numbers up to there were given in this store
     ghost given: { opened ≤ (directory (inner_of store)).next },
     // an open accepts each file, and none has the last number
     ghost accepted: { AcceptsOpens (directory (inner_of store)) },
-    // of the journal's blob no more may be found than its sectors, each whole or lost, the settled ones always;
-    // each listed edit has a sector of its own, in order, and each edit that nothing settled is listed
+    // of the journal's blob no more may be found than its records, each whole or lost, the settled ones always;
+    // each listed edit has a record of its own, in order, and each edit that nothing settled is listed
     ghost kept: { ∥ IsKept store journal unsettled.items ∥₁ },
 }

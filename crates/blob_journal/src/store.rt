@@ -1,13 +1,14 @@
 //! The store below files, and the blob of a file in it.
-ghost use Rattle.std.specs.Prelude.{◌≡◌, ◌≤◌, codes, length, take, IfOk, None, Some, [], true};
+ghost use Rattle.std.specs.Prelude.{◌≡◌, ◌≤◌, codes, length, take, IfOk, None, OnErr, OnOk, Some, [], true};
 ghost use Rattle.blob_model.specs.Directory.{current, is_current};
 ghost use Rattle.blob_model.specs.Places.{Place};
 ghost use Rattle.blob_memory.specs.Store.{directory, durable, live, place};
 ghost use Rattle.blob_faulty.specs.Wrapper.{inner_of, inside, size_of};
 ghost use Rattle.blob_journal.specs.Incarnations.{IsIncarnation, KeepsIncarnations, KeepsOtherBlobs};
 ghost use Rattle.blob_header.specs.PartitionName.{is_partition_name};
-ghost use Rattle.blob_journal.specs.Limits.{AcceptsOpens, DrawsNothing, FailsAtLimits, KeepsAccepted, SameFaults};
-ghost use Rattle.blob_journal.specs.Currents.{FindsNoMore, FindsNoMoreBeside, IsGiven, KeepsBytes, KeepsCurrent, KeepsFiles, KeepsNext, KeepsOthers, KeepsPending, SamePending};
+ghost use Rattle.blob_header.specs.Refusals.{IsMemory, error_of, refusal_of};
+ghost use Rattle.blob_journal.specs.Limits.{DrawsNothing, FailsAtLimits, IsRemoval, KeepsAccepted, OpensQuietly, SameFaults, is_missing};
+ghost use Rattle.blob_journal.specs.Currents.{BeginsNext, FindsNoMore, FindsNoMoreBeside, HasNoBlob, IsGiven, KeepsBytes, KeepsCurrent, KeepsFiles, KeepsNext, KeepsOthers, KeepsPending, SamePending};
 
 use blob_base::laws::opens::{accepted_opens, numbers_are_given};
 use blob_base::{Blob, Error, Storage};
@@ -45,6 +46,7 @@ pub(crate) fn open<R: Rng>(
     ensures files { KeepsFiles store.old store.new }
     ensures pending { SamePending store.old store.new }
     ensures begun { IfOk result (λ r. (directory (inner_of store.old)).file partition.now name.now ≡ None → live (inside r.0) ≡ []) }
+    ensures numbered { IfOk result (λ r. BeginsNext partition.now name.now store.old (place (inside r.0))) }
     ensures left { FindsNoMore store.old store.new }
     ensures next { KeepsNext store.old store.new }
     ensures others { KeepsOtherBlobs partition.now name.now store.old store.new }
@@ -53,7 +55,7 @@ pub(crate) fn open<R: Rng>(
     ensures incarnations { KeepsIncarnations store.old store.new }
     ensures accepted { KeepsAccepted store.old store.new }
     ensures faults { SameFaults store.old store.new }
-    ensures errors { DrawsNothing store.old → AcceptsOpens (directory (inner_of store.old)) → is_partition_name partition.now ≡ true → FailsAtLimits result }
+    ensures errors { OpensQuietly store.old → is_partition_name partition.now ≡ true → FailsAtLimits store.new result }
 {
     accepted_opens();
     numbers_are_given::<blob_memory::Storage>();
@@ -93,6 +95,8 @@ pub(crate) fn remove<R: Rng>(
     partition: &str,
     name: &[u8],
 ) -> Result<(), Error>
+    ensures gone { OnOk result (HasNoBlob partition.now name.now store.new) }
+    ensures missing { is_missing (error_of result) ≡ true → HasNoBlob partition.now name.now store.new }
     ensures current { KeepsOthers partition.now name.now store.old store.new }
     ensures bytes { KeepsBytes partition.now name.now store.old store.new }
     ensures pending { KeepsPending partition.now name.now store.old store.new }
@@ -101,11 +105,45 @@ pub(crate) fn remove<R: Rng>(
     ensures next { KeepsNext store.old store.new }
     ensures others { KeepsOtherBlobs partition.now name.now store.old store.new }
     ensures accepted { KeepsAccepted store.old store.new }
+    ensures faults { SameFaults store.old store.new }
+    ensures errors { DrawsNothing store.old → is_partition_name partition.now ≡ true → IsRemoval (error_of result) }
 {
     leaves::same_bytes::<blob_memory::Storage, R>();
     removals::<blob_memory::Storage, R>();
     store.remove(partition, Some(name))?;
     Ok(())
+}
+
+/// Returns whether a removal was refused since there is no such blob.
+fn says_missing(error: &Error) -> bool
+    ensures { result ≡ is_missing (Some (refusal_of error.now)) }
+{
+    matches!(error, Error::BlobMissing(..) | Error::PartitionMissing(..))
+}
+
+/// Removes a blob if there is one. Nothing has changed after an error. If the wrapper draws nothing, that is `Memory` only.
+pub(crate) fn discard<R: Rng>(
+    store: &mut Store<R>,
+    partition: &str,
+    name: &[u8],
+) -> Result<(), Error>
+    ensures gone { OnOk result (HasNoBlob partition.now name.now store.new) }
+    ensures current { KeepsOthers partition.now name.now store.old store.new }
+    ensures files { KeepsFiles store.old store.new }
+    ensures left { FindsNoMoreBeside partition.now name.now store.old store.new }
+    ensures next { KeepsNext store.old store.new }
+    ensures others { KeepsOtherBlobs partition.now name.now store.old store.new }
+    ensures accepted { KeepsAccepted store.old store.new }
+    ensures faults { SameFaults store.old store.new }
+    ensures errors { DrawsNothing store.old → is_partition_name partition.now ≡ true → OnErr result (IsMemory result) }
+{
+    let Err(error) = remove(store, partition, name) else {
+        return Ok(());
+    };
+    if says_missing(&error) {
+        return Ok(());
+    }
+    Err(error)
 }
 
 /// Returns all bytes of a blob that calls see, by its size. The errors are those of the layer's read, and `Memory`.
@@ -122,7 +160,7 @@ pub(crate) fn read_all<R: Rng>(
     ensures pending { SamePending store.old store.new }
     ensures left { FindsNoMore store.old store.new }
     ensures faults { SameFaults store.old store.new }
-    ensures errors { DrawsNothing store.old → size ≤ length (live (inside blob.now)) → FailsAtLimits result }
+    ensures errors { DrawsNothing store.old → size ≤ length (live (inside blob.now)) → FailsAtLimits store.new result }
 {
     leaves::same_bytes::<blob_memory::Storage, R>();
     let mut bytes = Vec::new(alloc);

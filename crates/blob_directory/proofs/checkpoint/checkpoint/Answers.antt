@@ -1,11 +1,12 @@
-use Rattle.std.proofs.Common.{◌≡◌, ℕ, List, ◌∷◌, ◌++◌, sym, ap, subst, ◌∙◌}
+use Rattle.std.proofs.Common.{◌≡◌, ℕ, List, ◌∷◌, ◌+◌, ◌++◌, length, sym, ap, subst, ◌∙◌}
 use Rattle.std.specs.Map.Iter.{deref_pair}
 use Rattle.std.proofs.lemmas.Map.Iter.{rest_all, rest_more}
-use Rattle.blob_directory.specs.Checkpoints.{bindings_in, settled_sectors}
+use Rattle.blob_packed.specs.Records.{FitFrom, packed_from}
+use Rattle.blob_directory.specs.Checkpoints.{bindings_in, settled_records}
 use Rattle.blob_directory.specs.Names.{Names}
 use Rattle.blob_directory.specs.Tables.{bound}
 use Rattle.blob_directory.specs.Trees.{has_directory}
-use Rattle.blob_directory.proofs.Checkpoints.{AmongKeys, Listed, among_keys, written_all, written_more, written_none, written_settled, written_whole}
+use Rattle.blob_directory.proofs.Checkpoints.{AmongKeys, Listed, among_keys, written_all, written_more, written_none, written_packed, written_settled}
 use Rattle.blob_directory.proofs.checkpoint.checkpoint.Goals as goal
 
 pub loop-directory-init : goal.loop-directory-init
@@ -24,19 +25,25 @@ loop-directory-preserved c =
     let at : ℕ × ℕ = (c.in-Some.directory.now, c.in-Some.field-0-1.now) in
     let more : now ≡ at ∷ left = rest_more deref_pair now left c.next.result (c.in-Some.directory, c.in-Some.field-0-1) c.in-Some.is c.next.ensures.steps in
     let ns : Listed = c.in_ok-names_in.field-0.items in
-    let made : c.put_names.new.bytes.items ≡ c.loop-directory.bytes.items ++ settled_sectors (bindings_in at.0 ns) =
-    c.in_ok-put_names.ensures ∙ ap (λ (l : Listed). c.loop-directory.bytes.items ++ settled_sectors (bindings_in at.0 l)) c.deref.ensures.value in
-    written_more names (has_directory c.args.tree.now) now left at c.loop-directory.bytes.items c.put_names.new.bytes.items ns
-    more made c.in_ok-names_in.ensures.told c.in_ok-names_in.ensures.all c.loop-directory.invariant
+    let number : ℕ = c.loop-directory.number in
+    let value : c.deref.result.now ≡ ns = c.deref.ensures.value in
+    let made : c.put_names.new.bytes.items ≡ c.loop-directory.bytes.items ++ packed_from number (settled_records (bindings_in at.0 ns)) =
+    c.in_ok-number.ensures.bytes ∙ ap (λ (l : Listed). c.loop-directory.bytes.items ++ packed_from number (settled_records (bindings_in at.0 l))) value in
+    let count : c.in_ok-number.number ≡ number + length ns = c.in_ok-number.ensures.number ∙ ap (λ (l : Listed). number + length l) value in
+    let room : FitFrom number (settled_records (bindings_in at.0 ns)) = subst (λ (l : Listed). FitFrom number (settled_records (bindings_in at.0 l))) value c.in_ok-number.ensures.fit in
+    written_more names (has_directory c.args.tree.now) now left at c.loop-directory.bytes.items c.put_names.new.bytes.items number c.in_ok-number.number ns
+    more made count room c.in_ok-names_in.ensures.told c.in_ok-names_in.ensures.all c.loop-directory.invariant
 
 pub returns-clause-gives : goal.returns-clause-gives
 returns-clause-gives c =
     let now : List (ℕ × ℕ) = c.loop-directory.directory-iterator in
-    λ fits. written_all (bound c.args.tree.now.names) (has_directory c.args.tree.now) now c.loop-directory.bytes.items
-    (rest_all deref_pair now c.next.new.self c.next.result c.in-None.is c.next.ensures.steps) c.loop-directory.invariant fits.sectors fits.places
+    λ fits. written_all (bound c.args.tree.now.names) (has_directory c.args.tree.now) now c.loop-directory.bytes.items c.loop-directory.number
+    (rest_all deref_pair now c.next.new.self c.next.result c.in-None.is c.next.ensures.steps) c.loop-directory.invariant fits.records fits.places
 
-pub returns-clause-whole : goal.returns-clause-whole
-returns-clause-whole c = written_whole (bound c.args.tree.now.names) (has_directory c.args.tree.now) c.loop-directory.directory-iterator c.loop-directory.bytes.items c.loop-directory.invariant
+pub returns-clause-packed : goal.returns-clause-packed
+returns-clause-packed c =
+    written_packed (bound c.args.tree.now.names) (has_directory c.args.tree.now) c.loop-directory.directory-iterator c.loop-directory.bytes.items c.loop-directory.number c.loop-directory.invariant
 
 pub returns-clause-settled : goal.returns-clause-settled
-returns-clause-settled c = written_settled (bound c.args.tree.now.names) (has_directory c.args.tree.now) c.loop-directory.directory-iterator c.loop-directory.bytes.items c.loop-directory.invariant
+returns-clause-settled c =
+    written_settled (bound c.args.tree.now.names) (has_directory c.args.tree.now) c.loop-directory.directory-iterator c.loop-directory.bytes.items c.loop-directory.number c.loop-directory.invariant

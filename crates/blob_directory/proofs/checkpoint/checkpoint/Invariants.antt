@@ -4,4 +4,4 @@ use Rattle.blob_directory.proofs.Checkpoints.{Written}
 use Rattle.blob_directory.proofs.checkpoint.checkpoint.Given as goal
 
 abbrev pub invariant-loop-directory : goal.invariant-loop-directory
-invariant-loop-directory l = Written (bound l.tree.names) (has_directory l.tree) l.directory-iterator l.bytes.items
+invariant-loop-directory l = Written (bound l.tree.names) (has_directory l.tree) l.directory-iterator l.bytes.items l.number

@@ -1,38 +1,59 @@
-use Rattle.std.proofs.Common.{◌≡◌, ◌+◌, ◌-◌, ◌/◌, ◌<◌, suc, length, not, ◌||◌, ◌&&◌, arith, ap, sym, ◌∙◌}
+use Rattle.std.proofs.Common.{◌≡◌, ℕ, ◌+◌, ◌-◌, ◌<◌, ◌≤◌, Bool, false, not, ◌||◌, ◌&&◌, List, [], ◌∷◌, ◌++◌, length, map, replicate, Some, None, ap, subst, sym, ◌∙◌, rules}
 use Rattle.std.proofs.lemmas.List.Elements.{All-from_get_or}
+use Rattle.blob_packed.specs.Records.{Record, found_from}
 use Rattle.blob_directory.specs.Names.{Same, all_edited}
-use Rattle.blob_directory.specs.Profiles.{counts, counts_in, found_in_all, is_prefix, kept_edits, names_told, with_found}
-use Rattle.blob_directory.specs.Sectors.{found_in}
+use Rattle.blob_directory.specs.Profiles.{all_counts, counts, counts_in, is_prefix, kept_edits, lost_behind, names_told, with_found}
+use Rattle.blob_directory.specs.Records.{edit_found, edits_from}
 use Rattle.blob_directory.specs.Tables.{bound}
 use Rattle.blob_directory.proofs.Fitting.{told_fits}
-use Rattle.blob_directory.proofs.Journals.{one_flag, one_sector}
+use Rattle.blob_directory.proofs.Journals.{flags_long, one_flag, one_record}
 use Rattle.blob_directory.proofs.tree.kept_names.Goals as goal
 
-pub loop-i-preserved : goal.loop-i-preserved
-loop-i-preserved c =
-    let sector = c.split_at.result.0.now in
-    let end = length c.args.bytes.now / 1024 in
-    let lost = c.loop-i.is_lost in
-    let one_less : end - c.loop-i.i ≡ suc (end - (c.loop-i.i + 1)) = omega arith in
-    let same : Same (bound c.keep.new.names) (with_found (bound c.loop-i.names) lost (found_in sector)) = c.in_ok-is_kept.ensures.names in
-    let kept : c.in_ok-is_kept.is_kept ≡ counts lost (found_in sector) = c.in_ok-is_kept.ensures.kept in
-    let next : c.is_next_lost-is_lost.result ≡ (lost || (is_prefix c.args.keeps && not (counts lost (found_in sector)))) =
-    c.is_next_lost-is_lost.ensures ∙ ap (λ k. lost || (is_prefix c.args.keeps && not k)) kept in
+pub loop-found-preserved : goal.loop-found-preserved
+loop-found-preserved c =
+    let keeps = c.args.keeps in
+    let flags : List Bool = c.loop-found.kept.items in
+    let between : List Bool = c.pass_over.new.kept.items in
+    let new : List Bool = c.push.new.self.items in
+    let next : ℕ = length flags in
+    let number : ℕ = c.in-Some.found.number in
+    let r : Record = (c.in-Some.found.bytes.now, c.in-Some.found.is_settled) in
+    let left : List ℕ = c.loop-found.left.now in
+    let behind : List ℕ = c.in-Some.found.rest.now in
+    let lost : Bool = c.loop-found.is_lost in
+    let passed : Bool = c.in_ok-is_lost.is_lost in
+    let now : Bool = c.is_next_lost-is_lost.result in
+    let at : c.len.result ≡ next = c.len.ensures ∙ c.loop-found.kept.ok.0 in
+    let step : found_from next left ≡ replicate (number - next) None ++ (Some r ∷ found_from (number + 1) behind) =
+    subst (λ (n : ℕ). found_from n left ≡ replicate (number - n) None ++ (Some r ∷ found_from (number + 1) behind)) at c.in-Some.ensures.found in
+    let low : next ≤ number = subst (λ (n : ℕ). n ≤ number) at c.in-Some.ensures.number in
+    let gap : between ≡ flags ++ replicate (number - next) false = c.in_ok-is_lost.ensures.kept in
+    let behind_gap : passed ≡ lost_behind keeps lost (number - next) = c.in_ok-is_lost.ensures.lost in
+    let kept : c.in_ok-is_kept.is_kept ≡ counts passed (edit_found (Some r)) = c.in_ok-is_kept.ensures.kept in
+    let same : Same (bound c.keep.new.names) (with_found (bound c.loop-found.names) passed (edit_found (Some r))) = c.in_ok-is_kept.ensures.names in
+    let after : now ≡ (passed || (is_prefix keeps && not (counts passed (edit_found (Some r))))) =
+    c.is_next_lost-is_lost.ensures ∙ ap (λ k. passed || (is_prefix keeps && not k)) kept in
+    let pushed : new ≡ between ++ c.in_ok-is_kept.is_kept ∷ [] = c.in_ok-push.ensures.items in
+    let more : number + 1 ≡ length new = sym (flags_long flags between new c.in_ok-is_kept.is_kept number low gap pushed) in
     record {
-      long = omega arith;
-      kept = one_flag c.args.keeps lost c.is_next_lost-is_lost.result c.in_ok-is_kept.is_kept c.loop-i.kept.items c.push.new.self.items
-          (end - c.loop-i.i) (end - (c.loop-i.i + 1)) c.loop-i.left.now sector c.split_at.result.1.now (counts_in c.args.keeps c.args.bytes.now)
-          one_less c.split_at.ensures.front c.split_at.ensures.back kept next c.in_ok-push.ensures.items c.loop-i.invariant.kept;
-      names = one_sector c.args.keeps lost c.is_next_lost-is_lost.result (bound c.loop-i.names) (bound c.keep.new.names)
-          (end - c.loop-i.i) (end - (c.loop-i.i + 1)) c.loop-i.left.now sector c.split_at.result.1.now (names_told c.args.keeps c.args.bytes.now)
-          one_less c.split_at.ensures.front c.split_at.ensures.back same next c.loop-i.invariant.names;
+      kept = subst (λ (n : ℕ). new ++ all_counts keeps now (edits_from n behind) ≡ counts_in keeps c.args.bytes.now) more
+          (one_flag keeps lost passed now c.in_ok-is_kept.is_kept flags between new next number left behind r (counts_in keeps c.args.bytes.now)
+          step gap behind_gap kept after pushed c.loop-found.invariant.kept);
+      names = subst (λ (n : ℕ). Same (all_edited (bound c.keep.new.names) (kept_edits keeps now (edits_from n behind))) (names_told keeps c.args.bytes.now)) more
+          (one_record keeps lost passed now (bound c.loop-found.names) (bound c.keep.new.names) next number left behind r (names_told keeps c.args.bytes.now)
+          step behind_gap same after c.loop-found.invariant.names);
     }
 
-pub returns-clause-sectors : goal.returns-clause-sectors
-returns-clause-sectors c =
-    let bytes = c.args.bytes.now in
-    let left = c.loop-i.left.now in
-    let none : length bytes / 1024 - c.loop-i.i ≡ 0 = omega arith in
-    let names : Same (bound c.loop-i.names) (names_told c.args.keeps bytes) =
-    λ e. ap (λ n. all_edited (bound c.loop-i.names) (kept_edits c.args.keeps c.loop-i.is_lost (found_in_all n left)) e) (sym none) ∙ c.loop-i.invariant.names e in
-    λ e to h. told_fits c.args.keeps bytes (All-from_get_or (λ b. b < 256) bytes 0 (λ i l. (c.type_inv.bytes i).fits)) e to (sym (names e) ∙ h)
+pub returns-clause-fit : goal.returns-clause-fit
+returns-clause-fit c =
+    let keeps = c.args.keeps in
+    let bytes : List ℕ = c.args.bytes.now in
+    let left : List ℕ = c.loop-found.left.now in
+    let lost : Bool = c.loop-found.is_lost in
+    let next : ℕ = length c.loop-found.kept.items in
+    let at : c.len.result ≡ next = c.len.ensures ∙ c.loop-found.kept.ok.0 in
+    let done : found_from c.len.result left ≡ [] = search rules in
+    let none : found_from next left ≡ [] = ap (λ (n : ℕ). found_from n left) (sym at) ∙ done in
+    let names : Same (bound c.loop-found.names) (names_told keeps bytes) =
+    λ e. ap (λ l. all_edited (bound c.loop-found.names) (kept_edits keeps lost (map edit_found l)) e) (sym none) ∙ c.loop-found.invariant.names e in
+    λ e to h. told_fits keeps bytes (All-from_get_or (λ b. b < 256) bytes 0 (λ i l. (c.type_inv.bytes i).fits)) e to (sym (names e) ∙ h)

@@ -82,12 +82,12 @@ returns-clause-still g c = on_map c.cut_to.result c.cut_to.ensures.still (λ cha
 pub returns-in_err-found-clause-errors : goal.returns-in_err-found-clause-errors
 returns-in_err-found-clause-errors g c = λ r live.
     let said : error_of c.from_residual.result ≡ error_of c.read_whole.result = search rules in
-    subst IsLimit (sym said) (c.read_whole.ensures.errors r.faultless r.is.tracked)
+    subst (IsLimit _) (sym said) (c.read_whole.ensures.errors r.faultless r.is.tracked)
 
 pub returns-in_err-seen-clause-errors : goal.returns-in_err-seen-clause-errors
 returns-in_err-seen-clause-errors g c = λ r live.
     let said : error_of c.from_residual-in_err-seen.result ≡ error_of c.read_whole-2.result = search rules in
-    subst IsLimit (sym said) (c.read_whole-2.ensures.errors (c.read_whole.ensures.ready c.args.blob.now r).faultless live)
+    subst (IsLimit _) (sym said) (c.read_whole-2.ensures.errors (c.read_whole.ensures.ready c.args.blob.now r).faultless live)
 
 pub returns-clause-errors : goal.returns-clause-errors
 returns-clause-errors g c = λ r live. c.cut_to.ensures.errors (c.read_whole-2.ensures.ready c.args.blob.now (c.read_whole.ensures.ready c.args.blob.now r))

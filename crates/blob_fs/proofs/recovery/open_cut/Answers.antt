@@ -78,17 +78,17 @@ returns-clause-still g c =
 pub returns-in_err-blob-clause-errors : goal.returns-in_err-blob-clause-errors
 returns-in_err-blob-clause-errors g c = λ q sizes.
     let said : error_of c.from_residual.result ≡ error_of c.open_file.result = search rules in
-    subst IsLimit (sym said) (c.open_file.ensures.errors q)
+    subst (IsLimit _) (sym said) (c.open_file.ensures.errors q)
 
 pub returns-in_err-truncate_left-clause-errors : goal.returns-in_err-truncate_left-clause-errors
 returns-in_err-truncate_left-clause-errors g c = λ q sizes.
     let said : c.from_residual-in_err-truncate_left.result ≡ Err c.in_err-truncate_left.field-0.0 = search rules in
-    subst FailsAtLimits (sym said) (c.in_err-truncate_left.ensures.errors (c.in_ok-blob.ensures.ready q))
+    subst (FailsAtLimits c.truncate_left.new.store.store) (sym said) (c.in_err-truncate_left.ensures.errors (c.in_ok-blob.ensures.ready q))
 
 pub returns-in_err-cut-clause-errors : goal.returns-in_err-cut-clause-errors
 returns-in_err-cut-clause-errors g c = λ q sizes.
     let said : error_of c.from_residual-in_err-cut.result ≡ error_of c.cut.result = search rules in
-    subst IsLimit (sym said) (c.cut.ensures.errors (c.truncate_left.ensures.ready (c.in_ok-blob.ensures.ready q)) (sizes c.args.inode c.in-Some.was.now (omega arith) (search rules)))
+    subst (IsLimit _) (sym said) (c.cut.ensures.errors (c.truncate_left.ensures.ready (c.in_ok-blob.ensures.ready q)) (sizes c.args.inode c.in-Some.was.now (omega arith) (search rules)))
 
 pub returns-clause-ready : goal.returns-clause-ready
 returns-clause-ready g c = λ q. c.cut.ensures.ready (c.truncate_left.ensures.ready (c.in_ok-blob.ensures.ready q))

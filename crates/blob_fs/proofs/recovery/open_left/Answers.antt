@@ -52,12 +52,12 @@ returns-clause-fixes g c =
 pub returns-in_err-blob-clause-errors : goal.returns-in_err-blob-clause-errors
 returns-in_err-blob-clause-errors g c = λ q sizes.
     let said : error_of c.from_residual.result ≡ error_of c.open_cut.result = search rules in
-    subst IsLimit (sym said) (c.open_cut.ensures.errors q sizes)
+    subst (IsLimit _) (sym said) (c.open_cut.ensures.errors q sizes)
 
 pub returns-in_err-sync_file-clause-errors : goal.returns-in_err-sync_file-clause-errors
 returns-in_err-sync_file-clause-errors g c = λ q sizes.
     let said : error_of c.from_residual-in_err-sync_file.result ≡ error_of c.sync_file.result = search rules in
-    subst IsLimit (sym said) (c.sync_file.ensures.errors (c.in_ok-blob.ensures.ready q))
+    subst (IsLimit _) (sym said) (c.sync_file.ensures.errors (c.in_ok-blob.ensures.ready q))
 
 pub returns-clause-faultless : goal.returns-clause-faultless
 returns-clause-faultless g c = λ q. (c.sync_file.ensures.ready (c.in_ok-blob.ensures.ready q)).faultless

@@ -18,4 +18,4 @@ returns-clause-whole g c =
 pub returns-in_err-blob-clause-errors : goal.returns-in_err-blob-clause-errors
 returns-in_err-blob-clause-errors g c = λ q sizes.
     let said : error_of c.from_residual.result ≡ error_of c.open_left.result = search rules in
-    subst IsLimit (sym said) (c.open_left.ensures.errors q sizes)
+    subst (IsLimit _) (sym said) (c.open_left.ensures.errors q sizes)

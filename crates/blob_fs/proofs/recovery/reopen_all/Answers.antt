@@ -85,4 +85,4 @@ reopen-requires g c =
 pub returns-in_err-file-clause-errors : goal.returns-in_err-file-clause-errors
 returns-in_err-file-clause-errors g c = λ q sizes.
     let said : c.from_residual.result ≡ Err (Store c.in_err-file.field-0.0) = refused_store c.from_residual.result c.in_err-file.field-0.0 c.from_residual.ensures.0 c.from_residual.ensures.1 in
-    subst StopsAtLimits (sym said) (c.in_err-file.ensures.errors (c.loop-inode.invariant.faultless q) sizes)
+    subst (StopsAtLimits c.reopen.new.store) (sym said) (c.in_err-file.ensures.errors (c.loop-inode.invariant.faultless q) sizes)

@@ -64,14 +64,14 @@ returns-clause-ready g c = λ r. c.sync_file.ensures.ready (c.write_file.ensures
 pub returns-in_err-resize_file-clause-errors : goal.returns-in_err-resize_file-clause-errors
 returns-in_err-resize_file-clause-errors g c = λ r.
     let said : error_of c.from_residual.result ≡ error_of c.resize_file.result = search rules in
-    subst IsLimit (sym said) (c.resize_file.ensures.errors r)
+    subst (IsLimit _) (sym said) (c.resize_file.ensures.errors r)
 
 pub returns-in_err-write_file-clause-errors : goal.returns-in_err-write_file-clause-errors
 returns-in_err-write_file-clause-errors g c = λ r.
     let said : error_of c.from_residual-in_err-write_file.result ≡ error_of c.write_file.result = search rules in
-    subst IsLimit (sym said) (c.write_file.ensures.errors (c.resize_file.ensures.ready r))
+    subst (IsLimit _) (sym said) (c.write_file.ensures.errors (c.resize_file.ensures.ready r))
 
 pub returns-in_err-sync_file-clause-errors : goal.returns-in_err-sync_file-clause-errors
 returns-in_err-sync_file-clause-errors g c = λ r.
     let said : error_of c.from_residual-in_err-sync_file.result ≡ error_of c.sync_file.result = search rules in
-    subst IsLimit (sym said) (c.sync_file.ensures.errors (c.write_file.ensures.ready (c.resize_file.ensures.ready r)))
+    subst (IsLimit _) (sym said) (c.sync_file.ensures.errors (c.write_file.ensures.ready (c.resize_file.ensures.ready r)))

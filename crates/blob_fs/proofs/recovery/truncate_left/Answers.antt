@@ -85,7 +85,7 @@ returns-clause-still g c = on_map c.rewrite.result c.rewrite.ensures.still (λ c
 pub returns-in_err-found-clause-errors : goal.returns-in_err-found-clause-errors
 returns-in_err-found-clause-errors g c = λ r.
     let said : error_of c.from_residual.result ≡ error_of c.read_whole.result = search rules in
-    subst IsLimit (sym said) (c.read_whole.ensures.errors r.faultless r.is.tracked)
+    subst (IsLimit _) (sym said) (c.read_whole.ensures.errors r.faultless r.is.tracked)
 
 pub returns-clause-errors : goal.returns-clause-errors
 returns-clause-errors g c = λ r. c.rewrite.ensures.errors (c.read_whole.ensures.ready c.args.blob.now r)

@@ -1,12 +1,11 @@
-use Rattle.std.proofs.Common.{◌≡◌, List, ℕ, ap₂, false, refl}
-use Rattle.blob_directory.specs.Profiles.{found_in_all}
-use Rattle.blob_directory.specs.Sectors.{Found}
+use Rattle.std.proofs.Common.{◌≡◌, List, false, refl}
+use Rattle.blob_directory.specs.Records.{Found}
 use Rattle.blob_journal.specs.Keeping.{told_by}
 use Rattle.blob_journal.specs.Told.{Grows}
 use Rattle.blob_journal.proofs.Growing.{grows_settled, settled_none}
-use Rattle.blob_journal.proofs.Telling.{told_more, told_same}
+use Rattle.blob_journal.proofs.Telling.{told_next, told_same}
 use Rattle.blob_journal.proofs.Settling.{changes_none}
-use Rattle.blob_journal.proofs.Found.{refused_kept, same_kept, settled_kept}
+use Rattle.blob_journal.proofs.Found.{refused_kept, same_kept, same_told, settled_kept, told_one}
 use Rattle.std.proofs.Common.{◌+◌, ap, sym, subst, take, ◌∙◌}
 use Rattle.blob_model.specs.Places.{Place}
 use Rattle.blob_memory.specs.Store.{directory, place}
@@ -35,21 +34,23 @@ loop-edit-preserved g c =
             settled = subst (λ (x : OverMemory g.row.R.Denot). Changes before x at (all_settled (take (k + 1) edits))) (sym w.store-is)
                 (marked_more edits k item c.loop-edit-test.true c.edit-item.is before c.loop-edit.store w.settle.new.store at (place (inside c.loop-edit.journal.blob)) i.place i.directory w.if-edit.true i.settled s.settled);
             generation = ap (λ (j : Journal). j.generation) w.journal-is ∙ s.generation ∙ i.generation;
-            sectors = ap (λ (j : Journal). j.sectors) w.journal-is ∙ s.sectors ∙ i.sectors;
+            records = ap (λ (j : Journal). j.records) w.journal-is ∙ s.records ∙ i.records;
             directory = ap (λ (x : OverMemory g.row.R.Denot). directory (inner_of x)) w.store-is ∙ s.directory ∙ i.directory;
             place = ap (λ (j : Journal). place (inside j.blob)) w.journal-is ∙ s.place ∙ i.place;
             kept = λ h. same_kept _ w.settle.new.store _ w.settle.new.self edits w.store-is w.journal-is
-                (settled_kept c.loop-edit.store w.settle.new.store c.loop-edit.journal w.settle.new.self edits k item c.loop-edit-test.true c.edit-item.is s.sectors s.bytes (λ low. s.left low) (i.kept h));
+                (settled_kept c.records.ensures.found c.loop-edit.store w.settle.new.store c.loop-edit.journal w.settle.new.self edits k item c.loop-edit-test.true c.edit-item.is w.in_ok-settle.ensures.left (i.kept h));
             beside = subst (λ (x : OverMemory g.row.R.Denot). FindsNoMoreBut at before x) (sym w.store-is)
                 (beside_more before c.loop-edit.store w.settle.new.store at (place (inside c.loop-edit.journal.blob)) i.place i.directory i.beside s.beside);
-            told = λ h. ap told_by w.journal-is ∙ told_more c.loop-edit.store c.loop-edit.journal w.settle.new.self edits k item c.loop-edit-test.true c.edit-item.is w.if-edit.true s.sectors s.bytes (i.kept h) (told_by c.args.journal.now) (i.told h);
+            told = λ h. ap told_by w.journal-is ∙ told_next c.loop-edit.journal w.settle.new.self edits k item c.loop-edit-test.true c.edit-item.is w.if-edit.true
+                (told_one c.records.ensures.found c.loop-edit.store w.settle.new.store c.loop-edit.journal w.settle.new.self edits k item c.loop-edit-test.true c.edit-item.is w.in_ok-settle.ensures.left (i.kept h))
+                (told_by c.args.journal.now) (i.told h);
           }
       | else-edit w ↦
           record {
             settled = subst (λ (x : OverMemory g.row.R.Denot). Changes before x at (all_settled (take (k + 1) edits))) (sym w.store-is)
                 (unmarked_more edits k item c.loop-edit-test.true c.edit-item.is before c.loop-edit.store at w.if-edit.false i.settled);
             generation = ap (λ (j : Journal). j.generation) w.journal-is ∙ i.generation;
-            sectors = ap (λ (j : Journal). j.sectors) w.journal-is ∙ i.sectors;
+            records = ap (λ (j : Journal). j.records) w.journal-is ∙ i.records;
             directory = ap (λ (x : OverMemory g.row.R.Denot). directory (inner_of x)) w.store-is ∙ i.directory;
             place = ap (λ (j : Journal). place (inside j.blob)) w.journal-is ∙ i.place;
             kept = λ h. same_kept _ c.loop-edit.store _ c.loop-edit.journal edits w.store-is w.journal-is (i.kept h);
@@ -61,14 +62,13 @@ loop-edit-preserved g c =
 pub returns-in_err-settle-clause-kept : goal.returns-in_err-settle-clause-kept
 returns-in_err-settle-clause-kept g c = λ h.
     let s = c.in_err-settle.ensures in
-    refused_kept c.loop-edit.store c.settle.new.store c.loop-edit.journal c.settle.new.self c.args.edits.now c.loop-edit.edit-index c.edit-item.result c.loop-edit-test.true c.edit-item.is
-    s.sectors s.refused (λ low. s.left low) (c.loop-edit.invariant.kept h)
+    refused_kept c.loop-edit.store c.settle.new.store c.loop-edit.journal c.settle.new.self c.args.edits.now s.same (c.loop-edit.invariant.kept h)
 
 pub loop-edit-init : goal.loop-edit-init
 loop-edit-init g c = record {
   settled = changes_none c.args.store.now (place (inside c.args.journal.now.blob));
   generation = refl;
-  sectors = refl;
+  records = refl;
   directory = refl;
   place = refl;
   kept = λ h. h;
@@ -80,7 +80,7 @@ pub returns-in_err-settle-clause-grows : goal.returns-in_err-settle-clause-grows
 returns-in_err-settle-clause-grows g c = λ h.
     let s = c.in_err-settle.ensures in
     let k = c.loop-edit.invariant.kept h in
-    let same : told_by c.settle.new.self ≡ told_by c.loop-edit.journal = ap₂ (λ (n : ℕ) (l : List ℕ). found_in_all n l) s.sectors (s.refused k.sectors) in
+    let same : told_by c.settle.new.self ≡ told_by c.loop-edit.journal = same_told c.loop-edit.store c.settle.new.store c.loop-edit.journal c.settle.new.self c.args.edits.now s.same k in
     subst (λ (l : List Found). Grows (told_by c.args.journal.now) l) (sym (same ∙ c.loop-edit.invariant.told h)) (grows_settled _ 0 (told_by c.args.journal.now))
 
 pub returns-clause-grows : goal.returns-clause-grows

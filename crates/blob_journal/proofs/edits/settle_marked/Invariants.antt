@@ -13,7 +13,7 @@ invariant-loop-edit g l = record {
   beside : FindsNoMoreBut (place (inside l.fn.journal.blob)) l.fn.store l.store;
   settled : Changes l.fn.store l.store (place (inside l.fn.journal.blob)) (all_settled (take l.edit-index l.edits));
   generation : l.journal.generation ≡ l.fn.journal.generation;
-  sectors : l.journal.sectors ≡ l.fn.journal.sectors;
+  records : l.journal.records ≡ l.fn.journal.records;
   directory : directory (inner_of l.store) ≡ directory (inner_of l.fn.store);
   place : place (inside l.journal.blob) ≡ place (inside l.fn.journal.blob);
   kept : IsKept l.fn.store l.fn.journal l.edits → IsKept l.store l.journal l.edits;

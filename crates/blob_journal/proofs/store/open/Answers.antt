@@ -4,7 +4,7 @@ use Rattle.blob_model.specs.Directory.{Directory, is_current}
 use Rattle.blob_memory.specs.Store.{directory, live, place}
 use Rattle.blob_faulty.specs.Wrapper.{inner_of, inside}
 use Rattle.blob_model.specs.Files.{after_open}
-use Rattle.blob_journal.proofs.Currents.{named_current, opened_keeps}
+use Rattle.blob_journal.proofs.Currents.{begun_number, named_current, opened_keeps}
 use Rattle.blob_journal.proofs.Standing.{unrecorded}
 use Rattle.blob_journal.proofs.Blobs.{blob_same, opened_incarnation, opened_others}
 use Rattle.blob_journal.proofs.Limits.{open_answers, opened_accepted, still_accepted, unrefused}
@@ -63,6 +63,9 @@ returns-clause-left g c = λ o test k. c.accepted_opens-2.ensures c.args.store.n
 pub returns-clause-begun : goal.returns-clause-begun
 returns-clause-begun g c = λ none. begun_empty _ _ _ _ _ _ _ _ _ _ _ c.in_ok-blob.ensures.opened none
 
+pub returns-clause-numbered : goal.returns-clause-numbered
+returns-clause-numbered g c = λ none. begun_number _ _ _ _ _ _ _ _ _ _ _ c.in_ok-blob.ensures.opened none
+
 pub returns-in_err-blob-clause-next : goal.returns-in_err-blob-clause-next
 returns-in_err-blob-clause-next g c = same_next (directory (inner_of c.args.store.now)) (directory (inner_of c.open.new.self)) c.in_err-blob.ensures.err.0
 
@@ -92,7 +95,9 @@ returns-clause-accepted g c = opened_accepted _ _ _ _ _ _ _ _ c.in_ok-blob.ensur
     (unrefused (draw (config_of c.args.store.now).open_rate (g.R.Rng.stream (rng_of c.args.store.now))).0 (directory (inner_of c.args.store.now)) c.args.partition.now c.args.name.now c.in_ok-blob.ensures.allowed)
 
 pub returns-in_err-blob-clause-errors : goal.returns-in_err-blob-clause-errors
-returns-in_err-blob-clause-errors g c = λ quiet accepted valid.
+returns-in_err-blob-clause-errors g c = λ q valid.
     let old = c.args.store.now in
     let said : error_of c.from_residual.result ≡ error_of c.open.result = search rules in
-    subst IsLimit (sym said) (open_answers (config_of old) (g.R.Rng.stream (rng_of old)) (directory (inner_of old)) c.args.partition.now c.args.name.now (error_of c.open.result) quiet valid accepted c.open.ensures.allowed)
+    let limit : IsLimit (directory (inner_of old)).next (error_of c.open.result) =
+    open_answers (config_of old) (g.R.Rng.stream (rng_of old)) (directory (inner_of old)) c.args.partition.now c.args.name.now (error_of c.open.result) q.0 valid q.1 c.open.ensures.allowed in
+    subst (λ (d : Directory). IsLimit d.next (error_of c.from_residual.result)) (sym c.in_err-blob.ensures.err.0) (subst (IsLimit (directory (inner_of old)).next) (sym said) limit)

@@ -21,4 +21,4 @@ returns-in_err-read_into-clause-errors g c = λ quiet within.
     let old = c.args.store.now in
     let blob = c.args.blob.now in
     let said : error_of c.from_residual-in_err-read_into.result ≡ error_of c.read_into.result = search rules in
-    subst IsLimit (sym said) (read_answers (config_of old) (g.R.Rng.stream (rng_of old)) (place (inside blob)) (live (inside blob)) 0 _ (error_of c.read_into.result) quiet (omega (arith, within, c.as_mut_slice-buf.ensures.len, c.in_ok-resize.ensures.len)) c.read_into.ensures.allowed)
+    subst (IsLimit _) (sym said) (read_answers _ (config_of old) (g.R.Rng.stream (rng_of old)) (place (inside blob)) (live (inside blob)) 0 _ (error_of c.read_into.result) quiet (omega (arith, within, c.as_mut_slice-buf.ensures.len, c.in_ok-resize.ensures.len)) c.read_into.ensures.allowed)

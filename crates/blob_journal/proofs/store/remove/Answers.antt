@@ -9,10 +9,15 @@ use Rattle.blob_faulty.specs.Wrapper.{inner_of}
 use Rattle.std.proofs.Common.{Some, ◌&&◌, Bool}
 use Rattle.blob_model.specs.Directory.{is_current as current_in}
 use Rattle.blob_model.specs.Files.{after_remove}
-use Rattle.blob_journal.proofs.Currents.{removed_keeps}
+use Rattle.blob_journal.proofs.Currents.{removed_gone, removed_keeps}
 use Rattle.blob_journal.proofs.Standing.{unrecorded}
 use Rattle.blob_journal.proofs.Blobs.{blob_same, removed_others}
-use Rattle.blob_journal.proofs.Limits.{removed_accepted, still_accepted}
+use Rattle.blob_journal.proofs.Limits.{missing_gone, remove_answers, removed_accepted, still_accepted}
+use Rattle.blob_draws.specs.Faults.{draw}
+use Rattle.blob_faulty.specs.Wrapper.{config_of, rng_of}
+use Rattle.blob_header.specs.Refusals.{Refusal, error_of}
+use Rattle.blob_journal.specs.Limits.{IsRemoval, is_missing}
+use Rattle.std.proofs.Common.{◌≡◌, Option, rules, true}
 use Rattle.blob_journal.proofs.store.remove.Goals as goal
 
 pub returns-in_err-remove-clause-current : goal.returns-in_err-remove-clause-current
@@ -74,3 +79,21 @@ returns-in_err-remove-clause-accepted g c = still_accepted c.args.store.now c.re
 
 pub returns-clause-accepted : goal.returns-clause-accepted
 returns-clause-accepted g c = removed_accepted (directory (inner_of c.args.store.now)) (directory (inner_of c.remove.new.self)) c.args.partition.now c.args.name.now c.in_ok-remove.ensures.directory
+
+pub returns-clause-gone : goal.returns-clause-gone
+returns-clause-gone g c = removed_gone (directory (inner_of c.args.store.now)) (directory (inner_of c.remove.new.self)) c.args.partition.now c.args.name.now c.in_ok-remove.ensures.directory
+
+pub returns-in_err-remove-clause-missing : goal.returns-in_err-remove-clause-missing
+returns-in_err-remove-clause-missing g c = λ missing.
+    let old = c.args.store.now in
+    let said : error_of c.from_residual.result ≡ error_of c.remove.result = search rules in
+    ap (λ (d : Directory). d.file c.args.partition.now c.args.name.now) c.in_err-remove.ensures.err.0
+    ∙ missing_gone (draw (config_of old).remove_rate (g.R.Rng.stream (rng_of old))).0 (inner_of old) c.args.partition.now c.args.name.now (error_of c.remove.result) c.remove.ensures.allowed
+    (subst (λ (a : Option Refusal). is_missing a ≡ true) said missing)
+
+pub returns-in_err-remove-clause-errors : goal.returns-in_err-remove-clause-errors
+returns-in_err-remove-clause-errors g c = λ quiet valid.
+    let old = c.args.store.now in
+    let said : error_of c.from_residual.result ≡ error_of c.remove.result = search rules in
+    subst IsRemoval (sym said)
+    (remove_answers (config_of old) (g.R.Rng.stream (rng_of old)) (directory (inner_of old)) c.args.partition.now c.args.name.now (error_of c.remove.result) quiet valid c.remove.ensures.allowed)

@@ -1,6 +1,6 @@
 use Rattle.std.proofs.Common.{◌≡◌, ◌+◌, ℕ, length, ap, arith, sym, ◌∙◌}
 use Rattle.blob_directory.specs.Names.{change_of}
-use Rattle.blob_directory.proofs.Sectors.{length-change_bytes}
+use Rattle.blob_directory.proofs.Records.{length-change_bytes}
 use Rattle.blob_directory.proofs.edit.Change.size.Goals as goal
 
 pub returns-clause-fits : goal.returns-clause-fits

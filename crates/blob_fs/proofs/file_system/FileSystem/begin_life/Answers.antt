@@ -54,4 +54,4 @@ invariant_of-self-2 g c =
 pub returns-in_err-directories-clause-errors : goal.returns-in_err-directories-clause-errors
 returns-in_err-directories-clause-errors g c = λ q.
     let said : c.from_residual.result ≡ Err (Store c.in_err-directories.field-0.0) = search rules in
-    subst StopsAtLimits (sym said) (c.in_err-directories.ensures.errors q)
+    subst (StopsAtLimits c.renew.new.self) (sym said) (c.in_err-directories.ensures.errors q)

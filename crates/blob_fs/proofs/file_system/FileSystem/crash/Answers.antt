@@ -1,5 +1,5 @@
 use Rattle.std.proofs.Common.{List}
-use Rattle.blob_directory.specs.Sectors.{Found}
+use Rattle.blob_directory.specs.Records.{Found}
 use Rattle.blob_journal.specs.Told.{names_kept}
 use Rattle.std.proofs.Common.{sym, subst}
 use Rattle.blob_directory.specs.declared.table.Table.{Table}
@@ -23,6 +23,7 @@ use Rattle.blob_journal.specs.Journals.{store_of}
 use Rattle.blob_fs.specs.declared.crash.Place.{Place}
 use Rattle.blob_fs.specs.Places.{FindsPlaces}
 use Rattle.blob_fs.proofs.Drawn.{rows_fit, rows_found}
+use Rattle.blob_fs.specs.Errors.{next_number}
 use Rattle.blob_fs.proofs.file_system.FileSystem.crash.Goals as goal
 
 pub returns-clause-found : goal.returns-clause-found
@@ -122,3 +123,6 @@ returns-clause-places g c =
 
 pub returns-clause-known : goal.returns-clause-known
 returns-clause-known g c = λ name inode below named. c.in-Ok.ensures.known name inode below named
+
+pub returns-in-Err-clause-errors : goal.returns-in-Err-clause-errors
+returns-in-Err-clause-errors g c = c.refusal.ensures (next_number c.recover.new.self.store) c.in-Err.ensures.errors

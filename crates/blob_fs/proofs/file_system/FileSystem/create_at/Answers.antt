@@ -8,7 +8,7 @@ use Rattle.blob_fs.specs.Files.{SameNames}
 use Rattle.blob_fs.proofs.Named.{named_store}
 use Rattle.blob_fs.proofs.Tracked.{none_found, tracked_store}
 use Rattle.std.proofs.Common.{◌≡◌, ℕ, List, None, subst}
-use Rattle.blob_directory.specs.Sectors.{Found}
+use Rattle.blob_directory.specs.Records.{Found}
 use Rattle.blob_journal.specs.Bindings.{MayName}
 use Rattle.blob_journal.specs.Keeping.{table_in}
 use Rattle.blob_fs.specs.Bytes.{file_in}

@@ -1,5 +1,5 @@
 use Rattle.std.proofs.Common.{List, subst, sym, ◌∙◌}
-use Rattle.blob_directory.specs.Sectors.{Found}
+use Rattle.blob_directory.specs.Records.{Found}
 use Rattle.blob_journal.specs.Bindings.{MayName}
 use Rattle.blob_fs.specs.Files.{table_of}
 use Rattle.blob_fs.proofs.Named.{most_table}

@@ -141,14 +141,14 @@ returns-clause-fixes g c =
 pub returns-in_err-tree-clause-errors : goal.returns-in_err-tree-clause-errors
 returns-in_err-tree-clause-errors g c =
     let said : c.from_residual.result ≡ Err (Store c.in_err-tree.field-0.0) = search rules in
-    subst StopsAtLimits (sym said) (c.in_err-tree.ensures.errors)
+    subst (StopsAtLimits c.find_names.new.self) (sym said) (c.in_err-tree.ensures.errors)
 
 pub returns-in_err-files-clause-errors : goal.returns-in_err-files-clause-errors
 returns-in_err-files-clause-errors g c =
     let said : c.from_residual-in_err-files.result ≡ Err c.in_err-files.field-0.0 = search rules in
-    subst StopsAtLimits (sym said) (c.in_err-files.ensures.errors c.find_names.ensures.faultless (sizes_tracked c.find_names.new.self c.args.self.now.files (opened_store c.args.self.now.store c.find_names.new.self c.args.self.now.files c.find_names.ensures.still c.args.self.now.opened)))
+    subst (StopsAtLimits c.reopen_all.new.store) (sym said) (c.in_err-files.ensures.errors c.find_names.ensures.faultless (sizes_tracked c.find_names.new.self c.args.self.now.files (opened_store c.args.self.now.store c.find_names.new.self c.args.self.now.files c.find_names.ensures.still c.args.self.now.opened)))
 
 pub returns-in_err-begin_life-clause-errors : goal.returns-in_err-begin_life-clause-errors
 returns-in_err-begin_life-clause-errors g c =
     let said : c.from_residual-in_err-begin_life.result ≡ Err c.in_err-begin_life.field-0.0 = search rules in
-    subst StopsAtLimits (sym said) (c.in_err-begin_life.ensures.errors (c.in_ok-files.ensures.faultless c.find_names.ensures.faultless))
+    subst (StopsAtLimits c.begin_life.new.self.store) (sym said) (c.in_err-begin_life.ensures.errors (c.in_ok-files.ensures.faultless c.find_names.ensures.faultless))

@@ -1,5 +1,5 @@
 use Rattle.std.proofs.Common.{◌≤◌, ◌∙◌, List, arith, refl, subst, sym, take}
-use Rattle.blob_directory.specs.Sectors.{Found}
+use Rattle.blob_directory.specs.Records.{Found}
 use Rattle.blob_directory.specs.Settled.{AreSettled}
 use Rattle.blob_fs.proofs.Fixed.{contents_self, fixed_after, fixed_twice, still_self}
 use Rattle.blob_fs.proofs.file_system.FileSystem.remove_gone.Goals as goal

@@ -1,4 +1,3 @@
-use Rattle.blob_journal.proofs.Sectors.{live_overlay}
 use Rattle.blob_model.specs.Live.{live_written}
 use Rattle.blob_model.specs.Bytes.{write_live}
 use Rattle.blob_header.specs.Refusals.{refusal_of}
@@ -16,6 +15,7 @@ use Rattle.blob_draws.specs.Recorded.{recorded_write}
 use Rattle.blob_faulty.specs.Wrapper.{config_of, next_write_of, rng_of}
 use Rattle.blob_journal.specs.Currents.{left_at}
 use Rattle.blob_journal.proofs.Overlays.{over_nothing}
+use Rattle.blob_packed.proofs.Overlays.{live_overlay}
 use Rattle.blob_journal.proofs.Standing.{fixed_by, kept_left}
 use Rattle.std.proofs.lemmas.Bool.{cond-false}
 use Rattle.blob_journal.proofs.Limits.{write_allowed}
@@ -84,5 +84,5 @@ pub returns-in_err-write_from-clause-errors : goal.returns-in_err-write_from-cla
 returns-in_err-write_from-clause-errors g c = λ quiet here.
     let old = c.args.store.now in
     let said : error_of c.from_residual.result ≡ error_of c.write_from.result = search rules in
-    subst IsLimit (sym said) (write_allowed (config_of old) _ _ (next_write_of old) (g.R.Rng.stream (rng_of old)) (directory (inner_of old)) (place (inside c.args.self.now.blob)) _ 0 c.args.bytes.now true (error_of c.write_from.result)
+    subst (IsLimit _) (sym said) (write_allowed _ (config_of old) _ _ (next_write_of old) (g.R.Rng.stream (rng_of old)) (directory (inner_of old)) (place (inside c.args.self.now.blob)) _ 0 c.args.bytes.now true (error_of c.write_from.result)
     quiet (λ s. here) c.write_from.ensures.allowed)

@@ -46,6 +46,9 @@ pub returns-clause-begun : goal.returns-clause-begun
 returns-clause-begun g c = λ none. c.in_ok-bytes.ensures.bytes c.in_ok-blob.ensures.size
     ∙ c.in_ok-blob.ensures.begun (ap (λ (n : List ℕ). (directory (inner_of c.args.store.now)).file (codes "j") n) c.to_be_bytes.ensures ∙ none)
 
+pub returns-clause-numbered : goal.returns-clause-numbered
+returns-clause-numbered g c = λ none. c.in_ok-blob.ensures.numbered (ap (λ (n : List ℕ). (directory (inner_of c.args.store.now)).file (codes "j") n) c.to_be_bytes.ensures ∙ none)
+
 pub returns-clause-given : goal.returns-clause-given
 returns-clause-given g c = subst (λ (s : memory.Storage). (place (inside c.in_ok-blob.blob)).number < (directory s).next) (sym c.read_all.ensures.inner) c.in_ok-blob.ensures.given
 
@@ -68,14 +71,14 @@ pub returns-clause-accepted : goal.returns-clause-accepted
 returns-clause-accepted g c = λ all. still_accepted c.open.new.store c.read_all.new.store (ap (λ (s : memory.Storage). directory s) c.read_all.ensures.inner) (c.open.ensures.accepted all)
 
 pub returns-in_err-blob-clause-errors : goal.returns-in_err-blob-clause-errors
-returns-in_err-blob-clause-errors g c = λ quiet accepted.
+returns-in_err-blob-clause-errors g c = λ q.
     let said : error_of c.from_residual.result ≡ error_of c.open.result = search rules in
-    subst IsLimit (sym said) (c.open.ensures.errors quiet accepted refl)
+    subst (IsLimit _) (sym said) (c.open.ensures.errors q refl)
 
 pub returns-in_err-bytes-clause-errors : goal.returns-in_err-bytes-clause-errors
-returns-in_err-bytes-clause-errors g c = λ quiet accepted.
+returns-in_err-bytes-clause-errors g c = λ q.
     let said : error_of c.from_residual-in_err-bytes.result ≡ error_of c.read_all.result = search rules in
-    subst IsLimit (sym said) (c.read_all.ensures.errors (c.open.ensures.faults ∙ quiet) (omega (arith, c.in_ok-blob.ensures.size)))
+    subst (IsLimit _) (sym said) (c.read_all.ensures.errors (c.open.ensures.faults ∙ q.0) (omega (arith, c.in_ok-blob.ensures.size)))
 
 pub returns-in_err-bytes-clause-incarnations : goal.returns-in_err-bytes-clause-incarnations
 returns-in_err-bytes-clause-incarnations g c = λ p n o is. incarnations_same c.open.new.store c.read_all.new.store (ap (λ (s : memory.Storage). directory s) c.read_all.ensures.inner) p n o (c.open.ensures.incarnations p n o is)

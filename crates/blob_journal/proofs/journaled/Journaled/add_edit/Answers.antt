@@ -1,9 +1,8 @@
 use Rattle.std.proofs.Common.{List, [], ◌∷◌, ◌++◌, ◌≡◌, Some, false, refl, rules}
 use Rattle.blob_directory.specs.declared.unsettled.Unsettled.{Unsettled}
 use Rattle.std.proofs.Math.Logic.{∥∥₁_elim}
-use Rattle.blob_directory.specs.Profiles.{found_in_all}
 use Rattle.blob_directory.specs.Names.{Edit, edit_of}
-use Rattle.blob_directory.specs.Sectors.{Found, found_in, sector_of}
+use Rattle.blob_directory.specs.Records.{Found, edit_found, found_in, record_of}
 use Rattle.blob_journal.specs.Keeping.{told_by}
 use Rattle.blob_journal.proofs.Limits.{still_accepted}
 use Rattle.blob_journal.proofs.Growing.{told_prop}
@@ -11,7 +10,7 @@ use Rattle.blob_journal.proofs.Found.{on_err}
 use Rattle.std.proofs.Math.Logic.{∥∥₁_map}
 use Rattle.blob_memory.specs.Store.{directory}
 use Rattle.blob_faulty.specs.Wrapper.{inner_of}
-use Rattle.blob_journal.proofs.Found.{done_add, refused_add, same_next, still_given}
+use Rattle.blob_journal.proofs.Found.{done_add, refused_add, same_next, still_given, told_one_more}
 use Rattle.std.proofs.Common.{ap, ap₂, sym, ◌∙◌, ℕ}
 use Rattle.std.specs.Int.{w64, to_be_bytes}
 use Rattle.blob_model.specs.Directory.{Directory, is_current}
@@ -21,6 +20,7 @@ use Rattle.blob_memory.specs.Store.{place}
 use Rattle.blob_faulty.specs.Wrapper.{inside}
 use Rattle.blob_journal.proofs.Blobs.{journal_apart}
 use Rattle.blob_journal.proofs.Fixed.{current_given, incarnations_same, keeps_open}
+use Rattle.blob_journal.proofs.Numbers.{still_numbered}
 use Rattle.blob_journal.proofs.journaled.Journaled.add_edit.Goals as goal
 
 pub invariant_of-self-in-Break-branch-2 : goal.invariant_of-self-in-Break-branch-2
@@ -29,9 +29,10 @@ invariant_of-self-in-Break-branch-2 g c = record {
   name = ap (λ (o : Place). o.name) c.add.ensures.place ∙ c.args.self.now.name ∙ ap (λ (n : ℕ). to_be_bytes w64 n) (sym c.add.ensures.generation);
   current = ap₂ (λ (d : Directory) (o : Place). is_current d o) c.add.ensures.directory c.add.ensures.place ∙ c.args.self.now.current;
   given = still_given c.args.self.now.store c.add.new.store c.args.self.now.opened (same_next (directory (inner_of c.args.self.now.store)) (directory (inner_of c.add.new.store)) c.add.ensures.directory) c.args.self.now.given;
+  numbered = still_numbered c.args.self.now.journal c.add.new.self c.add.ensures.place c.add.ensures.generation c.args.self.now.numbered;
   accepted = still_accepted c.args.self.now.store c.add.new.store c.add.ensures.directory c.args.self.now.accepted;
   kept = ∥∥₁_map c.args.self.now.kept (λ k. refused_add c.args.self.now.store c.add.new.store c.args.self.now.journal c.add.new.self c.args.self.now.unsettled.items c.reserve.new.self.items
-      c.reserve.ensures.items c.in_err-sector.ensures.refused c.in_err-sector.ensures.unmoved (c.add.ensures.left k.sectors) k);
+      c.reserve.ensures.items c.in_err-record.ensures.same k);
 }
 
 pub invariant_of-self-2 : goal.invariant_of-self-2
@@ -40,23 +41,25 @@ invariant_of-self-2 g c = record {
   name = ap (λ (o : Place). o.name) c.add.ensures.place ∙ c.args.self.now.name ∙ ap (λ (n : ℕ). to_be_bytes w64 n) (sym c.add.ensures.generation);
   current = ap₂ (λ (d : Directory) (o : Place). is_current d o) c.add.ensures.directory c.add.ensures.place ∙ c.args.self.now.current;
   given = still_given c.args.self.now.store c.add.new.store c.args.self.now.opened (same_next (directory (inner_of c.args.self.now.store)) (directory (inner_of c.add.new.store)) c.add.ensures.directory) c.args.self.now.given;
+  numbered = still_numbered c.args.self.now.journal c.add.new.self c.add.ensures.place c.add.ensures.generation c.args.self.now.numbered;
   accepted = still_accepted c.args.self.now.store c.add.new.store c.add.ensures.directory c.args.self.now.accepted;
   kept = ∥∥₁_map c.args.self.now.kept (λ k. done_add c.args.self.now.store c.add.new.store c.args.self.now.journal c.add.new.self c.args.self.now.unsettled.items _ c.push_reserved.new.self.items _
       c.push_reserved.ensures.items c.reserve.ensures.items
-      c.in_ok-sector.ensures.bytes c.in_ok-sector.ensures.sectors c.in_ok-sector.ensures.sector (c.add.ensures.left k.sectors) k);
+      c.in_ok-record.ensures.number c.in_ok-record.ensures.offset c.in_ok-record.ensures.left c.records-2.ensures.found k);
 }
 
-pub returns-in_err-sector-clause-untold : goal.returns-in_err-sector-clause-untold
-returns-in_err-sector-clause-untold g c = on_err _ _ (ap₂ (λ (n : ℕ) (l : List ℕ). found_in_all n l) c.in_err-sector.ensures.unmoved c.in_err-sector.ensures.refused)
+pub returns-in_err-record-clause-untold : goal.returns-in_err-record-clause-untold
+returns-in_err-record-clause-untold g c = on_err _ _ (ap found_in c.in_err-record.ensures.refused)
 
 pub returns-clause-told : goal.returns-clause-told
 returns-clause-told g c =
     let edit : Edit = edit_of c.args.edit in
-    let trip : found_in (sector_of edit false) ≡ Some (edit, false) = c.sectors.ensures.trip edit false (c.fits.ensures (search rules)) in
-    ∥∥₁_elim c.args.self.now.kept (told_prop _ _) (λ k. c.in_ok-sector.ensures.told k.sectors ∙ ap (λ (f : Found). told_by c.args.self.now.journal ++ f ∷ []) trip)
+    let trip : edit_found (Some (record_of edit false)) ≡ Some (edit, false) = c.records.ensures.trip edit false (c.fits.ensures (search rules)) in
+    ∥∥₁_elim c.args.self.now.kept (told_prop _ _) (λ k.
+    told_one_more c.records-2.ensures.found c.args.self.now.store c.add.new.store c.args.self.now.journal c.add.new.self k.records (record_of edit false) k.has (c.in_ok-record.ensures.left k.records k.has) ∙ ap (λ (f : Found). told_by c.args.self.now.journal ++ f ∷ []) trip)
 
-pub returns-in_err-sector-clause-still : goal.returns-in_err-sector-clause-still
-returns-in_err-sector-clause-still g c =
+pub returns-in_err-record-clause-still : goal.returns-in_err-record-clause-still
+returns-in_err-record-clause-still g c =
     let self = c.args.self.now in
     let at : Place = place (inside self.journal.blob) in
     keeps_open _ _ (incarnations_same self.store c.add.new.store c.add.ensures.directory (codes "f"))
@@ -73,7 +76,8 @@ pub returns-clause-noted : goal.returns-clause-noted
 returns-clause-noted g c =
     let last : Unsettled = record {
       edit = c.args.edit;
-      sector = c.in_ok-sector.sector;
+      «record» = c.in_ok-record.record;
+      offset = c.in_ok-record.offset;
       number = c.args.self.now.next_edit;
       about = c.args.about;
       is_wanted = false;

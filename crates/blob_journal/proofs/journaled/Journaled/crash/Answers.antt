@@ -43,6 +43,7 @@ invariant_of-self g c =
       name = self.name;
       current = ap (λ (d : Directory). is_current d at) same ∙ self.current;
       given = still_given self.store new self.opened (same_next (directory (inner_of self.store)) (directory (inner_of new)) same) self.given;
+      numbered = self.numbered;
       accepted = still_accepted self.store new same self.accepted;
       kept = still_kept self.store new self.journal self.unsettled.items (λ test k. by_result c.crash.result c.crash.ensures.rows c.crash.ensures.stands c.crash.ensures.same_files
           (λ rows drawn left. c.crashed.ensures self.store new at test rows same drawn left k)

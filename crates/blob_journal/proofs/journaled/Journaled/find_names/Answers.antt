@@ -1,13 +1,12 @@
-use Rattle.std.proofs.Common.{Bool, None, true}
-use Rattle.blob_memory.specs.Store.{live}
+use Rattle.std.proofs.Common.{Bool, None}
+use Rattle.blob_directory.specs.Records.{found_in}
 use Rattle.blob_directory.specs.Names.{all_edited}
 use Rattle.blob_journal.specs.Keeping.{told_in}
-use Rattle.blob_journal.specs.Sectors.{may_be_found}
 use Rattle.blob_journal.specs.Settling.{counted}
-use Rattle.blob_journal.specs.Told.{chosen_of, names_kept}
+use Rattle.blob_journal.specs.Told.{names_kept}
 use Rattle.blob_journal.proofs.Limits.{still_accepted}
-use Rattle.blob_journal.proofs.Telling.{found_now, whole_of}
-use Rattle.blob_journal.proofs.Told.{found_edits}
+use Rattle.blob_journal.proofs.Telling.{found_now}
+use Rattle.blob_journal.proofs.Told.{chosen_of}
 use Rattle.std.proofs.Common.{◌≤◌, subst}
 use Rattle.blob_model.specs.Directory.{is_current}
 use Rattle.blob_journal.specs.Currents.{KeepsNext}
@@ -76,7 +75,7 @@ returns-clause-fits g c =
     let found = c.in_ok-tree.ensures.finds (bound c.in_ok-names.names) (λ e. refl) in
     record {
       places = c.in_ok-tree.ensures.places;
-      sectors = λ e to h. c.in_ok-names.ensures.sectors e to (found.within e to h).0;
+      records = λ e to h. c.in_ok-names.ensures.fit e to (found.within e to h).0;
     }
 
 pub returns-clause-again : goal.returns-clause-again
@@ -112,6 +111,7 @@ invariant_of-self g c =
       name = self.name;
       current = c.open.ensures.kept at (ap (λ (s : memory.Storage). is_current (directory s) at) inner ∙ self.current);
       given = still_given self.store new self.opened next self.given;
+      numbered = self.numbered;
       accepted = c.open.ensures.accepted (still_accepted self.store mid (ap (λ (s : memory.Storage). directory s) inner) self.accepted);
       kept = still_kept self.store new self.journal self.unsettled.items (λ test k. c.open.ensures.left at test (no_more_set self.store mid c.default.result c.set_config.ensures.set at test k)) self.kept;
     }
@@ -122,18 +122,15 @@ returns-clause-kept g c =
     let at : Place = place (inside self.journal.blob) in
     let name : List ℕ = to_be_bytes w64 self.journal.generation in
     let bytes : List ℕ = c.in_ok-bytes.bytes.items in
-    let w : List ℕ = live (inside self.journal.blob) in
     let here : current (directory (inner_of self.store)) (codes "j") name ≡ Some at =
     ap₂ (λ (p n : List ℕ). current (directory (inner_of self.store)) p n) (sym self.partition) (sym self.name) ∙ current_of_name (directory (inner_of self.store)) at self.current in
     let inner : inner_of c.set_config.new.self ≡ inner_of self.store = ap (λ (s : OverMemory g.row.R.Denot). inner_of s) c.set_config.ensures.set in
     let found : durable (inner_of c.set_config.new.self) at ≡ Some bytes =
     c.in_ok-bytes.ensures.found at (ap (λ (s : memory.Storage). current (directory s) (codes "j") name) inner ∙ here) in
     let there : durable (inner_of self.store) at ≡ Some bytes = sym (ap (λ (s : memory.Storage). durable s at) inner) ∙ found in
-    let may : may_be_found self.journal.sectors w bytes ≡ true = found_now self.store self.journal self.unsettled.items bytes self.kept there in
-    let long = whole_of self.store self.journal self.unsettled.items self.kept in
-    let edits = found_edits c.args.keeps self.journal.sectors w bytes long may in
+    let edits = found_now c.records.ensures.kept c.records.ensures.found c.args.keeps self.store self.journal self.unsettled.items bytes self.kept there in
     let told : Same (bound c.in_ok-names.names) (names_told c.args.keeps c.deref.result.now) = c.in_ok-names.ensures.names in
-    let chosen = chosen_of w bytes in
+    let chosen = chosen_of (found_in bytes) in
     let same : Same (bound c.in_ok-names.names) (names_kept c.args.keeps chosen (told_in self)) =
     λ e. told e ∙ ap (λ l. names_told c.args.keeps l e) c.deref.ensures.value ∙ ap (λ es. all_edited (λ _. None) es e) edits in
     record { chosen = chosen; finds = c.in_ok-tree.ensures.finds (names_kept c.args.keeps chosen (told_in self)) same }

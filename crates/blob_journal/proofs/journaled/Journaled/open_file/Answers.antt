@@ -31,6 +31,7 @@ invariant_of-self g c = record {
   name = c.args.self.now.name;
   current = c.open.ensures.kept (place (inside c.args.self.now.journal.blob)) c.args.self.now.current;
   given = still_given c.args.self.now.store c.open.new.store c.args.self.now.opened c.open.ensures.next c.args.self.now.given;
+  numbered = c.args.self.now.numbered;
   accepted = c.open.ensures.accepted c.args.self.now.accepted;
   kept = still_kept c.args.self.now.store c.open.new.store c.args.self.now.journal c.args.self.now.unsettled.items (λ test k. c.open.ensures.left _ test k) c.args.self.now.kept;
 }
@@ -97,7 +98,7 @@ returns-clause-reopened g c =
 pub returns-in_err-blob-clause-errors : goal.returns-in_err-blob-clause-errors
 returns-in_err-blob-clause-errors g c = λ quiet.
     let said : error_of c.from_residual.result ≡ error_of c.open.result = search rules in
-    subst IsLimit (sym said) (c.open.ensures.errors quiet c.args.self.now.accepted refl)
+    subst (IsLimit _) (sym said) (c.open.ensures.errors (quiet, c.args.self.now.accepted) refl)
 
 pub returns-clause-ready : goal.returns-clause-ready
 returns-clause-ready g c = λ quiet.

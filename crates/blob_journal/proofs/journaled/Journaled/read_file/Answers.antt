@@ -26,6 +26,7 @@ invariant_of-self g c =
       name = self.name;
       current = ap (λ (d : Directory). is_current d (place (inside self.journal.blob))) same ∙ self.current;
       given = still_given self.store new self.opened (same_next (directory (inner_of self.store)) (directory (inner_of new)) same) self.given;
+      numbered = self.numbered;
       accepted = still_accepted self.store new same self.accepted;
       kept = still_kept self.store new self.journal self.unsettled.items
           (λ test k. c.same_bytes.ensures.unrecorded self.store new (place (inside self.journal.blob)) test same bytes r.leaves.unrecorded k) self.kept;

@@ -24,6 +24,7 @@ invariant_of-self g c =
       name = self.name;
       current = ap (λ (s : memory.Storage). is_current (directory s) (place (inside self.journal.blob))) c.read_all.ensures.inner ∙ self.current;
       given = still_given self.store new self.opened (same_next (directory (inner_of self.store)) (directory (inner_of new)) (ap (λ (s : memory.Storage). directory s) c.read_all.ensures.inner)) self.given;
+      numbered = self.numbered;
       accepted = still_accepted self.store new (ap (λ (s : memory.Storage). directory s) c.read_all.ensures.inner) self.accepted;
       kept = still_kept self.store new self.journal self.unsettled.items (λ test k. c.read_all.ensures.left _ test k) self.kept;
     }

@@ -65,6 +65,7 @@ invariant_of-self g c =
       name = self.name;
       current = c.remove.ensures.current at other self.current;
       given = still_given self.store new self.opened c.remove.ensures.next self.given;
+      numbered = self.numbered;
       accepted = c.remove.ensures.accepted self.accepted;
       kept = still_kept self.store new self.journal self.unsettled.items (λ test k. c.remove.ensures.left at test other k) self.kept;
     }

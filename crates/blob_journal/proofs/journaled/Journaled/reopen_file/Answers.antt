@@ -18,6 +18,7 @@ invariant_of-self g c = record {
   name = c.args.self.now.name;
   current = c.reopen.ensures.kept (place (inside c.args.self.now.journal.blob)) c.args.self.now.current;
   given = still_given c.args.self.now.store c.reopen.new.store c.args.self.now.opened c.reopen.ensures.next c.args.self.now.given;
+  numbered = c.args.self.now.numbered;
   accepted = c.reopen.ensures.accepted c.args.self.now.accepted;
   kept = still_kept c.args.self.now.store c.reopen.new.store c.args.self.now.journal c.args.self.now.unsettled.items (λ test k. c.reopen.ensures.left _ test k) c.args.self.now.kept;
 }

@@ -23,6 +23,7 @@ invariant_of-self g c =
       name = self.name;
       current = ap (λ (s : memory.Storage). is_current (directory s) (place (inside self.journal.blob))) same ∙ self.current;
       given = still_given self.store new self.opened (same_next (directory (inner_of self.store)) (directory (inner_of new)) (ap (λ (s : memory.Storage). directory s) same)) self.given;
+      numbered = self.numbered;
       accepted = still_accepted self.store new (ap (λ (s : memory.Storage). directory s) same) self.accepted;
       kept = subst (λ (s : OverMemory g.row.R.Denot). ∥ IsKept s self.journal self.unsettled.items ∥₁) (sym set) (with_kept self.store c.args.rng self.journal self.unsettled.items self.kept);
     }

@@ -42,6 +42,7 @@ invariant_of-self g c =
       name = self.name;
       current = ap (λ (d : Directory). is_current d at) w.directory ∙ self.current;
       given = still_given self.store new self.opened (same_next (directory (inner_of self.store)) (directory (inner_of new)) w.directory) self.given;
+      numbered = self.numbered;
       accepted = still_accepted self.store new w.directory self.accepted;
       kept = still_kept self.store new self.journal self.unsettled.items
           (λ test k. c.other_blobs.ensures.recorded self.store new file at test es c.in_ok-check.ensures.given other w.directory (w.leaves.recorded_after refl) k) self.kept;
@@ -120,7 +121,7 @@ returns-in_err-check-clause-errors g c = λ r. absurd (omega (arith, r.known, c.
 pub returns-clause-errors : goal.returns-clause-errors
 returns-clause-errors g c = λ r.
     let old = c.args.self.now.store in
-    resize_answers (config_of old) (g.R.Rng.stream (rng_of old)) (place (inside c.args.file.now.blob)) (size_of c.args.file.now.blob) c.args.length (error_of c.resize.result) r.faultless c.resize.ensures.allowed
+    resize_answers _ (config_of old) (g.R.Rng.stream (rng_of old)) (place (inside c.args.file.now.blob)) (size_of c.args.file.now.blob) c.args.length (error_of c.resize.result) r.faultless c.resize.ensures.allowed
 
 pub returns-clause-ready : goal.returns-clause-ready
 returns-clause-ready g c =

@@ -42,6 +42,7 @@ invariant_of-self g c =
       name = self.name;
       current = ap (λ (s : memory.Storage). is_current (directory s) (place (inside self.journal.blob))) same ∙ self.current;
       given = still_given self.store new self.opened (same_next (directory (inner_of self.store)) (directory (inner_of new)) (ap (λ (s : memory.Storage). directory s) same)) self.given;
+      numbered = self.numbered;
       accepted = still_accepted self.store new (ap (λ (s : memory.Storage). directory s) same) self.accepted;
       kept = still_kept self.store new self.journal self.unsettled.items (λ test k. no_more_set self.store new c.args.config set _ test k) self.kept;
     }

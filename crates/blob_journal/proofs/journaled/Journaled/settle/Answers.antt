@@ -8,7 +8,8 @@ use Rattle.blob_journal.specs.Keeping.{told_by}
 use Rattle.blob_journal.specs.Told.{is_marked_in, settled_in}
 use Rattle.blob_journal.proofs.Unsettled.{unwanted}
 use Rattle.blob_journal.proofs.Limits.{still_accepted}
-use Rattle.blob_journal.proofs.Growing.{grows_prop, grows_same, same_length, told_prop}
+use Rattle.blob_journal.proofs.Growing.{grows_prop, grows_same, told_prop}
+use Rattle.blob_journal.proofs.Telling.{same_length}
 use Rattle.blob_journal.proofs.Found.{filtered_kept, marked_kept, same_next, still_given}
 use Rattle.std.proofs.Common.{ap, ap₂, refl, sym, ◌∙◌, ℕ}
 use Rattle.std.specs.Int.{w64, to_be_bytes}
@@ -24,6 +25,7 @@ use Rattle.blob_journal.specs.Settling.{Changes, all_settled}
 use Rattle.std.specs.Prelude.{codes, filter}
 use Rattle.blob_journal.proofs.Blobs.{journal_apart}
 use Rattle.blob_journal.proofs.Fixed.{current_given, incarnations_same, keeps_open}
+use Rattle.blob_journal.proofs.Numbers.{still_numbered}
 use Rattle.blob_journal.proofs.journaled.Journaled.settle.Goals as goal
 
 -- a slice of the whole list, written back
@@ -44,6 +46,7 @@ invariant_of-self g c =
       name = self.name;
       current = self.current;
       given = self.given;
+      numbered = self.numbered;
       accepted = self.accepted;
       kept = subst (λ (es : List Unsettled). ∥ IsKept self.store self.journal es ∥₁)
           (sym (whole c.want.new.edits edits self.unsettled.len (ap (λ (l : List Unsettled). length l) old) self.unsettled.ok.0 ∙ old)) self.kept;
@@ -66,6 +69,7 @@ invariant_of-self-in-Break-branch-2 g c =
       name = ap (λ (o : Place). o.name) s.place ∙ self.name ∙ ap (λ (n : ℕ). to_be_bytes w64 n) (sym s.generation);
       current = ap₂ (λ (d : Directory) (o : Place). is_current d o) s.directory s.place ∙ self.current;
       given = still_given self.store new self.opened (same_next (directory (inner_of self.store)) (directory (inner_of new)) s.directory) self.given;
+      numbered = still_numbered self.journal c.settle_marked.new.journal s.place s.generation self.numbered;
       accepted = still_accepted self.store new s.directory self.accepted;
       kept = ∥∥₁_map self.kept (λ k. subst (λ (es : List Unsettled). IsKept new c.settle_marked.new.journal es) c.deref.ensures.value
           (s.kept (marked_kept self.store self.journal edits c.deref.result.now m.wants same k)));
@@ -89,6 +93,7 @@ invariant_of-self-2 g c =
       name = ap (λ (o : Place). o.name) s.place ∙ self.name ∙ ap (λ (n : ℕ). to_be_bytes w64 n) (sym s.generation);
       current = ap₂ (λ (d : Directory) (o : Place). is_current d o) s.directory s.place ∙ self.current;
       given = still_given self.store new self.opened (same_next (directory (inner_of self.store)) (directory (inner_of new)) s.directory) self.given;
+      numbered = still_numbered self.journal c.settle_marked.new.journal s.place s.generation self.numbered;
       accepted = still_accepted self.store new s.directory self.accepted;
       kept = ∥∥₁_map self.kept (λ k.
           let was : IsKept self.store self.journal c.deref.result.now = marked_kept self.store self.journal edits c.deref.result.now m.wants same k in
@@ -130,7 +135,8 @@ returns-in_err-settle_marked-clause-some g c =
     ∙ m.is ∙ ap (map (marked m.wants)) value in
     record {
       grows = ∥∥₁_elim self.kept (grows_prop _ _) (λ k. c.settle_marked.ensures.grows (marked_kept self.store self.journal edits c.deref.result.now m.wants same k));
-      length = same_length self.journal c.settle_marked.new.journal c.settle_marked.ensures.sectors;
+      length = same_length c.records.ensures.found self.store c.settle_marked.new.store self.journal c.settle_marked.new.journal edits c.deref.result.now c.settle_marked.ensures.records self.kept
+          (∥∥₁_map self.kept (λ k. c.settle_marked.ensures.kept (marked_kept self.store self.journal edits c.deref.result.now m.wants same k)));
     }
 
 pub returns-clause-some : goal.returns-clause-some
@@ -145,7 +151,8 @@ returns-clause-some g c =
     ∙ m.is ∙ ap (map (marked m.wants)) value in
     record {
       grows = ∥∥₁_elim self.kept (grows_prop _ _) (λ k. c.settle_marked.ensures.grows (marked_kept self.store self.journal edits c.deref.result.now m.wants same k));
-      length = same_length self.journal c.settle_marked.new.journal c.settle_marked.ensures.sectors;
+      length = same_length c.records.ensures.found self.store c.settle_marked.new.store self.journal c.settle_marked.new.journal edits c.deref.result.now c.settle_marked.ensures.records self.kept
+          (∥∥₁_map self.kept (λ k. c.settle_marked.ensures.kept (marked_kept self.store self.journal edits c.deref.result.now m.wants same k)));
     }
 
 pub returns-in_err-settle_marked-clause-still : goal.returns-in_err-settle_marked-clause-still

@@ -2,7 +2,7 @@ use Rattle.std.proofs.Common.{◌≡◌, List, None, Some, ap, take, ◌∙◌}
 use Rattle.std.specs.Prelude.{slice_get}
 use Rattle.std.proofs.Math.Logic.{∥∥₁_elim}
 use Rattle.blob_directory.specs.declared.unsettled.Unsettled.{Unsettled}
-use Rattle.blob_journal.specs.Found.{bytes_in, told_by}
+use Rattle.blob_journal.specs.Found.{told_by}
 use Rattle.blob_journal.proofs.Unsettled.{settled_by_first, settled_by_none, settled_prop}
 use Rattle.blob_journal.proofs.journaled.Journaled.settled_edits.Goals as goal
 
@@ -10,11 +10,11 @@ pub returns-in-None : goal.returns-in-None
 returns-in-None g c =
     let self = c.args.self.now in
     let first : None ≡ slice_get self.unsettled.items 0 = c.in-None.ensures.value ∙ ap (λ (l : List Unsettled). slice_get l 0) c.deref.ensures.value in
-    ∥∥₁_elim self.kept (settled_prop (take self.journal.sectors (told_by self.journal))) (λ k. settled_by_none self.journal.sectors self.unsettled.items (told_by self.journal) first k.unsettled)
+    ∥∥₁_elim self.kept (settled_prop (take self.journal.records (told_by self.journal))) (λ k. settled_by_none self.journal.records self.unsettled.items (told_by self.journal) first k.unsettled)
 
 pub returns-in-Some : goal.returns-in-Some
 returns-in-Some g c =
     let self = c.args.self.now in
     let first : Some c.in-Some.edit.now ≡ slice_get self.unsettled.items 0 = c.in-Some.ensures.value ∙ ap (λ (l : List Unsettled). slice_get l 0) c.deref.ensures.value in
-    ∥∥₁_elim self.kept (settled_prop (take c.in-Some.edit.now.sector (told_by self.journal))) (λ k.
-    settled_by_first self.journal.sectors (bytes_in self.journal) c.in-Some.edit.now self.unsettled.items (told_by self.journal) first k.listed k.unsettled)
+    ∥∥₁_elim self.kept (settled_prop (take c.in-Some.edit.now.record (told_by self.journal))) (λ k.
+    settled_by_first k.records c.in-Some.edit.now self.unsettled.items (told_by self.journal) first k.listed k.unsettled)

@@ -51,6 +51,7 @@ invariant_of-self g c =
       name = self.name;
       current = ap (λ (d : Directory). is_current d at) w.directory ∙ self.current;
       given = still_given self.store new self.opened (same_next (directory (inner_of self.store)) (directory (inner_of new)) w.directory) self.given;
+      numbered = self.numbered;
       accepted = still_accepted self.store new w.directory self.accepted;
       kept = still_kept self.store new self.journal self.unsettled.items (λ test k. by_answer (error_of c.sync.result)
           (λ ok. c.other_blobs.ensures.synced self.store new file at test (live (inside c.args.file.now.blob)) given other w.directory (inl (w.leaves.published ok)) k)
@@ -198,7 +199,7 @@ returns-clause-fixes g c =
     let new = c.sync.new.store in
     let w = c.in_ok-sync.ensures in
     let file = c.args.file.now in
-    fixes_open _ file _ _ (∥∥₁_map c.args.self.now.kept (λ k. (k.sectors.found.files, k.sectors.found.stands))) w.place w.live w.leaves.size
+    fixes_open _ file _ _ (∥∥₁_map c.args.self.now.kept (λ k. (k.has.found.files, k.has.found.stands))) w.place w.live w.leaves.size
     (λ next passes k. c.synced.ensures old new (place (inside file.blob)) (λ _. true) next (live (inside file.blob)) w.directory (inl (w.leaves.published refl)) passes k)
 
 pub returns-in_err-check-clause-handles : goal.returns-in_err-check-clause-handles
@@ -218,7 +219,7 @@ returns-in_err-sync-clause-errors g c = λ r.
     let old = c.args.self.now.store in
     let file = c.args.file.now in
     let said : error_of c.from_residual-in_err-sync.result ≡ error_of c.sync.result = search rules in
-    subst IsLimit (sym said) (sync_answers (config_of old) (g.R.Rng.stream (rng_of old)) (directory (inner_of old)) (place (inside file.blob)) (error_of c.sync.result) r.faultless (ready_here c.args.self.now file r) c.sync.ensures.allowed)
+    subst (IsLimit _) (sym said) (sync_answers _ (config_of old) (g.R.Rng.stream (rng_of old)) (directory (inner_of old)) (place (inside file.blob)) (error_of c.sync.result) r.faultless (ready_here c.args.self.now file r) c.sync.ensures.allowed)
 
 pub returns-in_err-sync-clause-ready : goal.returns-in_err-sync-clause-ready
 returns-in_err-sync-clause-ready g c =

@@ -51,6 +51,7 @@ invariant_of-self g c =
       name = self.name;
       current = ap (λ (d : Directory). is_current d at) w.directory ∙ self.current;
       given = still_given self.store new self.opened (same_next (directory (inner_of self.store)) (directory (inner_of new)) w.directory) self.given;
+      numbered = self.numbered;
       accepted = still_accepted self.store new w.directory self.accepted;
       kept = still_kept self.store new self.journal self.unsettled.items
           (λ test k. c.other_blobs.ensures.recorded self.store new file at test es c.in_ok-check.ensures.given other w.directory (w.leaves.recorded refl) k) self.kept;
@@ -83,7 +84,7 @@ returns-clause-recorded g c =
           let t = chosen_by (table_of kept) in
           ∥∥₁_elim c.args.self.now.kept (Coded-set (coded_option (coded_list coded_ℕ)) (crashed_in new t inode) (option_map (λ x. replay_log x es t) (crashed_in old t inode)))
           (λ k. crashed_by old new t inode at (λ x. replay_log x es t) (current_of old (codes "f") (file_name inode) at is) w.directory
-          (c.recorded.ensures.left old new at es k.sectors.found.files t (incarnation_here old (codes "f") (file_name inode) at is) w.directory k.sectors.found.stands adds));
+          (c.recorded.ensures.left old new at es k.has.found.files t (incarnation_here old (codes "f") (file_name inode) at is) w.directory k.has.found.stands adds));
     })
 
 pub returns-in_err-check-clause-still : goal.returns-in_err-check-clause-still
@@ -172,7 +173,7 @@ pub returns-clause-errors : goal.returns-clause-errors
 returns-clause-errors g c = λ r.
     let old = c.args.self.now.store in
     let file = c.args.file.now in
-    write_allowed (config_of old) _ _ (next_write_of old) (g.R.Rng.stream (rng_of old)) (directory (inner_of old)) (place (inside file.blob)) _ c.args.offset c.args.bytes.now (is_sync c.default-options.result) (error_of c.write_from.result)
+    write_allowed _ (config_of old) _ _ (next_write_of old) (g.R.Rng.stream (rng_of old)) (directory (inner_of old)) (place (inside file.blob)) _ c.args.offset c.args.bytes.now (is_sync c.default-options.result) (error_of c.write_from.result)
     r.faultless (λ s. ready_here c.args.self.now file r) c.write_from.ensures.allowed
 
 pub returns-clause-ready : goal.returns-clause-ready

@@ -1,8 +1,9 @@
 use Rattle.std.proofs.Common.{◌≡◌, drop, arith, ◌∙◌, ap, rules}
 use Rattle.std.proofs.lemmas.Grind.{common_steps}
-use Rattle.blob_directory.specs.Sectors.{change_told, number_told}
-use Rattle.blob_directory.proofs.Sectors.{behind_change}
-use Rattle.blob_directory.proofs.sector.take_change.Goals as goal
+use Rattle.blob_packed.specs.Numbers.{number_told}
+use Rattle.blob_directory.specs.Records.{change_told}
+use Rattle.blob_directory.proofs.Records.{behind_change}
+use Rattle.blob_directory.proofs.record.take_change.Goals as goal
 
 pub returns-clause-change : goal.returns-clause-change
 unfolding change_told

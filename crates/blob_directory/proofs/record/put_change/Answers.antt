@@ -1,7 +1,7 @@
 use Rattle.std.proofs.Common.{arith}
 use Rattle.std.proofs.lemmas.Grind.{common_steps}
-use Rattle.blob_directory.specs.Sectors.{change_bytes}
-use Rattle.blob_directory.proofs.sector.put_change.Goals as goal
+use Rattle.blob_directory.specs.Records.{change_bytes}
+use Rattle.blob_directory.proofs.record.put_change.Goals as goal
 
 pub returns : goal.returns
 unfolding change_bytes

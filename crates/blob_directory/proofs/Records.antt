@@ -1,16 +1,15 @@
--- The edit of the sector of an edit is that edit.
-use Rattle.std.proofs.Common.{◌≡◌, ℕ, suc, ◌+◌, ◌-◌, ◌<◌, ◌≤◌, ◌^◌, List, [], ◌∷◌, ◌++◌, length, take, drop, get_or, replicate, Bool, true, false, Option, Some, None, refl, sym, ap, ◌∙◌, arith, append_assoc, length-append, nat_eq, nat_lt, nat_le, ◌&&◌, ⊎_elim, inl, inr, ◌⊎◌, append-nil, if◌then◌else◌}
+-- The edit of the record of an edit is that edit.
+use Rattle.std.proofs.Common.{◌≡◌, ℕ, ◌+◌, ◌<◌, ◌≤◌, ◌^◌, List, [], ◌∷◌, ◌++◌, length, take, drop, get_or, Bool, true, false, Option, Some, None, refl, sym, ap, ◌∙◌, arith, append_assoc, length-append, nat_lt, nat_le, ◌&&◌, append-nil, if◌then◌else◌, lit<}
 use Rattle.std.proofs.Math.Seq.{drop-append_seam, take-append_seam}
-use Rattle.std.proofs.lemmas.List.{take_all, drop-drop, length-replicate, take-replicate}
-use Rattle.std.proofs.lemmas.Bool.{cases_Bool}
+use Rattle.std.proofs.lemmas.List.{drop-drop}
 use Rattle.std.proofs.lemmas.Bool.Decides.{nat_tests}
-use Rattle.std.proofs.lemmas.Nat.{from_be_bytes-to_be_bytes_8}
-use Rattle.std.specs.Int.{w64, from_be_bytes}
+use Rattle.blob_packed.specs.Numbers.{number_bytes, number_told}
+use Rattle.blob_packed.proofs.Numbers.{length-number_bytes, number_told-bytes}
 use Rattle.blob_directory.specs.declared.edit.Binding.{Binding}
 use Rattle.blob_directory.specs.declared.edit.Kind.{Kind}
 use Rattle.blob_directory.specs.declared.edit.Kind.TheVariants.{File, Directory}
 use Rattle.blob_directory.specs.Names.{Change, Edit}
-use Rattle.blob_directory.specs.Sectors.{Fits, FitsSector, RoundTrip, LostHasNone, binding_told, change_bytes, change_told, edit_bytes, edit_told, found_in, has_change, inode_told, IsOfName, NamesFit, kind_byte, kind_number, more_told, number_bytes, number_told, sector_of}
+use Rattle.blob_directory.specs.Records.{Fits, FitsRecord, RoundTrip, binding_told, change_bytes, change_told, edit_bytes, edit_found, edit_told, has_change, inode_told, IsOfName, NamesFit, kind_byte, kind_number, more_told, record_of}
 
 -- what follows a length, a kind, an inode and an entry
 pub behind_change : (bytes mid rest last : List ℕ) (kind n : ℕ) → mid ≡ drop 8 bytes → mid ≡ kind ∷ rest → last ≡ drop 8 rest → drop n last ≡ drop (17 + n) bytes
@@ -19,18 +18,6 @@ behind_change bytes mid rest last kind n a b d =
     let more : rest ≡ drop (8 + 1) bytes = one ∙ drop-drop 1 8 bytes in
     let all : last ≡ drop 17 bytes = d ∙ ap (drop 8) more ∙ drop-drop 8 9 bytes in
     ap (drop n) all ∙ drop-drop n 17 bytes
-
-length-number_bytes : (n : ℕ) → length (number_bytes n) ≡ 8
-unfolding number_bytes
-length-number_bytes n = refl
-
-number_told-bytes : (n : ℕ) (more : List ℕ) → n < 2 ^ 64 → number_told (number_bytes n ++ more) ≡ n
-unfolding number_told number_bytes
-number_told-bytes n more h = from_be_bytes-to_be_bytes_8 n h
-
-drop-number : (n : ℕ) (more : List ℕ) → drop 8 (number_bytes n ++ more) ≡ more
-unfolding number_bytes
-drop-number n more = refl
 
 -- a change with what follows it, one list
 rest_of : Change → List ℕ → List ℕ
@@ -59,9 +46,6 @@ number_at_change c more fits = ap number_told (change_bytes-append c more) ∙ n
 
 changed_test : (size n k : ℕ) → 0 < size → n ≡ 17 + size + k → (nat_lt 0 size && nat_le (17 + size) n) ≡ true
 changed_test size n k h e = grind (arith, nat_tests)
-
-unchanged_test : (size n : ℕ) → size ≡ 0 → (nat_lt 0 size && nat_le (17 + size) n) ≡ false
-unchanged_test size n e = grind (arith, nat_tests)
 
 short_test : (size n : ℕ) → n < 17 → (nat_lt 0 size && nat_le (17 + size) n) ≡ false
 short_test size n h = grind (arith, nat_tests)
@@ -107,56 +91,16 @@ drop_change c more fits =
     let n : 17 + number_told (change_bytes c ++ more) ≡ length (change_bytes c) = ap (λ k. 17 + k) (number_at_change c more fits) ∙ sym (length-change_bytes c) in
     ap (λ k. drop k (change_bytes c ++ more)) n ∙ drop-append_seam (change_bytes c) more
 
-zero_told : (n : ℕ) → 17 ≤ n → number_told (replicate n 0) ≡ 0
-unfolding number_told
-zero_told n h = ap (from_be_bytes w64) (take-replicate 8 n 0 (omega arith))
+-- no bytes begin with no change
+no_change : has_change [] ≡ false
+no_change = short_test (number_told []) 0 (lit< tt)
 
-below_true : (n : ℕ) → nat_lt n 17 ≡ true → n < 17
-below_true n e = grind (arith, nat_tests)
-
-below_false : (n : ℕ) → nat_lt n 17 ≡ false → 17 ≤ n
-below_false n e = grind (arith, nat_tests)
-
-decide_below : (n : ℕ) → (n < 17) ⊎ (17 ≤ n)
-decide_below n = ⊎_elim (λ y. inl (below_true n y)) (λ no. inr (below_false n no)) (cases_Bool (nat_lt n 17))
-
--- zeros begin with no change
-short_length : (n k : ℕ) → k ≡ n → n < 17 → k < 17
-short_length n k e h = omega arith
-
-no_change : (n : ℕ) → has_change (replicate n 0) ≡ false
-no_change n =
-    let zeros = replicate n 0 in
-    ⊎_elim
-    (λ h. short_test (number_told zeros) (length zeros) (short_length n (length zeros) (length-replicate n 0) h))
-    (λ h. unchanged_test (number_told zeros) (length zeros) (zero_told n h))
-    (decide_below n)
-
-sector_bytes : (edit : Edit) (settled : Bool) → length (edit_bytes edit) ≤ 1023
-    → sector_of edit settled ≡ (if settled then 2 else 1) ∷ (edit_bytes edit ++ replicate (1023 - length (edit_bytes edit)) 0)
-unfolding sector_of
-sector_bytes edit settled h =
-    let bytes = edit_bytes edit in
-    let front : take 1023 bytes ≡ bytes = take_all 1023 bytes h in
-    let zeros : 1024 - suc (length bytes) ≡ 1023 - length bytes = omega arith in
-    ap (λ l. (if settled then 2 else 1) ∷ (l ++ replicate (1024 - suc (length bytes)) 0)) front
-    ∙ ap (λ n. (if settled then 2 else 1) ∷ (bytes ++ replicate n 0)) zeros
-
-settled_told : (settled : Bool) → nat_eq (if settled then 2 else 1) 2 ≡ settled
-settled_told true = refl
-settled_told false = refl
-
-told_when : (mark : ℕ) (bytes : List ℕ) → has_change bytes ≡ true → found_in (mark ∷ bytes) ≡ Some (edit_told bytes, nat_eq mark 2)
-unfolding found_in
-told_when mark bytes h = ap (λ b. if b then Some (edit_told bytes, nat_eq mark 2) else None) h
-
-edit_told-one : (c : Change) (n : ℕ) → Fits c → edit_told (change_bytes c ++ replicate n 0) ≡ c ∷ []
+edit_told-one : (c : Change) → Fits c → edit_told (change_bytes c ++ []) ≡ c ∷ []
 unfolding edit_told
-edit_told-one c n fits =
-    let zeros = replicate n 0 in
-    ap (λ d. d ∷ more_told (drop (17 + number_told (change_bytes c ++ zeros)) (change_bytes c ++ zeros))) (change_told-bytes c zeros fits)
-    ∙ ap (λ l. c ∷ more_told l) (drop_change c zeros fits)
-    ∙ ap (λ b. c ∷ (if b then change_told zeros ∷ [] else [])) (no_change n)
+edit_told-one c fits =
+    ap (λ d. d ∷ more_told (drop (17 + number_told (change_bytes c ++ [])) (change_bytes c ++ []))) (change_told-bytes c [] fits)
+    ∙ ap (λ l. c ∷ more_told l) (drop_change c [] fits)
+    ∙ ap (λ b. c ∷ (if b then change_told [] ∷ [] else [])) no_change
 
 edit_told-two : (c d : Change) (more : List ℕ) → Fits c → Fits d → edit_told (change_bytes c ++ (change_bytes d ++ more)) ≡ c ∷ d ∷ []
 unfolding edit_told
@@ -167,50 +111,48 @@ edit_told-two c d more fits also =
     ∙ ap (λ b. c ∷ (if b then change_told behind ∷ [] else [])) (has_change-bytes d more also)
     ∙ ap (λ e. c ∷ e ∷ []) (change_told-bytes d more also)
 
--- the edit of a sector, from its bytes
-from_bytes : (edit : Edit) (settled : Bool) → length (edit_bytes edit) ≤ 1023 → (bytes : List ℕ)
-    → edit_bytes edit ++ replicate (1023 - length (edit_bytes edit)) 0 ≡ bytes → has_change bytes ≡ true → edit_told bytes ≡ edit
-    → found_in (sector_of edit settled) ≡ Some (edit, settled)
-from_bytes edit settled h bytes e has told =
-    ap found_in (sector_bytes edit settled h ∙ ap (λ l. (if settled then 2 else 1) ∷ l) e)
-    ∙ told_when (if settled then 2 else 1) bytes has
-    ∙ ap (λ t. Some (t, nat_eq (if settled then 2 else 1) 2)) told
-    ∙ ap (λ b. Some (edit, b)) (settled_told settled)
+both_tests : (n : ℕ) (b : Bool) → n ≤ 1024 → b ≡ true → (nat_le n 1024 && b) ≡ true
+both_tests n b h e = grind (arith, nat_tests)
+
+-- the edit of a record, from its bytes
+from_bytes : (edit : Edit) (settled : Bool) (bytes : List ℕ) → length bytes ≤ 1024 → has_change bytes ≡ true → edit_told bytes ≡ edit
+    → edit_found (Some (bytes, settled)) ≡ Some (edit, settled)
+from_bytes edit settled bytes short has told =
+    ap (λ b. if b then Some (edit_told bytes, settled) else None) (both_tests (length bytes) (has_change bytes) short has)
+    ∙ ap (λ e. Some (e, settled)) told
 
 pub one_bytes : (c : Change) → edit_bytes (c ∷ []) ≡ change_bytes c
 unfolding edit_bytes
 one_bytes c = append-nil (change_bytes c)
 
-two_bytes : (c d : Change) → edit_bytes (c ∷ d ∷ []) ≡ change_bytes c ++ change_bytes d
+pub two_bytes : (c d : Change) → edit_bytes (c ∷ d ∷ []) ≡ change_bytes c ++ change_bytes d
 unfolding edit_bytes
 two_bytes c d = ap (λ l. change_bytes c ++ l) (append-nil (change_bytes d))
 
+one_trip : (c : Change) (settled : Bool) → FitsRecord (c ∷ []) → edit_found (Some (record_of (c ∷ []) settled)) ≡ Some (c ∷ [], settled)
+unfolding edit_bytes
+one_trip c settled fits = from_bytes (c ∷ []) settled (change_bytes c ++ []) fits.1 (has_change-bytes c [] fits.0) (edit_told-one c fits.0)
+
+two_trip : (c d : Change) (settled : Bool) → FitsRecord (c ∷ d ∷ []) → edit_found (Some (record_of (c ∷ d ∷ []) settled)) ≡ Some (c ∷ d ∷ [], settled)
+unfolding edit_bytes
+two_trip c d settled fits =
+    from_bytes (c ∷ d ∷ []) settled (change_bytes c ++ (change_bytes d ++ [])) fits.2 (has_change-bytes c (change_bytes d ++ []) fits.0) (edit_told-two c d [] fits.0 fits.1)
+
 pub round_trip : RoundTrip
 round_trip [] settled fits = absurd fits
-round_trip (c ∷ []) settled fits =
-    let n = 1023 - length (edit_bytes (c ∷ [])) in
-    from_bytes (c ∷ []) settled fits.1 (change_bytes c ++ replicate n 0) (ap (λ l. l ++ replicate n 0) (one_bytes c))
-    (has_change-bytes c (replicate n 0) fits.0) (edit_told-one c n fits.0)
-round_trip (c ∷ d ∷ []) settled fits =
-    let zeros = replicate (1023 - length (edit_bytes (c ∷ d ∷ []))) 0 in
-    from_bytes (c ∷ d ∷ []) settled fits.2 (change_bytes c ++ (change_bytes d ++ zeros))
-    (ap (λ l. l ++ zeros) (two_bytes c d) ∙ append_assoc (change_bytes c) (change_bytes d) zeros)
-    (has_change-bytes c (change_bytes d ++ zeros) fits.0) (edit_told-two c d zeros fits.0 fits.1)
+round_trip (c ∷ []) settled fits = one_trip c settled fits
+round_trip (c ∷ d ∷ []) settled fits = two_trip c d settled fits
 round_trip (c ∷ d ∷ e ∷ edit) settled fits = absurd fits
-
-pub lost_has_none : LostHasNone
-unfolding found_in
-lost_has_none = ap (λ b. if b then Some (edit_told (replicate 1023 0), false) else None) (no_change 1023)
 
 below_word : (n : ℕ) → n ≤ 263 → n < 2 ^ 64
 below_word n h = omega arith
 
-one_long : (c : Change) → IsOfName c → length (edit_bytes (c ∷ [])) ≤ 1023
+one_long : (c : Change) → IsOfName c → length (edit_bytes (c ∷ [])) ≤ 1024
 one_long c h =
     let e : length (edit_bytes (c ∷ [])) ≡ 17 + length c.0 = ap length (one_bytes c) ∙ length-change_bytes c in
     omega (arith, e, h.1)
 
-two_long : (c d : Change) → IsOfName c → IsOfName d → length (edit_bytes (c ∷ d ∷ [])) ≤ 1023
+two_long : (c d : Change) → IsOfName c → IsOfName d → length (edit_bytes (c ∷ d ∷ [])) ≤ 1024
 two_long c d h k =
     let e : length (edit_bytes (c ∷ d ∷ [])) ≡ length (change_bytes c) + length (change_bytes d) = ap length (two_bytes c d) ∙ length-append (change_bytes c) (change_bytes d) in
     let f : length (change_bytes c) ≡ 17 + length c.0 = length-change_bytes c in
@@ -227,10 +169,10 @@ names_fit = record {
 }
 
 -- the edits of changes of these sizes
-pub one_fits : (c : Change) (size : ℕ) → Fits c → size ≡ length (change_bytes c) → size ≤ 1023 → FitsSector (c ∷ [])
+pub one_fits : (c : Change) (size : ℕ) → Fits c → size ≡ length (change_bytes c) → size ≤ 1024 → FitsRecord (c ∷ [])
 one_fits c size fits is short = let e : length (edit_bytes (c ∷ [])) ≡ length (change_bytes c) = ap length (one_bytes c) in (fits, omega (arith, e, is, short))
 
-pub two_fit : (c d : Change) (m n : ℕ) → Fits c → Fits d → m ≡ length (change_bytes c) → n ≡ length (change_bytes d) → m + n ≤ 1023 → FitsSector (c ∷ d ∷ [])
+pub two_fit : (c d : Change) (m n : ℕ) → Fits c → Fits d → m ≡ length (change_bytes c) → n ≡ length (change_bytes d) → m + n ≤ 1024 → FitsRecord (c ∷ d ∷ [])
 two_fit c d m n fits also is and short =
     let e : length (edit_bytes (c ∷ d ∷ [])) ≡ length (change_bytes c) + length (change_bytes d) = ap length (two_bytes c d) ∙ length-append (change_bytes c) (change_bytes d) in
     (fits, also, omega (arith, e, is, and, short))
