@@ -6,12 +6,12 @@ use Rattle.blob_pages.specs.Values.{bytes, room}
 
 abbrev pub content : Form → List ℕ
 content (Flat v) = v.items
-content (Paged s) = bytes s
+content (Paged s) = bytes s.value
 
 -- the length up to which changes never fail
 abbrev pub capacity : Form → ℕ
 capacity (Flat v) = vec_capacity v
-capacity (Paged s) = room s
+capacity (Paged s) = room s.value
 
 -- the new bytes; the capacity doesn't shrink
 pub record Becomes (old new : Form) (now : List ℕ) : Type 0 where

@@ -8,11 +8,12 @@ use crate::pages::{PAGE, Pages};
 use blob_overlay::overlay;
 use std::alloc::{AllocError, Global};
 
-/// Bytes in one vector or in pages. A vector becomes pages when it must grow to more than one page.
+/// Bytes in one vector or in pages. A vector becomes pages when it must grow to more than one page. Most blobs are small, so the
+/// pages are boxed: a form isn't larger than it is with a vector.
 #[derive(Drop)]
 pub enum Form {
     Flat(Vec<u8>),
-    Paged(Pages),
+    Paged(Box<Pages>),
 }
 
 impl Form {
@@ -25,7 +26,7 @@ impl Form {
         if bytes.len() <= PAGE {
             return Ok(Form::Flat(Vec::from_slice(alloc, bytes)?));
         }
-        Ok(Form::Paged(paged(alloc, bytes, bytes.len())?))
+        Ok(Form::Paged(Box::new(alloc, paged(alloc, bytes, bytes.len())?)?))
     }
 
     /// Returns the allocator.
@@ -73,9 +74,10 @@ impl Form {
                 if len <= PAGE {
                     return bytes.reserve(len - bytes.len());
                 }
+                let alloc = *bytes.allocator();
                 let twice = bytes.capacity().saturating_mul(2);
-                let made = paged(*bytes.allocator(), bytes.as_slice(), len.max(twice))?;
-                *self = Form::Paged(made);
+                let made = paged(alloc, bytes.as_slice(), len.max(twice))?;
+                *self = Form::Paged(Box::new(alloc, made)?);
                 Ok(())
             }
             Form::Paged(pages) => pages.reserve(len),
@@ -91,7 +93,7 @@ impl Form {
         let taken = std::mem::replace(self, Form::Flat(Vec::new(alloc)));
         match taken {
             Form::Flat(bytes) => bytes,
-            Form::Paged(pages) => pages.into_vec(),
+            Form::Paged(pages) => Box::into_inner(pages).into_vec(),
         }
     }
 
@@ -154,7 +156,7 @@ impl Form {
     {
         match self {
             Form::Flat(bytes) => Form::from_slice(*bytes.allocator(), bytes.as_slice()),
-            Form::Paged(pages) => Ok(Form::Paged(pages.copy()?)),
+            Form::Paged(pages) => Ok(Form::Paged(Box::new(pages.alloc(), pages.copy()?)?)),
         }
     }
 
@@ -182,7 +184,7 @@ impl Form {
                 }
                 let mut made = Pages::new(pages.alloc(), Vec::new(pages.alloc()));
                 made.replace(pages)?;
-                *self = Form::Paged(made);
+                *self = Form::Paged(Box::new(pages.alloc(), made)?);
                 Ok(())
             }
         }

@@ -3,7 +3,7 @@ use Rattle.blob_model.proofs.Bytes.{length-resized}
 use Rattle.blob_model.specs.Bytes.{overlay, resize, write_live}
 use Rattle.blob_overlay.proofs.Overlays.{grown_none}
 use Rattle.blob_pages.specs.Forms.{content, capacity}
-use Rattle.blob_pages.specs.Values.{bytes}
+use Rattle.blob_pages.specs.Values.{bytes, room}
 use Rattle.blob_pages.proofs.form.Form.write_live_pages.Goals as goal
 use Rattle.blob_pages.proofs.form.Form.write_live_pages.Goals.{then-len-offset, else-len-offset, in-Paged+else-is_ok, in_default}
 
@@ -20,9 +20,9 @@ returns-then-is_ok c =
       | then-len-offset w ↦ rw w.self-is w.set_len_pages.ensures.capacity
       | else-len-offset w ↦ rw w.self-is (omega arith)
     ] in
-    let laid : bytes c.overlay.new.self ≡ overlay (bytes c.in-Paged.pages) o run = search rules in record {
+    let laid : bytes c.overlay.new.self ≡ overlay (bytes c.in-Paged.pages.value) o run = search rules in record {
       content = laid ∙ ap (λ l. overlay l o run) (sym (ap content c.in-Paged.is) ∙ grown);
-      capacity = omega (arith, kept, ap capacity c.in-Paged.is, c.overlay.ensures.room);
+      capacity = omega (arith, kept, ap capacity c.in-Paged.is, ap room c.deref_mut.ensures.value, c.overlay.ensures.room);
     }
 
 pub returns : goal.returns
@@ -40,11 +40,11 @@ returns c =
       | else-len-offset w ↦ rw w.self-is (omega arith)
     ] in
     let same : content c.match-self.self ≡ content c.if-len-offset.self = elim c.match-self.branch [
-      | in-Paged+else-is_ok w ↦ let undone : bytes w.overlay.new.self ≡ bytes w.in-Paged.pages = search rules in ap content w.self-is ∙ undone ∙ sym (ap content w.in-Paged.is)
+      | in-Paged+else-is_ok w ↦ let undone : bytes w.overlay.new.self ≡ bytes w.in-Paged.pages.value = search rules in ap content w.self-is ∙ undone ∙ sym (ap content w.in-Paged.is)
       | in_default w ↦ ap content w.self-is
     ] in
     let still : capacity c.if-len-offset.self ≤ capacity c.match-self.self = elim c.match-self.branch [
-      | in-Paged+else-is_ok w ↦ rw w.self-is (omega (arith, w.overlay.ensures.room, ap capacity w.in-Paged.is))
+      | in-Paged+else-is_ok w ↦ rw w.self-is (omega (arith, w.overlay.ensures.room, ap room w.deref_mut.ensures.value, ap capacity w.in-Paged.is))
       | in_default w ↦ rw w.self-is (omega arith)
     ] in record {
       content = c.write_live.ensures.items
