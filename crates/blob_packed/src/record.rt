@@ -11,7 +11,7 @@ const ISSUED: u8 = 1;
 /// The first byte of a settled record.
 const SETTLED: u8 = 2;
 
-/// A record that was found, and the bytes behind it.
+/// A record that was found, and the bytes after it.
 #[derive(Clone, Copy)]
 pub struct Record<'a> {
     pub number: u64,
@@ -20,19 +20,19 @@ pub struct Record<'a> {
     pub rest: &'a [u8],
 }
 
-/// Appends a record with its number. Fails only if memory runs out.
+/// Appends a record that has a number and these bytes. Fails only if memory runs out.
 pub fn put_record(
     bytes: &mut Vec<u8>,
     number: u64,
-    record: &[u8],
+    payload: &[u8],
     is_settled: bool,
 ) -> Result<(), AllocError>
-    ensures { OnOk result (bytes.new.items ≡ bytes.old.items ++ record_bytes number (record.now, is_settled)) }
+    ensures { OnOk result (bytes.new.items ≡ bytes.old.items ++ record_bytes number (payload.now, is_settled)) }
 {
     bytes.push(if is_settled { SETTLED } else { ISSUED })?;
     put_number(bytes, number)?;
-    put_number(bytes, record.len() as u64)?;
-    bytes.extend_from_slice(record)
+    put_number(bytes, payload.len() as u64)?;
+    bytes.extend_from_slice(payload)
 }
 
 /// Returns the record that bytes begin with, if its number is at least `next`.
