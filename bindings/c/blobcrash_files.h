@@ -30,7 +30,7 @@ enum blobcrash_file_refusal {
     BLOBCRASH_F_STALE = 72,          /* the descriptor is closed, or from before the last crash */
     BLOBCRASH_F_NO_SPACE = 73,       /* a limit of bytes or files is reached, or no number is left */
     BLOBCRASH_F_LOOP = 74,           /* a directory would be moved below itself */
-    BLOBCRASH_F_CRASHED = 75         /* memory ran out in the recovery of the last crash: crash again */
+    BLOBCRASH_F_CRASHED = 75         /* the recovery of the last crash failed: crash again */
 };
 
 /* The kinds of calls, each with the fields and bytes that it uses, and what it returns. It ignores the others. */

@@ -62,7 +62,7 @@ REFUSALS: Dict[int, Refusal] = {
     72: Refusal("Stale", errno.ESTALE, "the file is closed, or was opened before the last crash"),
     73: Refusal("NoSpace", errno.ENOSPC, "a limit of bytes or of files is reached"),
     74: Refusal("Loop", errno.EINVAL, "a directory would be moved below itself"),
-    75: Refusal("Crashed", errno.EIO, "memory ran out in the recovery of the last crash: crash again"),
+    75: Refusal("Crashed", errno.EIO, "the recovery of the last crash failed: crash again"),
 }
 
 

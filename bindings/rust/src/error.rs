@@ -79,7 +79,7 @@ pub enum Error {
     NoSpace,
     /// Of files: a directory would be moved below itself.
     Loop,
-    /// Of files: memory ran out in the recovery of the last crash. Crash again.
+    /// Of files: the recovery of the last crash failed. Crash again.
     Crashed,
     /// No open handle, or no unfinished sync, has this number.
     NoHandle,
@@ -193,7 +193,7 @@ impl fmt::Display for Error {
             Error::NoSpace => f.write_str("no space left"),
             Error::Loop => f.write_str("a directory would be moved below itself"),
             Error::Crashed => {
-                f.write_str("memory ran out in the recovery of the last crash: crash again")
+                f.write_str("the recovery of the last crash failed: crash again")
             }
             Error::NoHandle => f.write_str("no handle of this number"),
             Error::EmptyRange => f.write_str("empty range of versions"),

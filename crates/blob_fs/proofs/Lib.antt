@@ -18,10 +18,10 @@ pub mod Unreached
 pub mod Syncing
 pub mod Fixing
 pub mod PlaceMaps
-pub mod Needed
-pub mod Numbered
-pub mod Pended
-pub mod Placed
-pub mod Drawn
+pub mod CrashWrites
+pub mod WriteNumbers
+pub mod PendingLists
+pub mod WritePlaces
+pub mod CrashRows
 pub mod Sizing
 pub mod Errors

@@ -29,25 +29,25 @@ StopsAtLimits j (Ok x) = Unit {0}
 StopsAtLimits j (Err error) = IsLimited (next_number j) error
 
 -- memory ran out
-abbrev pub IsMemory : FsError → Type 0
-IsMemory (Store error) = refusal_of error ≡ Memory
-IsMemory error = ⊥
+abbrev pub IsOutOfMemory : FsError → Type 0
+IsOutOfMemory (Store error) = refusal_of error ≡ Memory
+IsOutOfMemory error = ⊥
 
 -- memory ran out, or the store has given all 2^64 - 1 numbers of blobs
-abbrev pub IsOut : ℕ → Refusal → Type 0
-IsOut next Memory = Unit {0}
-IsOut next GenerationsExhausted = next ≡ 2 ^ 64 - 1
-IsOut next refusal = ⊥
+abbrev pub IsExhausted : ℕ → Refusal → Type 0
+IsExhausted next Memory = Unit {0}
+IsExhausted next GenerationsExhausted = next ≡ 2 ^ 64 - 1
+IsExhausted next refusal = ⊥
 
 -- an error of the layer that says so
-abbrev pub IsSpent : ℕ → FsError → Type 0
-IsSpent next (Store error) = IsOut next (refusal_of error)
-IsSpent next error = ⊥
+abbrev pub IsExhaustedError : ℕ → FsError → Type 0
+IsExhaustedError next (Store error) = IsExhausted next (refusal_of error)
+IsExhaustedError next error = ⊥
 
 -- a result that isn't Ok has such an error, by the store after the call
 abbrev pub OnlyMemoryRefuses : {R T : Type 0} → FileSystem R → Result T FsError → Type 0
 OnlyMemoryRefuses fs (Ok x) = Unit {0}
-OnlyMemoryRefuses fs (Err error) = IsSpent (next_number fs.store) error
+OnlyMemoryRefuses fs (Err error) = IsExhaustedError (next_number fs.store) error
 
 -- the size of each file is that of the bytes that calls see
 abbrev pub TrackSizes : BTreeMap ℕ File → Type 0

@@ -3,6 +3,7 @@ pub mod Places
 pub mod PlaceMaps
 pub mod Files
 pub mod Truncations
+pub mod Boxed
 pub mod Bytes
 pub mod Open
 pub mod Named

@@ -79,7 +79,7 @@ impl<R: Rng + Drop> FileSystem<R> {
         self.options = options;
     }
 
-    /// Refuses calls after a recovery that ran out of memory, and lets the wrapper draw the faults of files.
+    /// Refuses calls after a recovery that failed, and lets the wrapper draw the faults of files.
     pub(crate) fn begin_call(&mut self) -> Result<(), FsError>
         ensures names { KeepsNames self.old self.new }
         ensures told { KeepsTold self.old self.new }
@@ -164,7 +164,7 @@ impl<R: Rng + Drop> FileSystem<R> {
         ensures { option_copied result ≡ file_of self.now inode }
     {
         match self.files.get(&inode) {
-            Some(file) if !file.is_gone => Some(file),
+            Some(file) if !file.as_ref().is_gone => Some(file.as_ref()),
             _ => None,
         }
     }

@@ -1,7 +1,7 @@
 //! The crash, and the recovery after it.
 ghost use Rattle.std.specs.Prelude.{◌≡◌, ℕ, IfOk, OnErr, OnOk, unwrap_or};
 ghost use Rattle.blob_fs.specs.Bytes.{FindsBytes, FindsEdits, FindsKnown, HasNoOrphan};
-ghost use Rattle.blob_fs.specs.Errors.{IsLimited, IsSpent, OnlyMemoryRefuses};
+ghost use Rattle.blob_fs.specs.Errors.{IsLimited, IsExhaustedError, OnlyMemoryRefuses};
 ghost use Rattle.blob_fs.specs.Fixed.{FindsFixed, FixesFound};
 ghost use Rattle.blob_fs.specs.Files.{FindsKept, FindsTold, GivesNames, GivesTold, IsRecovered, KeepsNames, KeepsTold, SameNames};
 ghost use Rattle.blob_fs.specs.Places.{FindsPlaces};
@@ -51,7 +51,7 @@ fn used<'a>(before: &'a Option<Kept>, own: &'a Kept) -> &'a Kept
 /// Returns what a crash returns for an error of its recovery. `OffsetOverflow` says that the end of a file or of the journal has no
 /// number of 64 bits. No memory holds so much, so this is `Memory`.
 fn refusal(error: FsError) -> FsError
-    ensures { (next : ℕ) → IsLimited next error → IsSpent next result }
+    ensures { (next : ℕ) → IsLimited next error → IsExhaustedError next result }
 {
     match error {
         FsError::Store(Error::OffsetOverflow) => FsError::Store(Error::Memory(AllocError)),

@@ -21,7 +21,7 @@ impl<R: Rng + Drop> FileSystem<R> {
         let Some(found) = self.files.get(&inode) else {
             return Err(FsError::Stale);
         };
-        match self.store.read_file(&found.blob, 0, &mut []) {
+        match self.store.read_file(&found.as_ref().blob, 0, &mut []) {
             Ok(()) => Ok(false),
             Err(Error::Injected) => Ok(true),
             Err(error) => Err(error.into()),
@@ -83,7 +83,7 @@ impl<R: Rng + Drop> FileSystem<R> {
     fn has_truncations(&self, inode: u64) -> bool {
         match self.files.get(&inode) {
             None => false,
-            Some(file) => !file.truncations.is_empty(),
+            Some(file) => !file.as_ref().truncations.is_empty(),
         }
     }
 

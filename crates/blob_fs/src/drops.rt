@@ -123,6 +123,7 @@ impl<R: Rng + Drop> FileSystem<R> {
         let Some(file) = self.files.get_mut(&inode) else {
             return Ok(());
         };
+        let file = file.as_mut();
         let shown = file.shown_bytes(self.alloc, &mut self.store)?;
         file.blob = self.store.reopen_file(inode)?;
         file.shown = Some(shown);
@@ -143,6 +144,7 @@ impl<R: Rng + Drop> FileSystem<R> {
         let Some(file) = self.files.get_mut(&inode) else {
             return;
         };
+        let file = file.as_mut();
         let size = file.size();
         file.shown = None;
         let now = file.size();

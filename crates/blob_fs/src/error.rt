@@ -31,7 +31,7 @@ pub enum FsError {
     NoSpace,
     /// A directory would be moved below itself.
     Loop,
-    /// Memory ran out in the recovery of the last crash. Crash again.
+    /// The recovery of the last crash failed. Crash again.
     Crashed,
     /// The layer refused the call.
     Store(Error),

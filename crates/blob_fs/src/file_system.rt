@@ -4,6 +4,7 @@ ghost use Rattle.blob_fs.specs.Open.{AllOpen};
 ghost use Rattle.blob_fs.specs.Tracked.{IsTracked};
 ghost use Rattle.blob_journal.specs.Keeping.{names_in, told_in};
 
+use crate::boxed_file::BoxedFile;
 use crate::switches::{FailedSync, FailedWrite, Syncs};
 use crate::truncation::{Kept, Truncation};
 use crate::unlinked::Gone;
@@ -76,7 +77,7 @@ pub struct FileSystem<R> {
     pub(crate) store: Journaled<R>,
     pub(crate) options: Options,
     pub(crate) directories: BTreeMap<u64, u64>,
-    pub(crate) files: BTreeMap<u64, File>,
+    pub(crate) files: BTreeMap<u64, BoxedFile>,
     pub(crate) opens: BTreeMap<u64, u64>,
     pub(crate) next_inode: u64,
     pub(crate) next_open: u64,
@@ -85,7 +86,7 @@ pub struct FileSystem<R> {
     /// How many bytes all files have.
     pub(crate) used: u64,
     pub(crate) is_down: bool,
-    /// What the last crash kept, if its recovery ran out of memory.
+    /// What the last crash kept, if its recovery failed.
     pub(crate) kept: Option<Kept>,
     // the blob of each file is the current one of its number
     ghost opened: { ∥ AllOpen store files ∥₁ },
@@ -96,10 +97,10 @@ pub struct FileSystem<R> {
 }
 
 /// Returns how many bytes files have.
-pub(crate) fn used_by(files: &BTreeMap<u64, File>) -> u64 {
+pub(crate) fn used_by(files: &BTreeMap<u64, BoxedFile>) -> u64 {
     let mut used = 0u64;
     for (_, file) in files {
-        used = used.saturating_add(file.blob.size());
+        used = used.saturating_add(file.as_ref().blob.size());
     }
     used
 }

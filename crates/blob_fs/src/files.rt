@@ -111,6 +111,7 @@ impl<R: Rng + Drop> FileSystem<R> {
         ensures fixed { KeepsFixed self.old self.new }
     {
         if let Some(file) = self.files.get_mut(&inode) {
+            let file = file.as_mut();
             file.opens = file.opens.saturating_add(1);
         }
     }
@@ -122,6 +123,7 @@ impl<R: Rng + Drop> FileSystem<R> {
         ensures fixed { KeepsFixed self.old self.new }
     {
         if let Some(file) = self.files.get_mut(&inode) {
+            let file = file.as_mut();
             file.opens = file.opens.saturating_sub(1);
         }
     }
@@ -182,7 +184,7 @@ impl<R: Rng + Drop> FileSystem<R> {
     fn is_truncated(&self, inode: u64) -> bool {
         match self.files.get(&inode) {
             None => false,
-            Some(file) => file.is_truncated,
+            Some(file) => file.as_ref().is_truncated,
         }
     }
 
@@ -223,6 +225,7 @@ impl<R: Rng + Drop> FileSystem<R> {
         let Some(file) = self.files.get_mut(&inode) else {
             return Ok(());
         };
+        let file = file.as_mut();
         self.store.sync_file(&mut file.blob)?;
         file.synced = file.blob.size();
         file.is_truncated = false;
@@ -241,7 +244,7 @@ impl<R: Rng + Drop> FileSystem<R> {
         let inode = self.inode_of(file)?;
         match self.files.get(&inode) {
             None => Err(FsError::Stale),
-            Some(found) => Ok(found.size()),
+            Some(found) => Ok(found.as_ref().size()),
         }
     }
 
@@ -268,6 +271,7 @@ impl<R: Rng + Drop> FileSystem<R> {
         let Some(found) = self.files.get(&inode) else {
             return Err(FsError::Stale);
         };
+        let found = found.as_ref();
         let left = found.size().saturating_sub(offset);
         let count = (buf.len() as u64).min(left) as usize;
         if count == 0 {
@@ -321,6 +325,7 @@ impl<R: Rng + Drop> FileSystem<R> {
         let Some(found) = self.files.get_mut(&inode) else {
             return Err(FsError::Stale);
         };
+        let found = found.as_mut();
         found.reserve_shown(end)?;
         found.is_changed = true;
         let written = write_blob(

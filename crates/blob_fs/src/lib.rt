@@ -3,6 +3,7 @@
 
 pub mod access;
 mod base;
+mod boxed_file;
 pub mod crash;
 mod draws;
 mod drops;

@@ -10,6 +10,7 @@ ghost use Rattle.blob_directory.specs.Counts.{NamedAtMost};
 ghost use Rattle.blob_directory.specs.Names.{binds, directory_at, entry, file, frees};
 ghost use Rattle.blob_directory.specs.Tables.{HasAll, HasOnly};
 
+use crate::boxed_file::BoxedFile;
 use crate::error::FsError;
 use crate::file_system::{Descriptor, File, FileSystem, LINKS_MAX};
 use blob_directory::edit::{Binding, Edit, Kind};
@@ -98,7 +99,9 @@ impl<R: Rng + Drop> FileSystem<R> {
         ensures told { KeepsTold self.old self.new }
         ensures fixed { KeepsFixedBut inode self.old self.new }
     {
-        self.files.insert(inode, File::new(self.alloc, blob))?;
+        let file = File::new(self.alloc, blob);
+        let boxed = BoxedFile::new(self.alloc, file)?;
+        self.files.insert(inode, boxed)?;
         Ok(())
     }
 
@@ -198,6 +201,7 @@ impl<R: Rng + Drop> FileSystem<R> {
         ensures fixed { KeepsFixed self.old self.new }
     {
         if let Some(file) = self.files.get_mut(&inode) {
+            let file = file.as_mut();
             file.links = links;
         }
     }
@@ -210,6 +214,7 @@ impl<R: Rng + Drop> FileSystem<R> {
         ensures fixed { KeepsFixed self.old self.new }
     {
         if let Some(file) = self.files.get_mut(&inode) {
+            let file = file.as_mut();
             file.links = file.links.saturating_sub(1);
         }
     }

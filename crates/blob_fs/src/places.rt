@@ -76,7 +76,7 @@ impl<R: Rng + Drop> FileSystem<R> {
     {
         let mut inodes = BTreeMap::new(self.alloc);
         for (inode, file) in &self.files {
-            inodes.insert(self.store.number_of_file(&file.blob), *inode)?;
+            inodes.insert(self.store.number_of_file(&file.as_ref().blob), *inode)?;
         }
         Ok(inodes)
     }

@@ -6,7 +6,7 @@ ghost use Rattle.blob_directory.specs.Checkpoints.{FitsJournal};
 ghost use Rattle.blob_directory.specs.Tables.{bound};
 ghost use Rattle.blob_directory.specs.Trees.{has_link};
 ghost use Rattle.blob_fs.specs.Bytes.{ChangesOnly, CutsFile, CutsFrom, CutsTo, FindsKnown, HasNoOrphan, HasOnlyKnown, HasOnlyLinked, KeepsBlobsOf, OpensLeft, RecoversBytes, Reopens, ReopensAll, Rewrites, Truncates};
-ghost use Rattle.blob_fs.specs.Errors.{IsMemory, StopsAtLimits, TrackSizes};
+ghost use Rattle.blob_fs.specs.Errors.{IsOutOfMemory, StopsAtLimits, TrackSizes};
 ghost use Rattle.blob_fs.specs.Truncations.{lost_of};
 ghost use Rattle.blob_fs.specs.Fixed.{AllFixed, AreWhole, FixesFound, IsWhole};
 ghost use Rattle.blob_fs.specs.Open.{AllOpen, MayChange};
@@ -21,6 +21,7 @@ ghost use Rattle.blob_journal.specs.Journals.{GivesNames as gives_names, KeepsFi
 ghost use Rattle.blob_journal.specs.Settling.{FindsEdits};
 ghost use Rattle.blob_journal.specs.Keeping.{KeepsTable, KeepsTold as keeps_told};
 
+use crate::boxed_file::BoxedFile;
 use crate::error::FsError;
 use crate::file_system::{File, FileSystem, used_by};
 use crate::truncation::Kept;
@@ -30,6 +31,7 @@ use blob_directory::tree::Tree;
 use blob_journal::laws::{bindings, blobs};
 use blob_journal::{FileBlob, Journaled};
 use rand_core::Rng;
+use std::alloc::Global;
 use std::collections::BTreeMap;
 
 /// Cuts a file to a length, durably.
@@ -172,7 +174,7 @@ fn cut<R: Rng + Drop>(
 fn open_cut<R: Rng + Drop>(
     store: &mut Journaled<R>,
     inode: u64,
-    old: &BTreeMap<u64, File>,
+    old: &BTreeMap<u64, BoxedFile>,
     kept: &Kept,
     loss: &Loss,
 ) -> Result<(FileBlob, u64), Error>
@@ -191,6 +193,7 @@ fn open_cut<R: Rng + Drop>(
     let Some(was) = old.get(&inode) else {
         unreachable!();
     };
+    let was = was.as_ref();
     let mut blob = store.open_file(inode)?;
     truncate_left(store, &mut blob, inode, was, kept, loss)?;
     let found = blob.size();
@@ -202,7 +205,7 @@ fn open_cut<R: Rng + Drop>(
 fn open_left<R: Rng + Drop>(
     store: &mut Journaled<R>,
     inode: u64,
-    old: &BTreeMap<u64, File>,
+    old: &BTreeMap<u64, BoxedFile>,
     kept: &Kept,
     loss: &Loss,
 ) -> Result<(FileBlob, u64), Error>
@@ -228,7 +231,7 @@ fn open_left<R: Rng + Drop>(
 fn reopen<R: Rng + Drop>(
     store: &mut Journaled<R>,
     inode: u64,
-    old: &BTreeMap<u64, File>,
+    old: &BTreeMap<u64, BoxedFile>,
     links: u32,
     kept: &Kept,
     loss: &Loss,
@@ -256,22 +259,27 @@ fn reopen<R: Rng + Drop>(
 }
 
 /// Adds a file to a map. The only error is out of memory.
-fn put(files: &mut BTreeMap<u64, File>, inode: u64, file: File) -> Result<(), FsError>
+fn put(
+    alloc: Global,
+    files: &mut BTreeMap<u64, BoxedFile>,
+    inode: u64,
+    file: File,
+) -> Result<(), FsError>
     ensures updated { OnOk result (Updates nat_cmp files.old files.new inode (Some file)) }
-    ensures errors { IfErr result IsMemory }
+    ensures errors { IfErr result IsOutOfMemory }
 {
-    files.insert(inode, file)?;
+    files.insert(inode, BoxedFile::new(alloc, file)?)?;
     Ok(())
 }
 
 /// Opens each file that has a name.
 fn reopen_all<R: Rng + Drop>(
     store: &mut Journaled<R>,
-    old: &BTreeMap<u64, File>,
+    old: &BTreeMap<u64, BoxedFile>,
     tree: &Tree,
     kept: &Kept,
     loss: &Loss,
-) -> Result<BTreeMap<u64, File>, FsError>
+) -> Result<BTreeMap<u64, BoxedFile>, FsError>
     requires known { (inode : ℕ) → has_link tree.now inode ≡ true → is_some (get nat_cmp old.now inode) ≡ true }
     ensures names { KeepsTable store.old store.new }
     ensures told { keeps_told store.old store.new }
@@ -291,7 +299,7 @@ fn reopen_all<R: Rng + Drop>(
     let mut files = BTreeMap::new(loss.alloc);
     for (inode, links) in tree.links.iter() {
         let file = reopen(store, *inode, old, *links, kept, loss)?;
-        put(&mut files, *inode, file)?;
+        put(loss.alloc, &mut files, *inode, file)?;
     }
     Ok(files)
 }
@@ -310,8 +318,8 @@ fn remove_blob<R: Rng + Drop>(store: &mut Journaled<R>, inode: u64)
 /// Removes the blobs of files that aren't there any more.
 fn remove_unnamed<R: Rng + Drop>(
     store: &mut Journaled<R>,
-    old: &BTreeMap<u64, File>,
-    files: &BTreeMap<u64, File>,
+    old: &BTreeMap<u64, BoxedFile>,
+    files: &BTreeMap<u64, BoxedFile>,
 )
     ensures names { KeepsTable store.old store.new }
     ensures told { keeps_told store.old store.new }
@@ -363,7 +371,7 @@ impl<R: Rng + Drop> FileSystem<R> {
 
     /// Takes the names and directories of a tree, and these files, whose blobs are open. A new journal settles the names.
     /// Removes the blobs of files that no name reaches. An error changes no name and no file.
-    fn begin_life(&mut self, tree: Tree, files: BTreeMap<u64, File>) -> Result<(), FsError>
+    fn begin_life(&mut self, tree: Tree, files: BTreeMap<u64, BoxedFile>) -> Result<(), FsError>
         requires opened { AllOpen (journaled_of self.old) files }
         requires named { AllNamed (bound tree.names) files }
         requires present { AllPresent files }

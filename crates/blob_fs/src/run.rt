@@ -1,7 +1,7 @@
 //! A list of calls, and a crash after it.
 ghost use Rattle.std.specs.Prelude.{IfErr, IfOk, OnErr, OnOk};
 ghost use Rattle.blob_fs.specs.Calls.{Does, DoesAll, Leaves, RunsAndCrashes};
-ghost use Rattle.blob_fs.specs.Errors.{IsMemory, OnlyMemoryRefuses};
+ghost use Rattle.blob_fs.specs.Errors.{IsOutOfMemory, OnlyMemoryRefuses};
 ghost use Rattle.blob_fs.specs.Fixed.{KeepsFixed, KeepsUnreached};
 ghost use Rattle.blob_fs.specs.Files.{GivesTold, GrowsTold, KeepsNames, KeepsTold};
 
@@ -139,7 +139,7 @@ impl<R: Rng + Drop> FileSystem<R> {
         ensures done { IfOk result (λ oks. DoesAll calls.now oks.items self.old self.new) }
         ensures refused { OnErr result (Leaves self.old self.new) }
         ensures grows { GrowsTold self.old self.new }
-        ensures errors { IfErr result IsMemory }
+        ensures errors { IfErr result IsOutOfMemory }
     {
         told();
         let mut oks = Vec::with_capacity(self.alloc, calls.len())?;

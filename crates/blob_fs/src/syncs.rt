@@ -41,8 +41,8 @@ impl<R: Rng + Drop> FileSystem<R> {
         };
         Ok(Synced::File {
             inode,
-            grown: file.grown,
-            is_changed: file.is_changed,
+            grown: file.as_ref().grown,
+            is_changed: file.as_ref().is_changed,
         })
     }
 
@@ -53,6 +53,7 @@ impl<R: Rng + Drop> FileSystem<R> {
         let Some(file) = self.files.get(&inode) else {
             return Err(FsError::Stale);
         };
+        let file = file.as_ref();
         let is_resized = file.synced != file.blob.size();
         let synced = Synced::File {
             inode,
@@ -76,6 +77,7 @@ impl<R: Rng + Drop> FileSystem<R> {
         let Some(file) = self.files.get_mut(&inode) else {
             return Err(FsError::Stale);
         };
+        let file = file.as_mut();
         if let Err(error) = self.store.sync_file(&mut file.blob) {
             return Err(self.fail_sync(inode, error));
         }
@@ -108,6 +110,7 @@ impl<R: Rng + Drop> FileSystem<R> {
         ensures fixed { KeepsFixed self.old self.new }
     {
         if let Some(file) = self.files.get_mut(&inode) {
+            let file = file.as_mut();
             file.is_changed = is_changed;
         }
     }
@@ -247,7 +250,7 @@ impl<R: Rng + Drop> FileSystem<R> {
     {
         let mut inodes = Vec::new(self.alloc);
         for (inode, file) in &self.files {
-            if !file.is_gone {
+            if !file.as_ref().is_gone {
                 inodes.push(*inode)?;
             }
         }

@@ -57,6 +57,7 @@ impl<R: Rng + Drop> FileSystem<R> {
         let Some(found) = self.files.get_mut(&inode) else {
             return Err(FsError::Stale);
         };
+        let found = found.as_mut();
         found.reserve_shown(reached)?;
         found.truncations.reserve(1)?;
         let edit = self.store.record_truncation(inode, rate)?;
@@ -83,6 +84,7 @@ impl<R: Rng + Drop> FileSystem<R> {
         ensures fixed { KeepsFixed self.old self.new }
     {
         if let Some(found) = self.files.get_mut(&inode) {
+            let found = found.as_mut();
             found.is_truncated = true;
         }
     }

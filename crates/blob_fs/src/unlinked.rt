@@ -31,6 +31,7 @@ impl<R: Rng + Drop> FileSystem<R> {
         let Some(file) = self.files.get_mut(&inode) else {
             return;
         };
+        let file = file.as_mut();
         if file.links > 0 || file.opens > 0 || file.is_gone {
             return;
         }
@@ -47,7 +48,10 @@ impl<R: Rng + Drop> FileSystem<R> {
     {
         match self.files.get(&inode) {
             None => false,
-            Some(file) => file.is_gone && file.gone_at <= edits,
+            Some(file) => {
+                let file = file.as_ref();
+                file.is_gone && file.gone_at <= edits
+            }
         }
     }
 

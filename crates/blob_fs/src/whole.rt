@@ -58,6 +58,7 @@ impl<R: Rng + Drop> FileSystem<R> {
         let Some(file) = self.files.get(&inode) else {
             return Err(FsError::NotFound);
         };
+        let file = file.as_ref();
         let mut bytes = Vec::new(self.alloc);
         let Ok(len) = usize::try_from(file.size()) else {
             return Err(AllocError.into());

@@ -16,7 +16,7 @@ use std::sync::{Arc, MutexGuard};
 /// Errors that each call may return, with nothing changed:
 /// - `PowerLoss` while the power is off (see [`Files::crash_after`]).
 /// - `NotFound`, `NotDirectory`, `InvalidName` and `NameTooLong` for a name of a path.
-/// - `Memory`, `OutOfMemory`, and `Crashed` if memory ran out in the recovery of the last crash.
+/// - `Memory`, `OutOfMemory`, and `Crashed` if the recovery of the last crash failed.
 ///
 /// ```
 /// use blobcrash::Error;

@@ -29,8 +29,8 @@ returns-clause-left g c =
     let inode = c.args.inode in
     let kept = c.args.kept.now in
     let loss = c.args.loss.now in
-    let was : File = c.in-Some.was.now in
-    let there : get nat_cmp c.args.old.now inode ≡ Some was = search rules in
+    let was : File = c.as_ref-was.result.now in
+    let there : get nat_cmp c.args.old.now inode ≡ Some was = sym (ap Some c.as_ref-was.ensures ∙ c.in-Some.ensures.value) in
     let found = found_after kept loss inode (Some was) o.bytes in
     let truncated : HasDurable c.truncate_left.new.store inode c.truncate_left.new.blob found = c.in_ok-truncate_left.ensures.truncated o.bytes o.has in
     let left : HasDurable c.cut.new.store inode c.cut.new.blob (left_after kept loss inode (Some was) o.bytes) = c.in_ok-cut.ensures.cut inode found truncated in
@@ -45,7 +45,7 @@ pub returns-clause-others : goal.returns-clause-others
 returns-clause-others g c = λ other below apart.
     let o = c.in_ok-blob.ensures.opened in
     let inode = c.args.inode in
-    let found = found_after c.args.kept.now c.args.loss.now inode (Some c.in-Some.was.now) o.bytes in
+    let found = found_after c.args.kept.now c.args.loss.now inode (Some c.as_ref-was.result.now) o.bytes in
     let truncated : HasDurable c.truncate_left.new.store inode c.truncate_left.new.blob found = c.in_ok-truncate_left.ensures.truncated o.bytes o.has in
     c.blobs.ensures.twice c.args.store.now c.truncate_left.new.store c.cut.new.store other
     (c.blobs.ensures.twice c.args.store.now c.open_file.new.self c.truncate_left.new.store other (c.in_ok-blob.ensures.others other below apart)
@@ -88,7 +88,7 @@ returns-in_err-truncate_left-clause-errors g c = λ q sizes.
 pub returns-in_err-cut-clause-errors : goal.returns-in_err-cut-clause-errors
 returns-in_err-cut-clause-errors g c = λ q sizes.
     let said : error_of c.from_residual-in_err-cut.result ≡ error_of c.cut.result = search rules in
-    subst (IsLimit _) (sym said) (c.cut.ensures.errors (c.truncate_left.ensures.ready (c.in_ok-blob.ensures.ready q)) (sizes c.args.inode c.in-Some.was.now (omega arith) (search rules)))
+    subst (IsLimit _) (sym said) (c.cut.ensures.errors (c.truncate_left.ensures.ready (c.in_ok-blob.ensures.ready q)) (sizes c.args.inode c.as_ref-was.result.now (omega arith) (sym (ap Some c.as_ref-was.ensures ∙ c.in-Some.ensures.value))))
 
 pub returns-clause-ready : goal.returns-clause-ready
 returns-clause-ready g c = λ q. c.cut.ensures.ready (c.truncate_left.ensures.ready (c.in_ok-blob.ensures.ready q))

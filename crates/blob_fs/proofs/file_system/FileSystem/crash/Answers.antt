@@ -22,7 +22,7 @@ use Rattle.blob_draws.specs.Rows.{rows_of}
 use Rattle.blob_journal.specs.Journals.{store_of}
 use Rattle.blob_fs.specs.declared.crash.Place.{Place}
 use Rattle.blob_fs.specs.Places.{FindsPlaces}
-use Rattle.blob_fs.proofs.Drawn.{rows_fit, rows_found}
+use Rattle.blob_fs.proofs.CrashRows.{rows_fit, rows_found}
 use Rattle.blob_fs.specs.Errors.{next_number}
 use Rattle.blob_fs.proofs.file_system.FileSystem.crash.Goals as goal
 

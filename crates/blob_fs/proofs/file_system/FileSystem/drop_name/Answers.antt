@@ -11,15 +11,16 @@ use Rattle.blob_fs.proofs.file_system.FileSystem.drop_name.Goals as goal
 pub invariant_of-self : goal.invariant_of-self
 invariant_of-self g c =
     let fs = c.args.self.now in
-    let was : File = c.in-Some.file.now in
+    let was : File = c.as_mut-file.result.now in
+    let there = ap Some c.as_mut-file.ensures.value ∙ c.in-Some.ensures.value in
     let now : File = record was { links = c.saturating_sub-file.result } in
     record {
-      opened = opened_through fs.store fs.files (c.get_mut.follows.lender now) c.args.inode was now c.in-Some.ensures.value (c.get_mut.follows.holds now) (record { blob = refl; synced = refl; truncations = refl }) fs.opened;
+      opened = opened_through fs.store fs.files (c.get_mut.follows.lender now) c.args.inode was now there (c.get_mut.follows.holds now) (record { blob = refl; synced = refl; truncations = refl }) fs.opened;
       named = named_set fs.store fs.files (c.get_mut.follows.lender now) c.args.inode (Some now)
-          (sets_through fs.files (c.get_mut.follows.lender now) c.args.inode was now c.in-Some.ensures.value (c.get_mut.follows.holds now))
+          (sets_through fs.files (c.get_mut.follows.lender now) c.args.inode was now there (c.get_mut.follows.holds now))
           (subst (λ (n : ℕ). ∥ NamedAtMost (names_of fs) c.args.inode n ∥₁)
-          (ap (λ (o : Option File). pred (links_in o)) (sym c.in-Some.ensures.value) ∙ sym (links_less was now.links c.saturating_sub-file.ensures)) c.requires.fewer) fs.named;
-      tracked = tracked_through fs.store fs.files (c.get_mut.follows.lender now) c.args.inode was now c.in-Some.ensures.value (c.get_mut.follows.holds now) refl fs.tracked;
+          (ap (λ (o : Option File). pred (links_in o)) (sym there) ∙ sym (links_less was now.links c.saturating_sub-file.ensures)) c.requires.fewer) fs.named;
+      tracked = tracked_through fs.store fs.files (c.get_mut.follows.lender now) c.args.inode was now there (c.get_mut.follows.holds now) refl fs.tracked;
     }
 
 pub invariant_of-self-in_default : goal.invariant_of-self-in_default

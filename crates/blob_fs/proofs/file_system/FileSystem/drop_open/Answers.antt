@@ -1,4 +1,4 @@
-use Rattle.std.proofs.Common.{refl}
+use Rattle.std.proofs.Common.{refl, ◌∙◌, Some, sym, ap}
 use Rattle.blob_fs.specs.declared.file_system.File.{File}
 use Rattle.blob_fs.proofs.Fixed.{opened_none, opened_through}
 use Rattle.blob_fs.proofs.Named.{at_most_self, named_none, named_through}
@@ -8,12 +8,13 @@ use Rattle.blob_fs.proofs.file_system.FileSystem.drop_open.Goals as goal
 pub invariant_of-self : goal.invariant_of-self
 invariant_of-self g c =
     let fs = c.args.self.now in
-    let was : File = c.in-Some.file.now in
+    let was : File = c.as_mut-file.result.now in
+    let there = ap Some c.as_mut-file.ensures.value ∙ c.in-Some.ensures.value in
     let now : File = record was { opens = c.saturating_sub-file.result } in
     record {
-      opened = opened_through fs.store fs.files (c.get_mut.follows.lender now) c.args.inode was now c.in-Some.ensures.value (c.get_mut.follows.holds now) (record { blob = refl; synced = refl; truncations = refl }) fs.opened;
-      named = named_through fs.store fs.files (c.get_mut.follows.lender now) c.args.inode was now c.in-Some.ensures.value (c.get_mut.follows.holds now) (at_most_self _) fs.named;
-      tracked = tracked_through fs.store fs.files (c.get_mut.follows.lender now) c.args.inode was now c.in-Some.ensures.value (c.get_mut.follows.holds now) refl fs.tracked;
+      opened = opened_through fs.store fs.files (c.get_mut.follows.lender now) c.args.inode was now there (c.get_mut.follows.holds now) (record { blob = refl; synced = refl; truncations = refl }) fs.opened;
+      named = named_through fs.store fs.files (c.get_mut.follows.lender now) c.args.inode was now there (c.get_mut.follows.holds now) (at_most_self _) fs.named;
+      tracked = tracked_through fs.store fs.files (c.get_mut.follows.lender now) c.args.inode was now there (c.get_mut.follows.holds now) refl fs.tracked;
     }
 
 pub invariant_of-self-in_default : goal.invariant_of-self-in_default

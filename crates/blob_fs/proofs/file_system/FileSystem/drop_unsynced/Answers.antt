@@ -1,4 +1,4 @@
-use Rattle.std.proofs.Common.{◌<◌, ◌∙◌, List, Some, arith, refl, subst, sym}
+use Rattle.std.proofs.Common.{◌<◌, ◌∙◌, List, Some, arith, refl, subst, sym, ap}
 use Rattle.std.specs.Prelude.{All}
 use Rattle.blob_fs.specs.declared.truncation.Truncation.{Truncation}
 use Rattle.blob_journal.specs.Fixed.{KeepsOpen}
@@ -21,66 +21,70 @@ invariant_of-self g c =
 pub invariant_of-self-in-Break-1 : goal.invariant_of-self-in-Break-1
 invariant_of-self-in-Break-1 g c =
     let fs = c.args.self.now in
-    let file = c.in-Some.file.now in
+    let file = c.as_mut-file.result.now in
+    let there = ap Some c.as_mut-file.ensures.value ∙ c.in-Some.ensures.value in
     record {
       opened = opened_after fs.store c.shown_bytes.new.store fs.files (c.get_mut.follows.lender file)
-          (contents_through fs.files (c.get_mut.follows.lender file) c.args.inode file file c.in-Some.ensures.value (c.get_mut.follows.holds file) (record { blob = refl; synced = refl; truncations = refl }))
+          (contents_through fs.files (c.get_mut.follows.lender file) c.args.inode file file there (c.get_mut.follows.holds file) (record { blob = refl; synced = refl; truncations = refl }))
           (still_twice fs.store c.set_config.new.self c.shown_bytes.new.store c.set_config.ensures.still c.shown_bytes.ensures.still) fs.opened;
       named = named_after fs.store c.shown_bytes.new.store fs.files (c.get_mut.follows.lender file) (c.shown_bytes.ensures.names ∙ c.set_config.ensures.names)
-          (links_set fs.files (c.get_mut.follows.lender file) c.args.inode file file c.in-Some.ensures.value
-          (sets_through fs.files (c.get_mut.follows.lender file) c.args.inode file file c.in-Some.ensures.value (c.get_mut.follows.holds file)) (at_most_self _)) fs.named;
-      tracked = tracked_after fs.store c.shown_bytes.new.store fs.files (c.get_mut.follows.lender file) (c.shown_bytes.ensures.names ∙ c.set_config.ensures.names) (c.shown_bytes.ensures.told ∙ c.set_config.ensures.journal.told) (freed_set fs.files (c.get_mut.follows.lender file) c.args.inode file file c.in-Some.ensures.value (sets_through fs.files (c.get_mut.follows.lender file) c.args.inode file file c.in-Some.ensures.value (c.get_mut.follows.holds file)) refl) fs.tracked;
+          (links_set fs.files (c.get_mut.follows.lender file) c.args.inode file file there
+          (sets_through fs.files (c.get_mut.follows.lender file) c.args.inode file file there (c.get_mut.follows.holds file)) (at_most_self _)) fs.named;
+      tracked = tracked_after fs.store c.shown_bytes.new.store fs.files (c.get_mut.follows.lender file) (c.shown_bytes.ensures.names ∙ c.set_config.ensures.names) (c.shown_bytes.ensures.told ∙ c.set_config.ensures.journal.told) (freed_set fs.files (c.get_mut.follows.lender file) c.args.inode file file there (sets_through fs.files (c.get_mut.follows.lender file) c.args.inode file file there (c.get_mut.follows.holds file)) refl) fs.tracked;
     }
 
 pub returns-in_err-shown-clause-fixed : goal.returns-in_err-shown-clause-fixed
 returns-in_err-shown-clause-fixed g c =
     let fs = c.args.self.now in
-    let file = c.in-Some.file.now in
+    let file = c.as_mut-file.result.now in
     fixed_after fs _ (omega arith)
-    (contents_through fs.files (c.get_mut.follows.lender file) c.args.inode file file c.in-Some.ensures.value (c.get_mut.follows.holds file) (record { blob = refl; synced = refl; truncations = refl }))
+    (contents_through fs.files (c.get_mut.follows.lender file) c.args.inode file file (ap Some c.as_mut-file.ensures.value ∙ c.in-Some.ensures.value) (c.get_mut.follows.holds file) (record { blob = refl; synced = refl; truncations = refl }))
     (still_twice fs.store c.set_config.new.self c.shown_bytes.new.store c.set_config.ensures.still c.shown_bytes.ensures.still)
 
 pub invariant_of-self-in-Break-branch-2 : goal.invariant_of-self-in-Break-branch-2
 invariant_of-self-in-Break-branch-2 g c =
     let fs = c.args.self.now in
-    let file = c.in-Some.file.now in
+    let file = c.as_mut-file.result.now in
+    let there = ap Some c.as_mut-file.ensures.value ∙ c.in-Some.ensures.value in
     let shown : KeepsOpen fs.store c.shown_bytes.new.store = still_twice fs.store c.set_config.new.self c.shown_bytes.new.store c.set_config.ensures.still c.shown_bytes.ensures.still in
     record {
       opened = opened_after fs.store c.reopen_file.new.self fs.files (c.get_mut.follows.lender file)
-          (contents_through fs.files (c.get_mut.follows.lender file) c.args.inode file file c.in-Some.ensures.value (c.get_mut.follows.holds file) (record { blob = refl; synced = refl; truncations = refl }))
+          (contents_through fs.files (c.get_mut.follows.lender file) c.args.inode file file there (c.get_mut.follows.holds file) (record { blob = refl; synced = refl; truncations = refl }))
           (still_twice fs.store c.shown_bytes.new.store c.reopen_file.new.self shown c.reopen_file.ensures.still) fs.opened;
       named = named_after fs.store c.reopen_file.new.self fs.files (c.get_mut.follows.lender file) (c.reopen_file.ensures.names ∙ c.shown_bytes.ensures.names ∙ c.set_config.ensures.names)
-          (links_set fs.files (c.get_mut.follows.lender file) c.args.inode file file c.in-Some.ensures.value
-          (sets_through fs.files (c.get_mut.follows.lender file) c.args.inode file file c.in-Some.ensures.value (c.get_mut.follows.holds file)) (at_most_self _)) fs.named;
-      tracked = tracked_after fs.store c.reopen_file.new.self fs.files (c.get_mut.follows.lender file) (c.reopen_file.ensures.names ∙ c.shown_bytes.ensures.names ∙ c.set_config.ensures.names) (c.reopen_file.ensures.told ∙ c.shown_bytes.ensures.told ∙ c.set_config.ensures.journal.told) (freed_set fs.files (c.get_mut.follows.lender file) c.args.inode file file c.in-Some.ensures.value (sets_through fs.files (c.get_mut.follows.lender file) c.args.inode file file c.in-Some.ensures.value (c.get_mut.follows.holds file)) refl) fs.tracked;
+          (links_set fs.files (c.get_mut.follows.lender file) c.args.inode file file there
+          (sets_through fs.files (c.get_mut.follows.lender file) c.args.inode file file there (c.get_mut.follows.holds file)) (at_most_self _)) fs.named;
+      tracked = tracked_after fs.store c.reopen_file.new.self fs.files (c.get_mut.follows.lender file) (c.reopen_file.ensures.names ∙ c.shown_bytes.ensures.names ∙ c.set_config.ensures.names) (c.reopen_file.ensures.told ∙ c.shown_bytes.ensures.told ∙ c.set_config.ensures.journal.told) (freed_set fs.files (c.get_mut.follows.lender file) c.args.inode file file there (sets_through fs.files (c.get_mut.follows.lender file) c.args.inode file file there (c.get_mut.follows.holds file)) refl) fs.tracked;
     }
 
 pub invariant_of-self-2 : goal.invariant_of-self-2
 invariant_of-self-2 g c =
     let fs = c.args.self.now in
-    let file = c.in-Some.file.now in
+    let file = c.as_mut-file.result.now in
+    let there = ap Some c.as_mut-file.ensures.value ∙ c.in-Some.ensures.value in
     let new : File = record file { blob = c.in_ok-file.field-0; shown = Some c.in_ok-shown.shown; truncations = c.clear.new.self } in
     let shown : KeepsOpen fs.store c.shown_bytes.new.store = still_twice fs.store c.set_config.new.self c.shown_bytes.new.store c.set_config.ensures.still c.shown_bytes.ensures.still in
     record {
       opened = opened_again fs.store c.reopen_file.new.self fs.files (c.get_mut.follows.lender new) c.args.inode new
-          (sets_through fs.files (c.get_mut.follows.lender new) c.args.inode file new c.in-Some.ensures.value (c.get_mut.follows.holds new))
+          (sets_through fs.files (c.get_mut.follows.lender new) c.args.inode file new there (c.get_mut.follows.holds new))
           (still_twice fs.store c.shown_bytes.new.store c.reopen_file.new.self shown c.reopen_file.ensures.still)
           (reopens_after fs.store c.shown_bytes.new.store c.reopen_file.new.self c.args.inode new.blob shown c.in_ok-file.ensures.reopened)
           fs.opened;
       named = named_after fs.store c.reopen_file.new.self fs.files (c.get_mut.follows.lender new) (c.reopen_file.ensures.names ∙ c.shown_bytes.ensures.names ∙ c.set_config.ensures.names)
-          (links_set fs.files (c.get_mut.follows.lender new) c.args.inode file new c.in-Some.ensures.value
-          (sets_through fs.files (c.get_mut.follows.lender new) c.args.inode file new c.in-Some.ensures.value (c.get_mut.follows.holds new)) (at_most_self _)) fs.named;
-      tracked = tracked_after fs.store c.reopen_file.new.self fs.files (c.get_mut.follows.lender new) (c.reopen_file.ensures.names ∙ c.shown_bytes.ensures.names ∙ c.set_config.ensures.names) (c.reopen_file.ensures.told ∙ c.shown_bytes.ensures.told ∙ c.set_config.ensures.journal.told) (freed_set fs.files (c.get_mut.follows.lender new) c.args.inode file new c.in-Some.ensures.value (sets_through fs.files (c.get_mut.follows.lender new) c.args.inode file new c.in-Some.ensures.value (c.get_mut.follows.holds new)) refl) fs.tracked;
+          (links_set fs.files (c.get_mut.follows.lender new) c.args.inode file new there
+          (sets_through fs.files (c.get_mut.follows.lender new) c.args.inode file new there (c.get_mut.follows.holds new)) (at_most_self _)) fs.named;
+      tracked = tracked_after fs.store c.reopen_file.new.self fs.files (c.get_mut.follows.lender new) (c.reopen_file.ensures.names ∙ c.shown_bytes.ensures.names ∙ c.set_config.ensures.names) (c.reopen_file.ensures.told ∙ c.shown_bytes.ensures.told ∙ c.set_config.ensures.journal.told) (freed_set fs.files (c.get_mut.follows.lender new) c.args.inode file new there (sets_through fs.files (c.get_mut.follows.lender new) c.args.inode file new there (c.get_mut.follows.holds new)) refl) fs.tracked;
     }
 
 pub returns-clause-fixed : goal.returns-clause-fixed
 returns-clause-fixed g c =
     let fs = c.args.self.now in
-    let file = c.in-Some.file.now in
+    let file = c.as_mut-file.result.now in
+    let there = ap Some c.as_mut-file.ensures.value ∙ c.in-Some.ensures.value in
     let new : File = record file { blob = c.in_ok-file.field-0; shown = Some c.in_ok-shown.shown; truncations = c.clear.new.self } in
     let shown : KeepsOpen fs.store c.shown_bytes.new.store = still_twice fs.store c.set_config.new.self c.shown_bytes.new.store c.set_config.ensures.still c.shown_bytes.ensures.still in
-    fixed_again fs _ (omega arith) c.args.inode file new c.in-Some.ensures.value
-    (sets_through fs.files (c.get_mut.follows.lender new) c.args.inode file new c.in-Some.ensures.value (c.get_mut.follows.holds new))
+    fixed_again fs _ (omega arith) c.args.inode file new there
+    (sets_through fs.files (c.get_mut.follows.lender new) c.args.inode file new there (c.get_mut.follows.holds new))
     (λ at s. record { below = s.below; uncut = subst (λ (ts : List Truncation). All (λ t. at < t.length) ts) (sym c.clear.ensures.items) (all_none (λ t. at < t.length)) })
     (still_twice fs.store c.shown_bytes.new.store c.reopen_file.new.self shown c.reopen_file.ensures.still)
     (reopens_after fs.store c.shown_bytes.new.store c.reopen_file.new.self c.args.inode new.blob shown c.in_ok-file.ensures.reopened)

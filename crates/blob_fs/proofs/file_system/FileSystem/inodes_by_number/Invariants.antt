@@ -1,4 +1,4 @@
-use Rattle.blob_fs.proofs.Placed.{HasInodes}
+use Rattle.blob_fs.proofs.WritePlaces.{HasInodes}
 use Rattle.blob_fs.proofs.file_system.FileSystem.inodes_by_number.Given as goal
 
 abbrev pub invariant-loop-inode : goal.invariant-loop-inode

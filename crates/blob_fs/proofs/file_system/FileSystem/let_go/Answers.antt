@@ -15,44 +15,51 @@ invariant_of-self g c = record {
 }
 
 pub invariant_of-self-then-file-gt0 : goal.invariant_of-self-then-file-gt0
-invariant_of-self-then-file-gt0 g c = record {
-  opened = opened_through c.args.self.now.store c.args.self.now.files (c.get_mut.follows.lender c.in-Some.file.now) c.args.inode c.in-Some.file.now c.in-Some.file.now c.in-Some.ensures.value (c.get_mut.follows.holds _) (record { blob = refl; synced = refl; truncations = refl }) c.args.self.now.opened;
-  named = named_through c.args.self.now.store c.args.self.now.files (c.get_mut.follows.lender c.in-Some.file.now) c.args.inode c.in-Some.file.now c.in-Some.file.now c.in-Some.ensures.value (c.get_mut.follows.holds _) (at_most_self _) c.args.self.now.named;
-  tracked = tracked_through c.args.self.now.store c.args.self.now.files (c.get_mut.follows.lender c.in-Some.file.now) c.args.inode c.in-Some.file.now c.in-Some.file.now c.in-Some.ensures.value (c.get_mut.follows.holds _) refl c.args.self.now.tracked;
-}
+invariant_of-self-then-file-gt0 g c =
+    let there = ap Some c.as_mut-file.ensures.value ∙ c.in-Some.ensures.value in
+    record {
+      opened = opened_through c.args.self.now.store c.args.self.now.files (c.get_mut.follows.lender c.as_mut-file.result.now) c.args.inode c.as_mut-file.result.now c.as_mut-file.result.now there (c.get_mut.follows.holds _) (record { blob = refl; synced = refl; truncations = refl }) c.args.self.now.opened;
+      named = named_through c.args.self.now.store c.args.self.now.files (c.get_mut.follows.lender c.as_mut-file.result.now) c.args.inode c.as_mut-file.result.now c.as_mut-file.result.now there (c.get_mut.follows.holds _) (at_most_self _) c.args.self.now.named;
+      tracked = tracked_through c.args.self.now.store c.args.self.now.files (c.get_mut.follows.lender c.as_mut-file.result.now) c.args.inode c.as_mut-file.result.now c.as_mut-file.result.now there (c.get_mut.follows.holds _) refl c.args.self.now.tracked;
+    }
 
 pub invariant_of-self-then-file-gt0-2 : goal.invariant_of-self-then-file-gt0-2
-invariant_of-self-then-file-gt0-2 g c = record {
-  opened = opened_through c.args.self.now.store c.args.self.now.files (c.get_mut.follows.lender c.in-Some.file.now) c.args.inode c.in-Some.file.now c.in-Some.file.now c.in-Some.ensures.value (c.get_mut.follows.holds _) (record { blob = refl; synced = refl; truncations = refl }) c.args.self.now.opened;
-  named = named_through c.args.self.now.store c.args.self.now.files (c.get_mut.follows.lender c.in-Some.file.now) c.args.inode c.in-Some.file.now c.in-Some.file.now c.in-Some.ensures.value (c.get_mut.follows.holds _) (at_most_self _) c.args.self.now.named;
-  tracked = tracked_through c.args.self.now.store c.args.self.now.files (c.get_mut.follows.lender c.in-Some.file.now) c.args.inode c.in-Some.file.now c.in-Some.file.now c.in-Some.ensures.value (c.get_mut.follows.holds _) refl c.args.self.now.tracked;
-}
+invariant_of-self-then-file-gt0-2 g c =
+    let there = ap Some c.as_mut-file.ensures.value ∙ c.in-Some.ensures.value in
+    record {
+      opened = opened_through c.args.self.now.store c.args.self.now.files (c.get_mut.follows.lender c.as_mut-file.result.now) c.args.inode c.as_mut-file.result.now c.as_mut-file.result.now there (c.get_mut.follows.holds _) (record { blob = refl; synced = refl; truncations = refl }) c.args.self.now.opened;
+      named = named_through c.args.self.now.store c.args.self.now.files (c.get_mut.follows.lender c.as_mut-file.result.now) c.args.inode c.as_mut-file.result.now c.as_mut-file.result.now there (c.get_mut.follows.holds _) (at_most_self _) c.args.self.now.named;
+      tracked = tracked_through c.args.self.now.store c.args.self.now.files (c.get_mut.follows.lender c.as_mut-file.result.now) c.args.inode c.as_mut-file.result.now c.as_mut-file.result.now there (c.get_mut.follows.holds _) refl c.args.self.now.tracked;
+    }
 
 pub invariant_of-self-then-file : goal.invariant_of-self-then-file
-invariant_of-self-then-file g c = record {
-  opened = opened_through c.args.self.now.store c.args.self.now.files (c.get_mut.follows.lender c.in-Some.file.now) c.args.inode c.in-Some.file.now c.in-Some.file.now c.in-Some.ensures.value (c.get_mut.follows.holds _) (record { blob = refl; synced = refl; truncations = refl }) c.args.self.now.opened;
-  named = named_through c.args.self.now.store c.args.self.now.files (c.get_mut.follows.lender c.in-Some.file.now) c.args.inode c.in-Some.file.now c.in-Some.file.now c.in-Some.ensures.value (c.get_mut.follows.holds _) (at_most_self _) c.args.self.now.named;
-  tracked = tracked_through c.args.self.now.store c.args.self.now.files (c.get_mut.follows.lender c.in-Some.file.now) c.args.inode c.in-Some.file.now c.in-Some.file.now c.in-Some.ensures.value (c.get_mut.follows.holds _) refl c.args.self.now.tracked;
-}
+invariant_of-self-then-file g c =
+    let there = ap Some c.as_mut-file.ensures.value ∙ c.in-Some.ensures.value in
+    record {
+      opened = opened_through c.args.self.now.store c.args.self.now.files (c.get_mut.follows.lender c.as_mut-file.result.now) c.args.inode c.as_mut-file.result.now c.as_mut-file.result.now there (c.get_mut.follows.holds _) (record { blob = refl; synced = refl; truncations = refl }) c.args.self.now.opened;
+      named = named_through c.args.self.now.store c.args.self.now.files (c.get_mut.follows.lender c.as_mut-file.result.now) c.args.inode c.as_mut-file.result.now c.as_mut-file.result.now there (c.get_mut.follows.holds _) (at_most_self _) c.args.self.now.named;
+      tracked = tracked_through c.args.self.now.store c.args.self.now.files (c.get_mut.follows.lender c.as_mut-file.result.now) c.args.inode c.as_mut-file.result.now c.as_mut-file.result.now there (c.get_mut.follows.holds _) refl c.args.self.now.tracked;
+    }
 
 pub invariant_of-self-2 : goal.invariant_of-self-2
 invariant_of-self-2 g c =
-    let gone : File = record c.in-Some.file.now { is_gone = true; gone_at = c.told_edits-edits.result } in
+    let there = ap Some c.as_mut-file.ensures.value ∙ c.in-Some.ensures.value in
+    let gone : File = record c.as_mut-file.result.now { is_gone = true; gone_at = c.told_edits-edits.result } in
     record {
-      opened = opened_through c.args.self.now.store c.args.self.now.files (c.get_mut.follows.lender gone) c.args.inode c.in-Some.file.now gone c.in-Some.ensures.value (c.get_mut.follows.holds gone) (record { blob = refl; synced = refl; truncations = refl }) c.args.self.now.opened;
-      named = named_through c.args.self.now.store c.args.self.now.files (c.get_mut.follows.lender gone) c.args.inode c.in-Some.file.now gone c.in-Some.ensures.value (c.get_mut.follows.holds gone) (no_links c.in-Some.file.now (omega (arith, c.if-file-gt0.false))) c.args.self.now.named;
-      tracked = tracked_gone c.bindings.ensures.freed c.args.self.now.store c.args.self.now.files (c.get_mut.follows.lender gone) c.args.inode c.in-Some.file.now gone c.in-Some.ensures.value (c.get_mut.follows.holds gone)
+      opened = opened_through c.args.self.now.store c.args.self.now.files (c.get_mut.follows.lender gone) c.args.inode c.as_mut-file.result.now gone there (c.get_mut.follows.holds gone) (record { blob = refl; synced = refl; truncations = refl }) c.args.self.now.opened;
+      named = named_through c.args.self.now.store c.args.self.now.files (c.get_mut.follows.lender gone) c.args.inode c.as_mut-file.result.now gone there (c.get_mut.follows.holds gone) (no_links c.as_mut-file.result.now (omega (arith, c.if-file-gt0.false))) c.args.self.now.named;
+      tracked = tracked_gone c.bindings.ensures.freed c.args.self.now.store c.args.self.now.files (c.get_mut.follows.lender gone) c.args.inode c.as_mut-file.result.now gone there (c.get_mut.follows.holds gone)
           (ap Some c.told_edits-edits.ensures)
-          (none_named (names_of c.args.self.now) c.args.self.now.files c.args.inode (ap links_in (sym c.in-Some.ensures.value) ∙ none_left c.in-Some.file.now (omega (arith, c.if-file-gt0.false))) c.args.self.now.named) c.args.self.now.tracked;
+          (none_named (names_of c.args.self.now) c.args.self.now.files c.args.inode (ap links_in (sym there) ∙ none_left c.as_mut-file.result.now (omega (arith, c.if-file-gt0.false))) c.args.self.now.named) c.args.self.now.tracked;
     }
 
 pub returns-clause-fixed : goal.returns-clause-fixed
 returns-clause-fixed g c =
     let fs = c.args.self.now in
-    let gone : File = record c.in-Some.file.now { is_gone = true; gone_at = c.told_edits-edits.result } in
+    let gone : File = record c.as_mut-file.result.now { is_gone = true; gone_at = c.told_edits-edits.result } in
     let next = c.count.ensures.number in
     fixed_after fs c.count.new.self (omega (arith, next))
     (contents_twice fs.files (c.get_mut.follows.lender gone) c.count.new.self.files
-    (contents_through fs.files (c.get_mut.follows.lender gone) c.args.inode c.in-Some.file.now gone c.in-Some.ensures.value (c.get_mut.follows.holds gone) (record { blob = refl; synced = refl; truncations = refl }))
+    (contents_through fs.files (c.get_mut.follows.lender gone) c.args.inode c.as_mut-file.result.now gone (ap Some c.as_mut-file.ensures.value ∙ c.in-Some.ensures.value) (c.get_mut.follows.holds gone) (record { blob = refl; synced = refl; truncations = refl }))
     (contents_same (c.get_mut.follows.lender gone) c.count.new.self.files c.count.ensures.files.files))
     (still_same fs.store c.count.new.self.store c.count.ensures.store)

@@ -15,10 +15,10 @@ use Rattle.blob_journal.specs.Currents.{pending_at}
 use Rattle.blob_journal.specs.Journals.{store_of}
 use Rattle.blob_fs.specs.Files.{journaled_of}
 use Rattle.blob_fs.specs.Places.{IsInodeOf}
-use Rattle.blob_fs.proofs.Needed.{held_in_all}
+use Rattle.blob_fs.proofs.CrashWrites.{held_in_all}
 use Rattle.blob_fs.proofs.PlaceMaps.{noted_each, noted_still}
-use Rattle.blob_fs.proofs.Pended.{list_here, next_list}
-use Rattle.blob_fs.proofs.Placed.{noted_place}
+use Rattle.blob_fs.proofs.PendingLists.{list_here, next_list}
+use Rattle.blob_fs.proofs.WritePlaces.{noted_place}
 use Rattle.blob_fs.proofs.file_system.FileSystem.pending_places.Goals as goal
 
 pub loop-list-preserved : goal.loop-list-preserved

@@ -1,4 +1,4 @@
-use Rattle.std.proofs.Common.{ℕ, None, arith, refl, subst, sym}
+use Rattle.std.proofs.Common.{ℕ, None, arith, refl, subst, sym, ◌∙◌, Some, ap}
 use Rattle.std.specs.BTreeMap.{BTreeMap}
 use Rattle.blob_fs.specs.declared.file_system.File.{File}
 use Rattle.blob_fs.proofs.Fixed.{Sets, contents_same, contents_through, contents_twice, fixed_after, opened_none, opened_through, sets_through, still_same}
@@ -18,32 +18,34 @@ invariant_of-self g c = record {
 
 pub invariant_of-self-2 : goal.invariant_of-self-2
 invariant_of-self-2 g c =
-    let new : File = record c.in-Some.file.now { shown = None } in
+    let there = ap Some c.as_mut-file.ensures.value ∙ c.in-Some.ensures.value in
+    let new : File = record c.as_mut-file.result.now { shown = None } in
     record {
-      opened = opened_through c.args.self.now.store c.args.self.now.files (c.get_mut.follows.lender new) c.args.inode c.in-Some.file.now new c.in-Some.ensures.value (c.get_mut.follows.holds new) (record { blob = refl; synced = refl; truncations = refl }) c.args.self.now.opened;
-      named = named_through c.args.self.now.store c.args.self.now.files (c.get_mut.follows.lender new) c.args.inode c.in-Some.file.now new c.in-Some.ensures.value (c.get_mut.follows.holds new) (at_most_self _) c.args.self.now.named;
-      tracked = tracked_through c.args.self.now.store c.args.self.now.files (c.get_mut.follows.lender new) c.args.inode c.in-Some.file.now new c.in-Some.ensures.value (c.get_mut.follows.holds new) refl c.args.self.now.tracked;
+      opened = opened_through c.args.self.now.store c.args.self.now.files (c.get_mut.follows.lender new) c.args.inode c.as_mut-file.result.now new there (c.get_mut.follows.holds new) (record { blob = refl; synced = refl; truncations = refl }) c.args.self.now.opened;
+      named = named_through c.args.self.now.store c.args.self.now.files (c.get_mut.follows.lender new) c.args.inode c.as_mut-file.result.now new there (c.get_mut.follows.holds new) (at_most_self _) c.args.self.now.named;
+      tracked = tracked_through c.args.self.now.store c.args.self.now.files (c.get_mut.follows.lender new) c.args.inode c.as_mut-file.result.now new there (c.get_mut.follows.holds new) refl c.args.self.now.tracked;
     }
 
 pub returns-clause-fixed : goal.returns-clause-fixed
 returns-clause-fixed g c =
     let fs = c.args.self.now in
-    let new : File = record c.in-Some.file.now { shown = None } in
+    let new : File = record c.as_mut-file.result.now { shown = None } in
     let next = c.count.ensures.number in
     fixed_after fs c.count.new.self (omega (arith, next))
     (contents_twice fs.files (c.get_mut.follows.lender new) c.count.new.self.files
-    (contents_through fs.files (c.get_mut.follows.lender new) c.args.inode c.in-Some.file.now new c.in-Some.ensures.value (c.get_mut.follows.holds new) (record { blob = refl; synced = refl; truncations = refl }))
+    (contents_through fs.files (c.get_mut.follows.lender new) c.args.inode c.as_mut-file.result.now new (ap Some c.as_mut-file.ensures.value ∙ c.in-Some.ensures.value) (c.get_mut.follows.holds new) (record { blob = refl; synced = refl; truncations = refl }))
     (contents_same (c.get_mut.follows.lender new) c.count.new.self.files c.count.ensures.files.files))
     (still_same fs.store c.count.new.self.store c.count.ensures.store)
 
 pub returns-clause-seen : goal.returns-clause-seen
 returns-clause-seen g c =
     let fs = c.args.self.now in
-    let was = c.in-Some.file.now in
+    let was = c.as_mut-file.result.now in
+    let there = ap Some c.as_mut-file.ensures.value ∙ c.in-Some.ensures.value in
     let new : File = record was { shown = None } in
-    seen_set fs c.count.new.self c.args.inode was new c.in-Some.ensures.value
+    seen_set fs c.count.new.self c.args.inode was new there
     (subst (λ (m : BTreeMap ℕ File). Sets fs.files m c.args.inode new) (sym c.count.ensures.files.files)
-    (sets_through fs.files (c.get_mut.follows.lender new) c.args.inode was new c.in-Some.ensures.value (c.get_mut.follows.holds new)))
+    (sets_through fs.files (c.get_mut.follows.lender new) c.args.inode was new there (c.get_mut.follows.holds new)))
     (λ at byte below has. has)
 
 pub returns-in_default-clause-seen : goal.returns-in_default-clause-seen
@@ -52,10 +54,10 @@ returns-in_default-clause-seen g c = seen_same c.args.self.now _ c.get_mut.follo
 pub returns-clause-links : goal.returns-clause-links
 returns-clause-links g c = λ inode.
     let fs = c.args.self.now in
-    let was : File = c.in-Some.file.now in
+    let was : File = c.as_mut-file.result.now in
     let new : File = record was { shown = None } in
     links_kept (c.get_mut.follows.lender new) c.count.new.self.files c.count.ensures.files.files inode
-    ∙ links_through fs.files (c.get_mut.follows.lender new) c.args.inode was new c.in-Some.ensures.value (c.get_mut.follows.holds new) refl inode
+    ∙ links_through fs.files (c.get_mut.follows.lender new) c.args.inode was new (ap Some c.as_mut-file.ensures.value ∙ c.in-Some.ensures.value) (c.get_mut.follows.holds new) refl inode
 
 pub returns-in_default-clause-links : goal.returns-in_default-clause-links
 returns-in_default-clause-links g c = links_kept c.args.self.now.files _ c.get_mut.follows.holds-at-none

@@ -1,4 +1,4 @@
-use Rattle.std.proofs.Common.{refl, ◌<◌, ◌≤◌, ◌^◌, false, inr, arith}
+use Rattle.std.proofs.Common.{refl, ◌<◌, ◌≤◌, ◌^◌, false, inr, arith, ◌∙◌, Some, sym, ap}
 use Rattle.blob_fs.specs.declared.file_system.File.{File}
 use Rattle.blob_fs.proofs.Fixed.{fixed_changed, fixed_twice, opened_changed, opened_none, sets_through}
 use Rattle.blob_fs.proofs.Syncing.{fixes_synced, seen_below, seen_synced, synced_whole}
@@ -16,71 +16,77 @@ invariant_of-self g c = record {
 pub invariant_of-self-in-Err-1 : goal.invariant_of-self-in-Err-1
 invariant_of-self-in-Err-1 g c =
     let fs = c.args.self.now in
-    let was = c.in-Some.file.now in
+    let was = c.as_mut-file.result.now in
+    let there = ap Some c.as_mut-file.ensures.value ∙ c.in-Some.ensures.value in
     let new : File = record was { blob = c.sync_file.new.file } in
     record {
-      opened = opened_changed (λ at. Unit) fs.store c.sync_file.new.self fs.files (c.get_mut.follows.lender new) c.args.inode was new (omega arith) c.in-Some.ensures.value
-          (sets_through fs.files (c.get_mut.follows.lender new) c.args.inode was new c.in-Some.ensures.value (c.get_mut.follows.holds new)) c.sync_file.ensures.still fs.opened;
+      opened = opened_changed (λ at. Unit) fs.store c.sync_file.new.self fs.files (c.get_mut.follows.lender new) c.args.inode was new (omega arith) there
+          (sets_through fs.files (c.get_mut.follows.lender new) c.args.inode was new there (c.get_mut.follows.holds new)) c.sync_file.ensures.still fs.opened;
       named = named_after fs.store c.sync_file.new.self fs.files (c.get_mut.follows.lender new) c.sync_file.ensures.names
-          (links_set fs.files (c.get_mut.follows.lender new) c.args.inode was new c.in-Some.ensures.value
-          (sets_through fs.files (c.get_mut.follows.lender new) c.args.inode was new c.in-Some.ensures.value (c.get_mut.follows.holds new)) (at_most_self _)) fs.named;
-      tracked = tracked_after fs.store c.sync_file.new.self fs.files (c.get_mut.follows.lender new) c.sync_file.ensures.names c.sync_file.ensures.told (freed_set fs.files (c.get_mut.follows.lender new) c.args.inode was new c.in-Some.ensures.value (sets_through fs.files (c.get_mut.follows.lender new) c.args.inode was new c.in-Some.ensures.value (c.get_mut.follows.holds new)) refl) fs.tracked;
+          (links_set fs.files (c.get_mut.follows.lender new) c.args.inode was new there
+          (sets_through fs.files (c.get_mut.follows.lender new) c.args.inode was new there (c.get_mut.follows.holds new)) (at_most_self _)) fs.named;
+      tracked = tracked_after fs.store c.sync_file.new.self fs.files (c.get_mut.follows.lender new) c.sync_file.ensures.names c.sync_file.ensures.told (freed_set fs.files (c.get_mut.follows.lender new) c.args.inode was new there (sets_through fs.files (c.get_mut.follows.lender new) c.args.inode was new there (c.get_mut.follows.holds new)) refl) fs.tracked;
     }
 
 pub returns-in-Err-clause-fixed : goal.returns-in-Err-clause-fixed
 returns-in-Err-clause-fixed g c =
     let fs = c.args.self.now in
-    let was = c.in-Some.file.now in
+    let was = c.as_mut-file.result.now in
+    let there = ap Some c.as_mut-file.ensures.value ∙ c.in-Some.ensures.value in
     let new : File = record was { blob = c.sync_file.new.file } in
     let more : fs.next_inode ≤ fs.next_inode = omega arith in
     let small : c.args.inode < 2 ^ 64 = omega arith in
     fixed_twice fs _ c.fail_sync.new.self
     (λ inode at byte below h.
-    fixed_changed fs _ more (λ at. Unit) c.args.inode was new small c.in-Some.ensures.value
-    (sets_through fs.files (c.get_mut.follows.lender new) c.args.inode was new c.in-Some.ensures.value (c.get_mut.follows.holds new)) c.sync_file.ensures.still fs.opened
+    fixed_changed fs _ more (λ at. Unit) c.args.inode was new small there
+    (sets_through fs.files (c.get_mut.follows.lender new) c.args.inode was new there (c.get_mut.follows.holds new)) c.sync_file.ensures.still fs.opened
     inode at byte below (inr tt) (λ s long is. record { below = long.below; uncut = long.uncut }) h)
     c.fail_sync.ensures.fixed
 
 pub invariant_of-self-2 : goal.invariant_of-self-2
 invariant_of-self-2 g c =
     let fs = c.args.self.now in
-    let was = c.in-Some.file.now in
+    let was = c.as_mut-file.result.now in
+    let there = ap Some c.as_mut-file.ensures.value ∙ c.in-Some.ensures.value in
     let new : File = record was { blob = c.sync_file.new.file; synced = c.size-file.result; is_changed = false; is_truncated = false; truncations = c.clear.new.self } in
     record {
-      opened = opened_changed (λ at. Unit) fs.store c.sync_file.new.self fs.files (c.get_mut.follows.lender new) c.args.inode was new (omega arith) c.in-Some.ensures.value
-          (sets_through fs.files (c.get_mut.follows.lender new) c.args.inode was new c.in-Some.ensures.value (c.get_mut.follows.holds new)) c.sync_file.ensures.still fs.opened;
+      opened = opened_changed (λ at. Unit) fs.store c.sync_file.new.self fs.files (c.get_mut.follows.lender new) c.args.inode was new (omega arith) there
+          (sets_through fs.files (c.get_mut.follows.lender new) c.args.inode was new there (c.get_mut.follows.holds new)) c.sync_file.ensures.still fs.opened;
       named = named_after fs.store c.sync_file.new.self fs.files (c.get_mut.follows.lender new) c.sync_file.ensures.names
-          (links_set fs.files (c.get_mut.follows.lender new) c.args.inode was new c.in-Some.ensures.value
-          (sets_through fs.files (c.get_mut.follows.lender new) c.args.inode was new c.in-Some.ensures.value (c.get_mut.follows.holds new)) (at_most_self _)) fs.named;
-      tracked = tracked_after fs.store c.sync_file.new.self fs.files (c.get_mut.follows.lender new) c.sync_file.ensures.names c.sync_file.ensures.told (freed_set fs.files (c.get_mut.follows.lender new) c.args.inode was new c.in-Some.ensures.value (sets_through fs.files (c.get_mut.follows.lender new) c.args.inode was new c.in-Some.ensures.value (c.get_mut.follows.holds new)) refl) fs.tracked;
+          (links_set fs.files (c.get_mut.follows.lender new) c.args.inode was new there
+          (sets_through fs.files (c.get_mut.follows.lender new) c.args.inode was new there (c.get_mut.follows.holds new)) (at_most_self _)) fs.named;
+      tracked = tracked_after fs.store c.sync_file.new.self fs.files (c.get_mut.follows.lender new) c.sync_file.ensures.names c.sync_file.ensures.told (freed_set fs.files (c.get_mut.follows.lender new) c.args.inode was new there (sets_through fs.files (c.get_mut.follows.lender new) c.args.inode was new there (c.get_mut.follows.holds new)) refl) fs.tracked;
     }
 
 pub returns-clause-fixed : goal.returns-clause-fixed
 returns-clause-fixed g c =
     let fs = c.args.self.now in
-    let was = c.in-Some.file.now in
+    let was = c.as_mut-file.result.now in
+    let there = ap Some c.as_mut-file.ensures.value ∙ c.in-Some.ensures.value in
     let new : File = record was { blob = c.sync_file.new.file; synced = c.size-file.result; is_changed = false; is_truncated = false; truncations = c.clear.new.self } in
     let more : fs.next_inode ≤ fs.next_inode = omega arith in
     let small : c.args.inode < 2 ^ 64 = omega arith in
     λ inode at byte below h.
-    fixed_changed fs _ more (λ at. Unit) c.args.inode was new small c.in-Some.ensures.value
-    (sets_through fs.files (c.get_mut.follows.lender new) c.args.inode was new c.in-Some.ensures.value (c.get_mut.follows.holds new)) c.sync_file.ensures.still fs.opened
+    fixed_changed fs _ more (λ at. Unit) c.args.inode was new small there
+    (sets_through fs.files (c.get_mut.follows.lender new) c.args.inode was new there (c.get_mut.follows.holds new)) c.sync_file.ensures.still fs.opened
     inode at byte below (inr tt) (λ s long is. synced_whole at new c.size-file.ensures c.clear.ensures.items (seen_below new.blob at byte is.seen)) h
 
 pub returns-clause-fixes : goal.returns-clause-fixes
 returns-clause-fixes g c =
     let fs = c.args.self.now in
-    let was = c.in-Some.file.now in
+    let was = c.as_mut-file.result.now in
+    let there = ap Some c.as_mut-file.ensures.value ∙ c.in-Some.ensures.value in
     let new : File = record was { blob = c.sync_file.new.file; synced = c.size-file.result; is_changed = false; is_truncated = false; truncations = c.clear.new.self } in
-    fixes_synced fs _ c.args.inode was new c.in_ok-synced.ensures.numbered c.in-Some.ensures.value
-    (sets_through fs.files (c.get_mut.follows.lender new) c.args.inode was new c.in-Some.ensures.value (c.get_mut.follows.holds new))
+    fixes_synced fs _ c.args.inode was new c.in_ok-synced.ensures.numbered there
+    (sets_through fs.files (c.get_mut.follows.lender new) c.args.inode was new there (c.get_mut.follows.holds new))
     c.in_default-sync_file.ensures.fixes c.size-file.ensures c.clear.ensures.items fs.opened
 
 pub returns-clause-seen : goal.returns-clause-seen
 returns-clause-seen g c =
     let fs = c.args.self.now in
-    let was = c.in-Some.file.now in
+    let was = c.as_mut-file.result.now in
+    let there = ap Some c.as_mut-file.ensures.value ∙ c.in-Some.ensures.value in
     let new : File = record was { blob = c.sync_file.new.file; synced = c.size-file.result; is_changed = false; is_truncated = false; truncations = c.clear.new.self } in
-    seen_synced fs _ c.args.inode was new c.in-Some.ensures.value
-    (sets_through fs.files (c.get_mut.follows.lender new) c.args.inode was new c.in-Some.ensures.value (c.get_mut.follows.holds new))
+    seen_synced fs _ c.args.inode was new there
+    (sets_through fs.files (c.get_mut.follows.lender new) c.args.inode was new there (c.get_mut.follows.holds new))
     c.in_default-sync_file.ensures.fixes fs.opened

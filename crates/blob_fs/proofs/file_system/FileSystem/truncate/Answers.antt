@@ -68,12 +68,13 @@ returns-in_default-clause-fixed g c =
 pub invariant_of-self-in-Break-branch-6 : goal.invariant_of-self-in-Break-branch-6
 invariant_of-self-in-Break-branch-6 g c =
     let one = c.draw_truncation.new.self in
-    let was = c.in-Some.found.now in
+    let was = c.as_mut-found.result.now in
+    let there = ap Some c.as_mut-found.ensures.value ∙ c.in-Some.ensures.value in
     let new : File = c.reserve_shown.new.self in
     record {
-      opened = opened_through one.store one.files (c.get_mut.follows.lender new) c.in_ok-inode.inode was new c.in-Some.ensures.value (c.get_mut.follows.holds new) c.reserve_shown.ensures.content one.opened;
-      named = named_through one.store one.files (c.get_mut.follows.lender new) c.in_ok-inode.inode was new c.in-Some.ensures.value (c.get_mut.follows.holds new) (same_at_most (sym c.reserve_shown.ensures.links)) one.named;
-      tracked = tracked_through one.store one.files (c.get_mut.follows.lender new) c.in_ok-inode.inode was new c.in-Some.ensures.value (c.get_mut.follows.holds new) c.reserve_shown.ensures.gone one.tracked;
+      opened = opened_through one.store one.files (c.get_mut.follows.lender new) c.in_ok-inode.inode was new there (c.get_mut.follows.holds new) c.reserve_shown.ensures.content one.opened;
+      named = named_through one.store one.files (c.get_mut.follows.lender new) c.in_ok-inode.inode was new there (c.get_mut.follows.holds new) (same_at_most (sym c.reserve_shown.ensures.links)) one.named;
+      tracked = tracked_through one.store one.files (c.get_mut.follows.lender new) c.in_ok-inode.inode was new there (c.get_mut.follows.holds new) c.reserve_shown.ensures.gone one.tracked;
     }
 
 pub returns-in_err-reserve_shown-clause-fixed : goal.returns-in_err-reserve_shown-clause-fixed
@@ -82,23 +83,24 @@ returns-in_err-reserve_shown-clause-fixed g c =
     let one = c.draw_truncation.new.self in
     let keeps : KeepsFixed fs one = fixed_twice fs c.begin_call.new.self one c.begin_call.ensures.fixed c.draw_truncation.ensures.drawn.fixed in
     let more : one.next_inode ≤ one.next_inode = omega arith in
-    let was = c.in-Some.found.now in
+    let was = c.as_mut-found.result.now in
     let new : File = c.reserve_shown.new.self in
     λ inode at byte below spared f.
     fixed_after one _ more
-    (contents_through one.files (c.get_mut.follows.lender new) c.in_ok-inode.inode was new c.in-Some.ensures.value (c.get_mut.follows.holds new) c.reserve_shown.ensures.content)
+    (contents_through one.files (c.get_mut.follows.lender new) c.in_ok-inode.inode was new (ap Some c.as_mut-found.ensures.value ∙ c.in-Some.ensures.value) (c.get_mut.follows.holds new) c.reserve_shown.ensures.content)
     (still_self one.store) inode at byte below (keeps inode at byte below f)
 
 pub invariant_of-self-in-Break-branch-7 : goal.invariant_of-self-in-Break-branch-7
 invariant_of-self-in-Break-branch-7 g c =
     let one = c.draw_truncation.new.self in
-    let was = c.in-Some.found.now in
+    let was = c.as_mut-found.result.now in
+    let there = ap Some c.as_mut-found.ensures.value ∙ c.in-Some.ensures.value in
     let new : File = record c.reserve_shown.new.self { truncations = c.reserve.new.self } in
     record {
-      opened = opened_through one.store one.files (c.get_mut.follows.lender new) c.in_ok-inode.inode was new c.in-Some.ensures.value (c.get_mut.follows.holds new)
+      opened = opened_through one.store one.files (c.get_mut.follows.lender new) c.in_ok-inode.inode was new there (c.get_mut.follows.holds new)
           (record { blob = c.reserve_shown.ensures.content.blob; synced = c.reserve_shown.ensures.content.synced; truncations = c.reserve.ensures.items ∙ c.reserve_shown.ensures.content.truncations }) one.opened;
-      named = named_through one.store one.files (c.get_mut.follows.lender new) c.in_ok-inode.inode was new c.in-Some.ensures.value (c.get_mut.follows.holds new) (same_at_most (sym c.reserve_shown.ensures.links)) one.named;
-      tracked = tracked_through one.store one.files (c.get_mut.follows.lender new) c.in_ok-inode.inode was new c.in-Some.ensures.value (c.get_mut.follows.holds new) c.reserve_shown.ensures.gone one.tracked;
+      named = named_through one.store one.files (c.get_mut.follows.lender new) c.in_ok-inode.inode was new there (c.get_mut.follows.holds new) (same_at_most (sym c.reserve_shown.ensures.links)) one.named;
+      tracked = tracked_through one.store one.files (c.get_mut.follows.lender new) c.in_ok-inode.inode was new there (c.get_mut.follows.holds new) c.reserve_shown.ensures.gone one.tracked;
     }
 
 pub returns-in_err-reserve-clause-fixed : goal.returns-in_err-reserve-clause-fixed
@@ -107,24 +109,25 @@ returns-in_err-reserve-clause-fixed g c =
     let one = c.draw_truncation.new.self in
     let keeps : KeepsFixed fs one = fixed_twice fs c.begin_call.new.self one c.begin_call.ensures.fixed c.draw_truncation.ensures.drawn.fixed in
     let more : one.next_inode ≤ one.next_inode = omega arith in
-    let was = c.in-Some.found.now in
+    let was = c.as_mut-found.result.now in
     let new : File = record c.reserve_shown.new.self { truncations = c.reserve.new.self } in
     λ inode at byte below spared f.
     fixed_after one _ more
-    (contents_through one.files (c.get_mut.follows.lender new) c.in_ok-inode.inode was new c.in-Some.ensures.value (c.get_mut.follows.holds new) (record { blob = c.reserve_shown.ensures.content.blob; synced = c.reserve_shown.ensures.content.synced; truncations = c.reserve.ensures.items ∙ c.reserve_shown.ensures.content.truncations }))
+    (contents_through one.files (c.get_mut.follows.lender new) c.in_ok-inode.inode was new (ap Some c.as_mut-found.ensures.value ∙ c.in-Some.ensures.value) (c.get_mut.follows.holds new) (record { blob = c.reserve_shown.ensures.content.blob; synced = c.reserve_shown.ensures.content.synced; truncations = c.reserve.ensures.items ∙ c.reserve_shown.ensures.content.truncations }))
     (still_self one.store) inode at byte below (keeps inode at byte below f)
 
 pub invariant_of-self-in-Break-branch-8 : goal.invariant_of-self-in-Break-branch-8
 invariant_of-self-in-Break-branch-8 g c =
     let one = c.draw_truncation.new.self in
-    let was = c.in-Some.found.now in
+    let was = c.as_mut-found.result.now in
+    let there = ap Some c.as_mut-found.ensures.value ∙ c.in-Some.ensures.value in
     let new : File = record c.reserve_shown.new.self { truncations = c.reserve.new.self } in
     record {
       opened = opened_after one.store c.record_truncation.new.self one.files (c.get_mut.follows.lender new)
-          (contents_through one.files (c.get_mut.follows.lender new) c.in_ok-inode.inode was new c.in-Some.ensures.value (c.get_mut.follows.holds new) (record { blob = c.reserve_shown.ensures.content.blob; synced = c.reserve_shown.ensures.content.synced; truncations = c.reserve.ensures.items ∙ c.reserve_shown.ensures.content.truncations })) c.record_truncation.ensures.still one.opened;
+          (contents_through one.files (c.get_mut.follows.lender new) c.in_ok-inode.inode was new there (c.get_mut.follows.holds new) (record { blob = c.reserve_shown.ensures.content.blob; synced = c.reserve_shown.ensures.content.synced; truncations = c.reserve.ensures.items ∙ c.reserve_shown.ensures.content.truncations })) c.record_truncation.ensures.still one.opened;
       named = named_after one.store c.record_truncation.new.self one.files (c.get_mut.follows.lender new) c.record_truncation.ensures.names
-          (links_set one.files (c.get_mut.follows.lender new) c.in_ok-inode.inode was new c.in-Some.ensures.value (sets_through one.files (c.get_mut.follows.lender new) c.in_ok-inode.inode was new c.in-Some.ensures.value (c.get_mut.follows.holds new)) (same_at_most (sym c.reserve_shown.ensures.links))) one.named;
-      tracked = tracked_after one.store c.record_truncation.new.self one.files (c.get_mut.follows.lender new) c.record_truncation.ensures.names c.in_err-edit.ensures.untold (freed_set one.files (c.get_mut.follows.lender new) c.in_ok-inode.inode was new c.in-Some.ensures.value (sets_through one.files (c.get_mut.follows.lender new) c.in_ok-inode.inode was new c.in-Some.ensures.value (c.get_mut.follows.holds new)) c.reserve_shown.ensures.gone) one.tracked;
+          (links_set one.files (c.get_mut.follows.lender new) c.in_ok-inode.inode was new there (sets_through one.files (c.get_mut.follows.lender new) c.in_ok-inode.inode was new there (c.get_mut.follows.holds new)) (same_at_most (sym c.reserve_shown.ensures.links))) one.named;
+      tracked = tracked_after one.store c.record_truncation.new.self one.files (c.get_mut.follows.lender new) c.record_truncation.ensures.names c.in_err-edit.ensures.untold (freed_set one.files (c.get_mut.follows.lender new) c.in_ok-inode.inode was new there (sets_through one.files (c.get_mut.follows.lender new) c.in_ok-inode.inode was new there (c.get_mut.follows.holds new)) c.reserve_shown.ensures.gone) one.tracked;
     }
 
 pub returns-in_err-edit-clause-fixed : goal.returns-in_err-edit-clause-fixed
@@ -133,21 +136,22 @@ returns-in_err-edit-clause-fixed g c =
     let one = c.draw_truncation.new.self in
     let keeps : KeepsFixed fs one = fixed_twice fs c.begin_call.new.self one c.begin_call.ensures.fixed c.draw_truncation.ensures.drawn.fixed in
     let more : one.next_inode ≤ one.next_inode = omega arith in
-    let was = c.in-Some.found.now in
+    let was = c.as_mut-found.result.now in
     let new : File = record c.reserve_shown.new.self { truncations = c.reserve.new.self } in
     λ inode at byte below spared f.
     fixed_after one _ more
-    (contents_through one.files (c.get_mut.follows.lender new) c.in_ok-inode.inode was new c.in-Some.ensures.value (c.get_mut.follows.holds new) (record { blob = c.reserve_shown.ensures.content.blob; synced = c.reserve_shown.ensures.content.synced; truncations = c.reserve.ensures.items ∙ c.reserve_shown.ensures.content.truncations }))
+    (contents_through one.files (c.get_mut.follows.lender new) c.in_ok-inode.inode was new (ap Some c.as_mut-found.ensures.value ∙ c.in-Some.ensures.value) (c.get_mut.follows.holds new) (record { blob = c.reserve_shown.ensures.content.blob; synced = c.reserve_shown.ensures.content.synced; truncations = c.reserve.ensures.items ∙ c.reserve_shown.ensures.content.truncations }))
     c.record_truncation.ensures.still inode at byte below (keeps inode at byte below f)
 
 pub invariant_of-self-in-Break-branch-9 : goal.invariant_of-self-in-Break-branch-9
 invariant_of-self-in-Break-branch-9 g c =
     let one = c.draw_truncation.new.self in
-    let was = c.in-Some.found.now in
+    let was = c.as_mut-found.result.now in
+    let there = ap Some c.as_mut-found.ensures.value ∙ c.in-Some.ensures.value in
     let new : File = record c.reserve_shown.new.self { blob = c.resize_file.new.file; truncations = c.reserve.new.self } in
     let spares = λ (at : ℕ). at < c.args.length in
     let still : KeepsOpen one.store c.set_config.new.self = still_twice one.store c.record_truncation.new.self c.set_config.new.self c.record_truncation.ensures.still c.set_config.ensures.still in
-    let sets = sets_through one.files (c.get_mut.follows.lender new) c.in_ok-inode.inode was new c.in-Some.ensures.value (c.get_mut.follows.holds new) in
+    let sets = sets_through one.files (c.get_mut.follows.lender new) c.in_ok-inode.inode was new there (c.get_mut.follows.holds new) in
     let resized : ChangesOpen spares c.set_config.new.self c.reserve_shown.new.self.blob c.resize_file.new.self c.resize_file.new.file =
     changes_less (λ at. at < c.in_ok-reached.reached) spares c.set_config.new.self c.resize_file.new.self c.reserve_shown.new.self.blob c.resize_file.new.file
     (λ at low. omega (arith, low, c.in_ok-reached.ensures.reached)) c.resize_file.ensures.still in
@@ -155,12 +159,12 @@ invariant_of-self-in-Break-branch-9 g c =
     changes_again spares one.store c.resize_file.new.self c.reserve_shown.new.self.blob c.resize_file.new.file was.blob new.blob c.reserve_shown.ensures.content.blob refl
     (changes_after spares one.store c.set_config.new.self c.resize_file.new.self c.reserve_shown.new.self.blob c.resize_file.new.file still resized) in
     record {
-      opened = opened_changed spares one.store c.resize_file.new.self one.files (c.get_mut.follows.lender new) c.in_ok-inode.inode was new (omega arith) c.in-Some.ensures.value sets changes one.opened;
-      named = named_after one.store c.resize_file.new.self one.files (c.get_mut.follows.lender new) (c.resize_file.ensures.names ∙ c.set_config.ensures.names ∙ c.record_truncation.ensures.names) (links_set one.files (c.get_mut.follows.lender new) c.in_ok-inode.inode was new c.in-Some.ensures.value sets (same_at_most (sym c.reserve_shown.ensures.links))) one.named;
+      opened = opened_changed spares one.store c.resize_file.new.self one.files (c.get_mut.follows.lender new) c.in_ok-inode.inode was new (omega arith) there sets changes one.opened;
+      named = named_after one.store c.resize_file.new.self one.files (c.get_mut.follows.lender new) (c.resize_file.ensures.names ∙ c.set_config.ensures.names ∙ c.record_truncation.ensures.names) (links_set one.files (c.get_mut.follows.lender new) c.in_ok-inode.inode was new there sets (same_at_most (sym c.reserve_shown.ensures.links))) one.named;
       tracked = tracked_store c.record_truncation.new.self c.resize_file.new.self (c.get_mut.follows.lender new) (c.resize_file.ensures.names ∙ c.set_config.ensures.names) (c.resize_file.ensures.told ∙ c.set_config.ensures.journal.told)
           (tracked_freed (record { may = c.bindings.ensures.one_more; within = c.bindings.ensures.within_one_more; freed = c.bindings.ensures.freed_one_more })
           one.store c.record_truncation.new.self c.in_ok-inode.inode one.files (c.get_mut.follows.lender new) c.record_truncation.ensures.names c.in_ok-edit.ensures.told
-          (freed_set one.files (c.get_mut.follows.lender new) c.in_ok-inode.inode was new c.in-Some.ensures.value sets c.reserve_shown.ensures.gone) one.named one.tracked);
+          (freed_set one.files (c.get_mut.follows.lender new) c.in_ok-inode.inode was new there sets c.reserve_shown.ensures.gone) one.named one.tracked);
     }
 
 pub returns-in_err-resize_file-clause-fixed : goal.returns-in_err-resize_file-clause-fixed
@@ -168,11 +172,12 @@ returns-in_err-resize_file-clause-fixed g c =
     let fs = c.args.self.now in
     let one = c.draw_truncation.new.self in
     let keeps : KeepsFixed fs one = fixed_twice fs c.begin_call.new.self one c.begin_call.ensures.fixed c.draw_truncation.ensures.drawn.fixed in
-    let was = c.in-Some.found.now in
+    let was = c.as_mut-found.result.now in
+    let there = ap Some c.as_mut-found.ensures.value ∙ c.in-Some.ensures.value in
     let new : File = record c.reserve_shown.new.self { blob = c.resize_file.new.file; truncations = c.reserve.new.self } in
     let spares = λ (at : ℕ). at < c.args.length in
     let still : KeepsOpen one.store c.set_config.new.self = still_twice one.store c.record_truncation.new.self c.set_config.new.self c.record_truncation.ensures.still c.set_config.ensures.still in
-    let sets = sets_through one.files (c.get_mut.follows.lender new) c.in_ok-inode.inode was new c.in-Some.ensures.value (c.get_mut.follows.holds new) in
+    let sets = sets_through one.files (c.get_mut.follows.lender new) c.in_ok-inode.inode was new there (c.get_mut.follows.holds new) in
     let resized : ChangesOpen spares c.set_config.new.self c.reserve_shown.new.self.blob c.resize_file.new.self c.resize_file.new.file =
     changes_less (λ at. at < c.in_ok-reached.reached) spares c.set_config.new.self c.resize_file.new.self c.reserve_shown.new.self.blob c.resize_file.new.file
     (λ at low. omega (arith, low, c.in_ok-reached.ensures.reached)) c.resize_file.ensures.still in
@@ -181,17 +186,18 @@ returns-in_err-resize_file-clause-fixed g c =
     (changes_after spares one.store c.set_config.new.self c.resize_file.new.self c.reserve_shown.new.self.blob c.resize_file.new.file still resized) in
     let opens = ap (λ (m : BTreeMap ℕ ℕ). get nat_cmp m (descriptor_number c.args.file)) (sym c.begin_call.ensures.files.opens) ∙ c.in_ok-inode.ensures in
     let small : c.in_ok-inode.inode < 2 ^ 64 = omega arith in
-    keeps_spared fs one _ c.args.file spares c.resize_file.new.self (c.get_mut.follows.lender new) c.in_ok-inode.inode was new opens keeps refl refl refl small c.in-Some.ensures.value sets changes
+    keeps_spared fs one _ c.args.file spares c.resize_file.new.self (c.get_mut.follows.lender new) c.in_ok-inode.inode was new opens keeps refl refl refl small there sets changes
     (λ at low is. synced_kept at was new c.reserve_shown.ensures.content.synced (c.reserve.ensures.items ∙ c.reserve_shown.ensures.content.truncations) is) one.opened
 
 pub invariant_of-self-2 : goal.invariant_of-self-2
 invariant_of-self-2 g c =
     let one = c.draw_truncation.new.self in
-    let was = c.in-Some.found.now in
+    let was = c.as_mut-found.result.now in
+    let there = ap Some c.as_mut-found.ensures.value ∙ c.in-Some.ensures.value in
     let new : File = c.end_truncate-now.new.self in
     let spares = λ (at : ℕ). at < c.args.length in
     let still : KeepsOpen one.store c.set_config.new.self = still_twice one.store c.record_truncation.new.self c.set_config.new.self c.record_truncation.ensures.still c.set_config.ensures.still in
-    let sets = sets_through one.files (c.get_mut.follows.lender new) c.in_ok-inode.inode was new c.in-Some.ensures.value (c.get_mut.follows.holds new) in
+    let sets = sets_through one.files (c.get_mut.follows.lender new) c.in_ok-inode.inode was new there (c.get_mut.follows.holds new) in
     let resized : ChangesOpen spares c.set_config.new.self c.reserve_shown.new.self.blob c.resize_file.new.self c.resize_file.new.file =
     changes_less (λ at. at < c.in_ok-reached.reached) spares c.set_config.new.self c.resize_file.new.self c.reserve_shown.new.self.blob c.resize_file.new.file
     (λ at low. omega (arith, low, c.in_ok-reached.ensures.reached)) c.resize_file.ensures.still in
@@ -199,12 +205,12 @@ invariant_of-self-2 g c =
     changes_again spares one.store c.resize_file.new.self c.reserve_shown.new.self.blob c.resize_file.new.file was.blob new.blob c.reserve_shown.ensures.content.blob c.end_truncate-now.ensures.content.blob
     (changes_after spares one.store c.set_config.new.self c.resize_file.new.self c.reserve_shown.new.self.blob c.resize_file.new.file still resized) in
     record {
-      opened = opened_changed spares one.store c.resize_file.new.self one.files (c.get_mut.follows.lender new) c.in_ok-inode.inode was new (omega arith) c.in-Some.ensures.value sets changes one.opened;
-      named = named_after one.store c.resize_file.new.self one.files (c.get_mut.follows.lender new) (c.resize_file.ensures.names ∙ c.set_config.ensures.names ∙ c.record_truncation.ensures.names) (links_set one.files (c.get_mut.follows.lender new) c.in_ok-inode.inode was new c.in-Some.ensures.value sets (same_at_most (sym (c.end_truncate-now.ensures.links ∙ c.reserve_shown.ensures.links)))) one.named;
+      opened = opened_changed spares one.store c.resize_file.new.self one.files (c.get_mut.follows.lender new) c.in_ok-inode.inode was new (omega arith) there sets changes one.opened;
+      named = named_after one.store c.resize_file.new.self one.files (c.get_mut.follows.lender new) (c.resize_file.ensures.names ∙ c.set_config.ensures.names ∙ c.record_truncation.ensures.names) (links_set one.files (c.get_mut.follows.lender new) c.in_ok-inode.inode was new there sets (same_at_most (sym (c.end_truncate-now.ensures.links ∙ c.reserve_shown.ensures.links)))) one.named;
       tracked = tracked_store c.record_truncation.new.self c.resize_file.new.self (c.get_mut.follows.lender new) (c.resize_file.ensures.names ∙ c.set_config.ensures.names) (c.resize_file.ensures.told ∙ c.set_config.ensures.journal.told)
           (tracked_freed (record { may = c.bindings.ensures.one_more; within = c.bindings.ensures.within_one_more; freed = c.bindings.ensures.freed_one_more })
           one.store c.record_truncation.new.self c.in_ok-inode.inode one.files (c.get_mut.follows.lender new) c.record_truncation.ensures.names c.in_ok-edit.ensures.told
-          (freed_set one.files (c.get_mut.follows.lender new) c.in_ok-inode.inode was new c.in-Some.ensures.value sets (c.end_truncate-now.ensures.gone ∙ c.reserve_shown.ensures.gone)) one.named one.tracked);
+          (freed_set one.files (c.get_mut.follows.lender new) c.in_ok-inode.inode was new there sets (c.end_truncate-now.ensures.gone ∙ c.reserve_shown.ensures.gone)) one.named one.tracked);
     }
 
 pub returns-then-is_failed-clause-fixed : goal.returns-then-is_failed-clause-fixed
@@ -212,11 +218,12 @@ returns-then-is_failed-clause-fixed g c =
     let fs = c.args.self.now in
     let one = c.draw_truncation.new.self in
     let keeps : KeepsFixed fs one = fixed_twice fs c.begin_call.new.self one c.begin_call.ensures.fixed c.draw_truncation.ensures.drawn.fixed in
-    let was = c.in-Some.found.now in
+    let was = c.as_mut-found.result.now in
+    let there = ap Some c.as_mut-found.ensures.value ∙ c.in-Some.ensures.value in
     let new : File = c.end_truncate-now.new.self in
     let spares = λ (at : ℕ). at < c.args.length in
     let still : KeepsOpen one.store c.set_config.new.self = still_twice one.store c.record_truncation.new.self c.set_config.new.self c.record_truncation.ensures.still c.set_config.ensures.still in
-    let sets = sets_through one.files (c.get_mut.follows.lender new) c.in_ok-inode.inode was new c.in-Some.ensures.value (c.get_mut.follows.holds new) in
+    let sets = sets_through one.files (c.get_mut.follows.lender new) c.in_ok-inode.inode was new there (c.get_mut.follows.holds new) in
     let resized : ChangesOpen spares c.set_config.new.self c.reserve_shown.new.self.blob c.resize_file.new.self c.resize_file.new.file =
     changes_less (λ at. at < c.in_ok-reached.reached) spares c.set_config.new.self c.resize_file.new.self c.reserve_shown.new.self.blob c.resize_file.new.file
     (λ at low. omega (arith, low, c.in_ok-reached.ensures.reached)) c.resize_file.ensures.still in
@@ -229,7 +236,7 @@ returns-then-is_failed-clause-fixed g c =
     let synced = c.end_truncate-now.ensures.content.synced ∙ c.reserve_shown.ensures.content.synced in
     let noted = c.end_truncate-now.ensures.content.truncations ∙ c.push_reserved.ensures.items ∙ ap (λ (l : List Truncation). l ++ t ∷ []) (c.reserve.ensures.items ∙ c.reserve_shown.ensures.content.truncations) in
     keeps_spared fs one c.count.new.self c.args.file spares c.resize_file.new.self (c.get_mut.follows.lender new) c.in_ok-inode.inode was new opens keeps
-    c.count.ensures.number c.count.ensures.files.files c.count.ensures.store small c.in-Some.ensures.value sets changes
+    c.count.ensures.number c.count.ensures.files.files c.count.ensures.store small there sets changes
     (λ at low is. synced_more at was new t synced noted (omega (arith, low, c.in_ok-reached.ensures.reached)) is) one.opened
 
 pub returns-clause-fixed : goal.returns-clause-fixed
@@ -237,11 +244,12 @@ returns-clause-fixed g c =
     let fs = c.args.self.now in
     let one = c.draw_truncation.new.self in
     let keeps : KeepsFixed fs one = fixed_twice fs c.begin_call.new.self one c.begin_call.ensures.fixed c.draw_truncation.ensures.drawn.fixed in
-    let was = c.in-Some.found.now in
+    let was = c.as_mut-found.result.now in
+    let there = ap Some c.as_mut-found.ensures.value ∙ c.in-Some.ensures.value in
     let new : File = c.end_truncate-now.new.self in
     let spares = λ (at : ℕ). at < c.args.length in
     let still : KeepsOpen one.store c.set_config.new.self = still_twice one.store c.record_truncation.new.self c.set_config.new.self c.record_truncation.ensures.still c.set_config.ensures.still in
-    let sets = sets_through one.files (c.get_mut.follows.lender new) c.in_ok-inode.inode was new c.in-Some.ensures.value (c.get_mut.follows.holds new) in
+    let sets = sets_through one.files (c.get_mut.follows.lender new) c.in_ok-inode.inode was new there (c.get_mut.follows.holds new) in
     let resized : ChangesOpen spares c.set_config.new.self c.reserve_shown.new.self.blob c.resize_file.new.self c.resize_file.new.file =
     changes_less (λ at. at < c.in_ok-reached.reached) spares c.set_config.new.self c.resize_file.new.self c.reserve_shown.new.self.blob c.resize_file.new.file
     (λ at low. omega (arith, low, c.in_ok-reached.ensures.reached)) c.resize_file.ensures.still in
@@ -254,7 +262,7 @@ returns-clause-fixed g c =
     let synced = c.end_truncate-now.ensures.content.synced ∙ c.reserve_shown.ensures.content.synced in
     let noted = c.end_truncate-now.ensures.content.truncations ∙ c.push_reserved.ensures.items ∙ ap (λ (l : List Truncation). l ++ t ∷ []) (c.reserve.ensures.items ∙ c.reserve_shown.ensures.content.truncations) in
     keeps_spared fs one c.count.new.self c.args.file spares c.resize_file.new.self (c.get_mut.follows.lender new) c.in_ok-inode.inode was new opens keeps
-    c.count.ensures.number c.count.ensures.files.files c.count.ensures.store small c.in-Some.ensures.value sets changes
+    c.count.ensures.number c.count.ensures.files.files c.count.ensures.store small there sets changes
     (λ at low is. synced_more at was new t synced noted (omega (arith, low, c.in_ok-reached.ensures.reached)) is) one.opened
 
 pub returns-then-not-is_failed-clause-noted : goal.returns-then-not-is_failed-clause-noted
@@ -275,16 +283,17 @@ pub returns-clause-noted : goal.returns-clause-noted
 returns-clause-noted g c =
     let fs = c.args.self.now in
     let one = c.draw_truncation.new.self in
-    let was = c.in-Some.found.now in
+    let was = c.as_mut-found.result.now in
+    let there = ap Some c.as_mut-found.ensures.value ∙ c.in-Some.ensures.value in
     let new : File = c.end_truncate-now.new.self in
     let inode = c.in_ok-inode.inode in
     let drawn = c.draw_truncation.ensures.drawn in
     let before = c.begin_call.ensures.files in
-    let sets = sets_through one.files (c.get_mut.follows.lender new) inode was new c.in-Some.ensures.value (c.get_mut.follows.holds new) in
+    let sets = sets_through one.files (c.get_mut.follows.lender new) inode was new there (c.get_mut.follows.holds new) in
     let t : Truncation = record { edit = c.in_ok-edit.edit; length = c.in_ok-reached.reached; next_write = c.next_write-next_write.result } in
     let noted = c.end_truncate-now.ensures.content.truncations ∙ c.push_reserved.ensures.items ∙ ap (λ (l : List Truncation). l ++ t ∷ []) (c.reserve.ensures.items ∙ c.reserve_shown.ensures.content.truncations) in
     let added = c.in_ok-edit.ensures.noted in
-    let there : file_in fs inode ≡ Some was = ap (λ (m : BTreeMap ℕ File). get nat_cmp m inode) (sym (drawn.files.files ∙ before.files)) ∙ sym c.in-Some.ensures.value in
+    let there : file_in fs inode ≡ Some was = ap (λ (m : BTreeMap ℕ File). get nat_cmp m inode) (sym (drawn.files.files ∙ before.files)) ∙ sym there in
     let now : file_in c.count.new.self inode ≡ Some new =
     ap (λ (m : BTreeMap ℕ File). get nat_cmp m inode) c.count.ensures.files.files ∙ sets inode ∙ cond-true (is_eq (nat_cmp inode inode)) (Some new) (get nat_cmp one.files inode) (key_self inode) in
     record {
@@ -327,18 +336,19 @@ returns-then-not-is_failed-clause-size g c =
 pub returns-clause-size : goal.returns-clause-size
 returns-clause-size g c =
     let one = c.draw_truncation.new.self in
-    let was = c.in-Some.found.now in
+    let was = c.as_mut-found.result.now in
+    let there = ap Some c.as_mut-found.ensures.value ∙ c.in-Some.ensures.value in
     let new : File = c.end_truncate-now.new.self in
     let inode = c.in_ok-inode.inode in
     let reached = c.in_ok-reached.reached in
     let drawn = c.draw_truncation.ensures.drawn.files in
     let small : inode < 2 ^ 64 = omega arith in
-    let sets = sets_through one.files (c.get_mut.follows.lender new) inode was new c.in-Some.ensures.value (c.get_mut.follows.holds new) in
+    let sets = sets_through one.files (c.get_mut.follows.lender new) inode was new there (c.get_mut.follows.holds new) in
     let still : KeepsOpen one.store c.set_config.new.self = still_twice one.store c.record_truncation.new.self c.set_config.new.self c.record_truncation.ensures.still c.set_config.ensures.still in
     let resizes : ResizesFile reached c.set_config.new.self was.blob c.resize_file.new.self c.resize_file.new.file =
     subst (λ (b : FileBlob). ResizesFile reached c.set_config.new.self b c.resize_file.new.self c.resize_file.new.file) c.reserve_shown.ensures.content.blob c.in_ok-resize_file.ensures.resized in
     let sized : size_of c.resize_file.new.file.blob ≡ reached =
-    resized_size one.store c.set_config.new.self c.resize_file.new.self one.files inode reached was c.resize_file.new.file small (sym c.in-Some.ensures.value) still resizes one.opened in
+    resized_size one.store c.set_config.new.self c.resize_file.new.self one.files inode reached was c.resize_file.new.file small (sym there) still resizes one.opened in
     record {
       inode = inode;
       was = new;

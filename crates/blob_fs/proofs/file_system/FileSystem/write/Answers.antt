@@ -1,4 +1,4 @@
-use Rattle.std.proofs.Common.{◌<◌, ◌≤◌, ◌^◌, ℕ, ap, length, sym, subst, ◌∙◌, arith}
+use Rattle.std.proofs.Common.{◌<◌, ◌≤◌, ◌^◌, ℕ, ap, length, sym, subst, ◌∙◌, arith, Some}
 use Rattle.std.proofs.Math.Logic.{∥∥₁_elim}
 use Rattle.std.specs.BTreeMap.{BTreeMap, get}
 use Rattle.std.specs.Coded.{Coded-set, coded_list, coded_option, coded_ℕ}
@@ -55,38 +55,40 @@ returns-in_default-clause-fixed g c =
 pub invariant_of-self-in-Break-branch-6 : goal.invariant_of-self-in-Break-branch-6
 invariant_of-self-in-Break-branch-6 g c =
     let one = c.draw_write.new.self in
-    let was = c.in-Some.found.now in
+    let was = c.as_mut-found.result.now in
+    let there = ap Some c.as_mut-found.ensures.value ∙ c.in-Some.ensures.value in
     let new : File = c.reserve_shown.new.self in
     record {
-      opened = opened_through one.store one.files (c.get_mut.follows.lender new) c.in_ok-inode.inode was new c.in-Some.ensures.value (c.get_mut.follows.holds new) c.reserve_shown.ensures.content one.opened;
-      named = named_through one.store one.files (c.get_mut.follows.lender new) c.in_ok-inode.inode was new c.in-Some.ensures.value (c.get_mut.follows.holds new) (same_at_most (sym c.reserve_shown.ensures.links)) one.named;
-      tracked = tracked_through one.store one.files (c.get_mut.follows.lender new) c.in_ok-inode.inode was new c.in-Some.ensures.value (c.get_mut.follows.holds new) c.reserve_shown.ensures.gone one.tracked;
+      opened = opened_through one.store one.files (c.get_mut.follows.lender new) c.in_ok-inode.inode was new there (c.get_mut.follows.holds new) c.reserve_shown.ensures.content one.opened;
+      named = named_through one.store one.files (c.get_mut.follows.lender new) c.in_ok-inode.inode was new there (c.get_mut.follows.holds new) (same_at_most (sym c.reserve_shown.ensures.links)) one.named;
+      tracked = tracked_through one.store one.files (c.get_mut.follows.lender new) c.in_ok-inode.inode was new there (c.get_mut.follows.holds new) c.reserve_shown.ensures.gone one.tracked;
     }
 
 pub returns-in_err-reserve_shown-clause-fixed : goal.returns-in_err-reserve_shown-clause-fixed
 returns-in_err-reserve_shown-clause-fixed g c =
     let one = c.draw_write.new.self in
-    let was = c.in-Some.found.now in
+    let was = c.as_mut-found.result.now in
     let new : File = c.reserve_shown.new.self in
     let more : one.next_inode ≤ one.next_inode = omega arith in
     λ inode at byte below spared f.
-    fixed_after one _ more (contents_through one.files (c.get_mut.follows.lender new) c.in_ok-inode.inode was new c.in-Some.ensures.value (c.get_mut.follows.holds new) c.reserve_shown.ensures.content)
+    fixed_after one _ more (contents_through one.files (c.get_mut.follows.lender new) c.in_ok-inode.inode was new (ap Some c.as_mut-found.ensures.value ∙ c.in-Some.ensures.value) (c.get_mut.follows.holds new) c.reserve_shown.ensures.content)
     (still_self one.store) inode at byte below (c.draw_write.ensures.drawn.fixed inode at byte below (c.begin_call.ensures.fixed inode at byte below f))
 
 pub invariant_of-self-2 : goal.invariant_of-self-2
 invariant_of-self-2 g c =
     let one = c.draw_write.new.self in
-    let was = c.in-Some.found.now in
+    let was = c.as_mut-found.result.now in
+    let there = ap Some c.as_mut-found.ensures.value ∙ c.in-Some.ensures.value in
     let new : File = c.end_write-now.new.self in
     let spares = IsBeside c.args.offset (length c.args.bytes.now) in
-    let sets = sets_through one.files (c.get_mut.follows.lender new) c.in_ok-inode.inode was new c.in-Some.ensures.value (c.get_mut.follows.holds new) in
+    let sets = sets_through one.files (c.get_mut.follows.lender new) c.in_ok-inode.inode was new there (c.get_mut.follows.holds new) in
     let changes : ChangesOpen spares one.store was.blob c.write_blob-written.new.store new.blob =
     changes_again spares one.store c.write_blob-written.new.store c.reserve_shown.new.self.blob c.write_blob-written.new.blob was.blob new.blob
     c.reserve_shown.ensures.content.blob c.end_write-now.ensures.content.blob c.write_blob-written.ensures.still in
     record {
-      opened = opened_changed spares one.store c.write_blob-written.new.store one.files (c.get_mut.follows.lender new) c.in_ok-inode.inode was new (omega arith) c.in-Some.ensures.value sets changes one.opened;
-      named = named_after one.store c.write_blob-written.new.store one.files (c.get_mut.follows.lender new) c.write_blob-written.ensures.names (links_set one.files (c.get_mut.follows.lender new) c.in_ok-inode.inode was new c.in-Some.ensures.value sets (same_at_most (sym (c.end_write-now.ensures.links ∙ c.reserve_shown.ensures.links)))) one.named;
-      tracked = tracked_after one.store c.write_blob-written.new.store one.files (c.get_mut.follows.lender new) c.write_blob-written.ensures.names c.write_blob-written.ensures.told (freed_set one.files (c.get_mut.follows.lender new) c.in_ok-inode.inode was new c.in-Some.ensures.value sets (c.end_write-now.ensures.gone ∙ c.reserve_shown.ensures.gone)) one.tracked;
+      opened = opened_changed spares one.store c.write_blob-written.new.store one.files (c.get_mut.follows.lender new) c.in_ok-inode.inode was new (omega arith) there sets changes one.opened;
+      named = named_after one.store c.write_blob-written.new.store one.files (c.get_mut.follows.lender new) c.write_blob-written.ensures.names (links_set one.files (c.get_mut.follows.lender new) c.in_ok-inode.inode was new there sets (same_at_most (sym (c.end_write-now.ensures.links ∙ c.reserve_shown.ensures.links)))) one.named;
+      tracked = tracked_after one.store c.write_blob-written.new.store one.files (c.get_mut.follows.lender new) c.write_blob-written.ensures.names c.write_blob-written.ensures.told (freed_set one.files (c.get_mut.follows.lender new) c.in_ok-inode.inode was new there sets (c.end_write-now.ensures.gone ∙ c.reserve_shown.ensures.gone)) one.tracked;
     }
 
 pub returns-in-Ok-clause-recorded : goal.returns-in-Ok-clause-recorded
@@ -97,7 +99,8 @@ returns-in-Ok-clause-recorded g c = λ by_mode.
     let drawn = c.draw_write.ensures.drawn.files in
     let crashes = c.in_ok-begin_call.ensures.crashes in
     let inode = c.in_ok-inode.inode in
-    let found : File = c.in-Some.found.now in
+    let found : File = c.as_mut-found.result.now in
+    let there = ap Some c.as_mut-found.ensures.value ∙ c.in-Some.ensures.value in
     let small : inode < 2 ^ 64 = omega arith in
     let how = c.in_ok-how.ensures.how (ap (λ (o : Options). o.failed_write) same.options ∙ by_mode) in
     was_ok c.write_blob-written.result _ c.in-Ok.is c.write_blob-written.ensures.recorded (λ recorded.
@@ -106,45 +109,47 @@ returns-in-Ok-clause-recorded g c = λ by_mode.
       inode = inode;
       opened = ap (λ (m : BTreeMap ℕ ℕ). get nat_cmp m (descriptor_number c.args.file)) (sym same.opens) ∙ c.in_ok-inode.ensures;
       old = found;
-      there = ap (λ (m : BTreeMap ℕ File). get nat_cmp m inode) (sym (drawn.files ∙ same.files)) ∙ sym c.in-Some.ensures.value;
+      there = ap (λ (m : BTreeMap ℕ File). get nat_cmp m inode) (sym (drawn.files ∙ same.files)) ∙ sym there;
       entries = written.entries;
       is = written.is;
       left = λ kept.
           ap (λ (j : Journaled g.row.R.Denot). crashed_file j kept inode) c.count.ensures.store
           ∙ ∥∥₁_elim one.opened (Coded-set (coded_option (coded_list coded_ℕ)) _ _) (λ each.
           written.left inode kept
-          (subst (λ (b : FileBlob). IsCurrent one.store inode b) (sym c.reserve_shown.ensures.content.blob) (each inode found small (sym c.in-Some.ensures.value)).is.current))
+          (subst (λ (b : FileBlob). IsCurrent one.store inode b) (sym c.reserve_shown.ensures.content.blob) (each inode found small (sym there)).is.current))
           ∙ ap (option_map (λ x. replay_log x written.entries (chosen_by (table_of kept)))) (c.draw_write.ensures.drawn.crashes.left inode kept ∙ crashes.left inode kept);
     })
 
 pub returns-in-Ok-clause-fixed : goal.returns-in-Ok-clause-fixed
 returns-in-Ok-clause-fixed g c =
     let one = c.draw_write.new.self in
-    let was = c.in-Some.found.now in
+    let was = c.as_mut-found.result.now in
+    let there = ap Some c.as_mut-found.ensures.value ∙ c.in-Some.ensures.value in
     let new : File = c.end_write-now.new.self in
     let spares = IsBeside c.args.offset (length c.args.bytes.now) in
-    let sets = sets_through one.files (c.get_mut.follows.lender new) c.in_ok-inode.inode was new c.in-Some.ensures.value (c.get_mut.follows.holds new) in
+    let sets = sets_through one.files (c.get_mut.follows.lender new) c.in_ok-inode.inode was new there (c.get_mut.follows.holds new) in
     let changes : ChangesOpen spares one.store was.blob c.write_blob-written.new.store new.blob =
     changes_again spares one.store c.write_blob-written.new.store c.reserve_shown.new.self.blob c.write_blob-written.new.blob was.blob new.blob
     c.reserve_shown.ensures.content.blob c.end_write-now.ensures.content.blob c.write_blob-written.ensures.still in
     let opens = ap (λ (m : BTreeMap ℕ ℕ). get nat_cmp m (descriptor_number c.args.file)) (sym c.begin_call.ensures.files.opens) ∙ c.in_ok-inode.ensures in
     let small : c.in_ok-inode.inode < 2 ^ 64 = omega arith in
     keeps_spared c.args.self.now one c.count.new.self c.args.file spares c.write_blob-written.new.store (c.get_mut.follows.lender new) c.in_ok-inode.inode was new opens (fixed_twice c.args.self.now c.begin_call.new.self one c.begin_call.ensures.fixed c.draw_write.ensures.drawn.fixed)
-    c.count.ensures.number c.count.ensures.files.files c.count.ensures.store small c.in-Some.ensures.value sets changes
+    c.count.ensures.number c.count.ensures.files.files c.count.ensures.store small there sets changes
     (λ at s. synced_kept at was new (c.end_write-now.ensures.content.synced ∙ c.reserve_shown.ensures.content.synced) (c.end_write-now.ensures.content.truncations ∙ c.reserve_shown.ensures.content.truncations)) one.opened
 
 pub returns-in-Err-clause-fixed : goal.returns-in-Err-clause-fixed
 returns-in-Err-clause-fixed g c =
     let one = c.draw_write.new.self in
-    let was = c.in-Some.found.now in
+    let was = c.as_mut-found.result.now in
+    let there = ap Some c.as_mut-found.ensures.value ∙ c.in-Some.ensures.value in
     let new : File = c.end_write-now.new.self in
     let spares = IsBeside c.args.offset (length c.args.bytes.now) in
-    let sets = sets_through one.files (c.get_mut.follows.lender new) c.in_ok-inode.inode was new c.in-Some.ensures.value (c.get_mut.follows.holds new) in
+    let sets = sets_through one.files (c.get_mut.follows.lender new) c.in_ok-inode.inode was new there (c.get_mut.follows.holds new) in
     let changes : ChangesOpen spares one.store was.blob c.write_blob-written.new.store new.blob =
     changes_again spares one.store c.write_blob-written.new.store c.reserve_shown.new.self.blob c.write_blob-written.new.blob was.blob new.blob
     c.reserve_shown.ensures.content.blob c.end_write-now.ensures.content.blob c.write_blob-written.ensures.still in
     let opens = ap (λ (m : BTreeMap ℕ ℕ). get nat_cmp m (descriptor_number c.args.file)) (sym c.begin_call.ensures.files.opens) ∙ c.in_ok-inode.ensures in
     let small : c.in_ok-inode.inode < 2 ^ 64 = omega arith in
     keeps_spared c.args.self.now one c.count.new.self c.args.file spares c.write_blob-written.new.store (c.get_mut.follows.lender new) c.in_ok-inode.inode was new opens (fixed_twice c.args.self.now c.begin_call.new.self one c.begin_call.ensures.fixed c.draw_write.ensures.drawn.fixed)
-    c.count.ensures.number c.count.ensures.files.files c.count.ensures.store small c.in-Some.ensures.value sets changes
+    c.count.ensures.number c.count.ensures.files.files c.count.ensures.store small there sets changes
     (λ at s. synced_kept at was new (c.end_write-now.ensures.content.synced ∙ c.reserve_shown.ensures.content.synced) (c.end_write-now.ensures.content.truncations ∙ c.reserve_shown.ensures.content.truncations)) one.opened

@@ -11,7 +11,7 @@ use Rattle.blob_pending.specs.Lists.{held_by, list_of, lists_of}
 use Rattle.blob_pending.specs.Views.{left_in}
 use Rattle.blob_pending.specs.declared.incarnation.Incarnation.{Incarnation}
 use Rattle.blob_pending.proofs.ListSteps.{held_get, held_len, is_not_of}
-use Rattle.blob_fs.proofs.Needed.{in_split}
+use Rattle.blob_fs.proofs.CrashWrites.{in_split}
 
 -- no two lists are of one incarnation: so each is the one that its incarnation has
 held_here : (hs : List ListAt) (i : ℕ) (d : ListAt) → ArePlacesApart hs → i < length hs → held_at hs (get_or hs i d).0 ≡ (get_or hs i d).1

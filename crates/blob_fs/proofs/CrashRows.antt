@@ -25,8 +25,8 @@ use Rattle.blob_fs.specs.declared.file_system.FileSystem.{FileSystem}
 use Rattle.blob_fs.specs.Files.{journaled_of}
 use Rattle.blob_fs.specs.PlaceMaps.{ArePlaces, place_of_row}
 use Rattle.blob_fs.specs.Places.{FindsPlaces}
-use Rattle.blob_fs.proofs.Needed.{as_many, in_log, row_numbers}
-use Rattle.blob_fs.proofs.Placed.{kept_true, needs_at, numbers_each, places_each}
+use Rattle.blob_fs.proofs.CrashWrites.{as_many, in_log, row_numbers}
+use Rattle.blob_fs.proofs.WritePlaces.{kept_true, needs_at, numbers_each, places_each}
 
 -- the numbers of a table's rows are those of the writes that it was drawn for
 numbers_in : (rows : List (ℕ × Vec Bool Global)) → map (λ (r : Row). r.0) (map (λ (row : ℕ × Vec Bool Global). (row.0, row.1.items)) rows) ≡ map (λ (row : ℕ × Vec Bool Global). row.0) rows

@@ -27,9 +27,9 @@ use Rattle.blob_fs.specs.Bytes.{file_in}
 use Rattle.blob_fs.specs.Files.{journaled_of}
 use Rattle.blob_fs.specs.PlaceMaps.{AreInodes, noted, place_of_row}
 use Rattle.blob_fs.specs.Places.{IsInodeOf, IsPending, IsPlaceOf, number_of}
-use Rattle.blob_fs.proofs.Needed.{needs_here}
+use Rattle.blob_fs.proofs.CrashWrites.{needs_here}
 use Rattle.blob_fs.proofs.PlaceMaps.{noted_of}
-use Rattle.blob_fs.proofs.Numbered.{one_write}
+use Rattle.blob_fs.proofs.WriteNumbers.{one_write}
 use Rattle.blob_fs.proofs.Recovering.{key_is, key_self}
 
 some_same : {A : Type 0} {x y : A} → Some x ≡ Some y → x ≡ y
