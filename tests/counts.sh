@@ -89,7 +89,7 @@ ADDED
 
 # Edits that the gate leaves out: one that a goal rejects, and those that count as failed.
 mkdir "$copy/crates/blob_c/edits"
-for name in good names limit kept bad untried; do echo "file: src/lib.rt" >"$copy/crates/blob_c/edits/$name.edit"; done
+for name in good names cited limit kept bad untried; do echo "file: src/lib.rt" >"$copy/crates/blob_c/edits/$name.edit"; done
 cp "$top/tests/edits.sh" "$copy/tests"
 cat >"$work/tools/rt" <<'TOOL'
 #!/bin/sh
@@ -97,6 +97,7 @@ cat >"$work/tools/rt" <<'TOOL'
 cat <<'SAID'
 rt: must-fail blob_c/good.edit: refused, as it must be: src/lib.rt:4:14: error: goal
 rt: must-fail blob_c/names.edit: refused, as it must be (only because a proof file names what the edit took away)
+rt: must-fail blob_c/cited.edit: refused, as it must be: ./proofs/f/Answers.antt:3:5: error: 1 declaration that depends on `g`, which was rejected, was not checked: returns
 rt: must-fail blob_c/limit.edit: refused, as it must be (only by a limit of the prover, which gave no verdict)
 rt: must-fail blob_c/kept.edit: NOT REFUSED: the crate is still proved with this edit
 rt: must-fail blob_c/bad.edit: BAD EDIT: src/lib.rt does not have the text
@@ -105,13 +106,14 @@ exit 1
 TOOL
 expect 'edits that the gate leaves out' 1 "\
 edits.sh: blob_c/bad.edit isn't rejected
+edits.sh: blob_c/cited.edit isn't rejected by a goal
 edits.sh: blob_c/kept.edit isn't rejected
 edits.sh: blob_c/limit.edit isn't rejected by a goal
 edits.sh: blob_c/names.edit isn't rejected by a goal
 edits.sh: blob_c/untried.edit isn't tried
-edits.sh: 6 edits, 1 rejected by a goal
-1 passed, 5 failed" run_test --edits
-for name in names limit kept bad untried; do rm "$copy/crates/blob_c/edits/$name.edit"; done
+edits.sh: 7 edits, 1 rejected by a goal
+1 passed, 6 failed" run_test --edits
+for name in names cited limit kept bad untried; do rm "$copy/crates/blob_c/edits/$name.edit"; done
 expect 'an edit that a goal rejects' 0 'edits.sh: 1 edits, 1 rejected by a goal
 1 passed, 0 failed' run_test --edits blob_c
 expect 'edits of no crate' 1 "edits.sh: there is no crates/blob_d/edits
