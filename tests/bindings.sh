@@ -187,6 +187,7 @@ if has_python && [ -f "$top/out/libblobcrash.so" ]; then
     run_python "$top/tests/pictures.py" "$top/out/blobcrash" "$explain" 100 library >"$work/out" 2>"$work/err"
     tell $? 'Python: pictures of random scripts'
     lives Python run_python "$top/bindings/python/log.py"
+    add run_python "$top/tests/fixed_bytes.py" --library 1000
     for test in hostile traps; do
         run_python "$top/tests/$test.py" library >"$work/out" 2>"$work/err"
         tell $? "Python: $test.py"

@@ -1,5 +1,5 @@
 #!/bin/sh
-# Tests the counts of tests/counting.sh and of ./test, with a toolchain that only says that the gate passed, and the table of
+# Tests the counts of tests/counting.sh, of ./test and of its --edits, with a toolchain that only says what passed, and the table of
 # tests/times.py. The last line is `N passed, M failed`.
 # shellcheck disable=SC2016,SC2317
 top=$(CDPATH='' cd -- "$(dirname -- "$0")/.." && pwd -P)
@@ -48,7 +48,7 @@ script() {
     } >"$copy/tests/$name.sh"
 }
 for name in pages refusals sql bindings; do script "$name" pass; done
-run_test() { (unset RT_JOBS && cd "$copy" && PATH=$work/tools:$PATH ./test); }
+run_test() { (unset RT_JOBS && cd "$copy" && PATH=$work/tools:$PATH ./test "$@"); }
 
 script own pass pass
 expect 'a script' 0 '2 passed, 0 failed' sh "$copy/tests/own.sh"
@@ -86,6 +86,39 @@ echo 2 passed, 0 failed, 3 skipped|0 3 passed, 0 failed, 3 skipped
 echo 2 passed, 0 failed; exit 1|1 3 passed, 1 failed
 echo nothing|1 1 passed, 1 failed
 ADDED
+
+# Edits that the gate leaves out: one that a goal rejects, and those that count as failed.
+mkdir "$copy/crates/blob_c/edits"
+for name in good names cited limit kept bad untried; do echo "file: src/lib.rt" >"$copy/crates/blob_c/edits/$name.edit"; done
+cp "$top/tests/edits.sh" "$copy/tests"
+cat >"$work/tools/rt" <<'TOOL'
+#!/bin/sh
+[ "$*" = 'must-fail blob_c' ] && [ ! -e crates/blob_c/edits ] && [ -e crates/blob_c/must-fail/good.edit ] || exit 2
+cat <<'SAID'
+rt: must-fail blob_c/good.edit: refused, as it must be: src/lib.rt:4:14: error: goal
+rt: must-fail blob_c/names.edit: refused, as it must be (only because a proof file names what the edit took away)
+rt: must-fail blob_c/cited.edit: refused, as it must be: ./proofs/f/Answers.antt:3:5: error: 1 declaration that depends on `g`, which was rejected, was not checked: returns
+rt: must-fail blob_c/limit.edit: refused, as it must be (only by a limit of the prover, which gave no verdict)
+rt: must-fail blob_c/kept.edit: NOT REFUSED: the crate is still proved with this edit
+rt: must-fail blob_c/bad.edit: BAD EDIT: src/lib.rt does not have the text
+SAID
+exit 1
+TOOL
+expect 'edits that the gate leaves out' 1 "\
+edits.sh: blob_c/bad.edit isn't rejected
+edits.sh: blob_c/cited.edit isn't rejected by a goal
+edits.sh: blob_c/kept.edit isn't rejected
+edits.sh: blob_c/limit.edit isn't rejected by a goal
+edits.sh: blob_c/names.edit isn't rejected by a goal
+edits.sh: blob_c/untried.edit isn't tried
+edits.sh: 7 edits, 1 rejected by a goal
+1 passed, 6 failed" run_test --edits
+for name in names cited limit kept bad untried; do rm "$copy/crates/blob_c/edits/$name.edit"; done
+expect 'an edit that a goal rejects' 0 'edits.sh: 1 edits, 1 rejected by a goal
+1 passed, 0 failed' run_test --edits blob_c
+expect 'edits of no crate' 1 "edits.sh: there is no crates/blob_d/edits
+0 passed, 1 failed" run_test --edits blob_d
+expect 'another argument' 2 'usage: ./test [--edits [CRATE ..]]' run_test --edit
 
 # The table, with a crate more than a fifth above its budget and one without a budget.
 printf 'blob_a 100 20 0\nblob_b 100 21 0\nblob_d 1 2 3\n' >"$work/times"

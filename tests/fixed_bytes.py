@@ -1,5 +1,6 @@
 #!/usr/bin/env python3
-"""Random lists of calls, in which every fixed byte must be found again: `fixed_bytes.py PROGRAM [LISTS]`.
+"""Random lists of calls, in which every fixed byte must be found again: `fixed_bytes.py PROGRAM [LISTS]`, or `fixed_bytes.py --library [LISTS]`
+in a session of the library, where all fixed bytes are also compared with the durable bytes of the store after each call.
 
 Which bytes are fixed is known from the calls and the replies alone (docs/PROOFS.md: what fixes a byte, what reaches it). No call is a
 `loose` open. Each read, also that of all bytes after each open, must have the fixed bytes and the live ones that are known. A stale
@@ -7,10 +8,16 @@ handle makes nothing durable. The last line is `N passed, M failed`; too few cal
 """
 
 import collections
+import functools
+import os
 import random
 import sys
 
 sys.dont_write_bytecode = True
+sys.path.append(os.path.join(os.path.dirname(os.path.dirname(os.path.abspath(__file__))), "bindings", "python"))
+from blobcrash.grammar import unhex
+from blobcrash.layers import Library
+from blobcrash.met import durable_blobs
 from random_scripts import Asked
 
 STEPS = 40
@@ -19,6 +26,25 @@ IMAGES = ["4357494300000000" + b"image".hex(), "4357494300000005" + b"of five".h
 FOREVER = 2**64
 # No write or resize that succeeds reaches further.
 FAR = 2**16
+
+
+class InProcess:
+    """A session of the library, asked as `Asked` is. It has the durable bytes too."""
+
+    def __init__(self, preamble):
+        self.lines = list(preamble)
+        self._session = Library("\n".join([*preamble, ""]).encode())
+
+    def ask(self, line):
+        self.lines.append(line)
+        return self._session.call(line.encode()).decode().split()
+
+    def durable(self, partition, name):
+        found = durable_blobs(self._session, [(partition.encode(), unhex(name))], with_header=False)
+        return found[0][2] if found else b""
+
+    def close(self):
+        self._session.close()
 
 
 class Live:
@@ -70,16 +96,17 @@ class Handle:
 class List:
     """One list of calls as it goes on."""
 
-    def __init__(self, program, seed, counts):
+    def __init__(self, begin, seed, counts):
         self.chance, self.counts, self.problems = random.Random(seed), counts, []
         preamble = [f"seed {seed}"]
         if self.chance.random() < 0.5:
             preamble += [f"image {partition} {name} {raw}" for (partition, name), raw in zip(FILES, IMAGES)]
-        self.run = Asked(program, preamble)
+        self.run = begin(preamble)
         self.fixed = [{} for _ in FILES]
         self.handles, self.started, self.syncs_succeed = [], {}, True
 
     def ask(self, line):
+        self.compare_durable()
         answer = self.run.ask(line)
         kind = line.split()[0]
         self.counts[kind] += 1
@@ -108,6 +135,15 @@ class List:
             if is_all or offset <= at < offset + len(data):
                 self.counts["compared"] += 1
                 self.expect(data[at - offset : at - offset + 1] == bytes([byte]), f"the fixed byte {at} isn't found")
+
+    def compare_durable(self):
+        """Compares all fixed bytes with the durable ones, after the last call."""
+        if isinstance(self.run, InProcess):
+            for fixed, (partition, name) in zip(self.fixed, FILES):
+                durable = self.run.durable(partition, name) if fixed else b""
+                for at, byte in fixed.items():
+                    self.counts["durable"] += 1
+                    self.expect(durable[at : at + 1] == bytes([byte]), f"the fixed byte {at} of {partition} {name} isn't durable")
 
     def current(self):
         return [number for number, handle in enumerate(self.handles) if handle is not None and handle.is_current]
@@ -287,13 +323,15 @@ class List:
             self.step()
         for number in self.current():
             self.read(number, 0)
+        self.compare_durable()
         self.run.close()
 
 
-def main(program, lists=300):
+def main(way, lists=300):
     passed, failed, counts = 0, 0, collections.Counter()
+    begin = InProcess if way == "--library" else functools.partial(Asked, way)
     for seed in range(lists):
-        played = List(program, seed, counts)
+        played = List(begin, seed, counts)
         played.play()
         if played.problems:
             failed += 1
@@ -304,6 +342,7 @@ def main(program, lists=300):
     met = ["open", "read", "write", "writes", "resize", "sync", "startsync", "finish", "close", "remove", "admit", "scan", "crash", "reopen"]
     too_few = [kind for kind in met + ["NoHandle", "EmptyRange", "BlobMissing", "prefix", "subset", "sectors"] if counts[kind] < lists // 10]
     too_few += [kind for kind in faults if counts[kind] < lists // 50] + ["compared"] * (counts["compared"] < 100 * lists)
+    too_few += ["durable"] * (begin is InProcess and counts["durable"] < 1000 * lists)
     if too_few:
         failed += 1
         print(f"fixed_bytes.py: FAILED: the lists had too few of {', '.join(too_few)}")

@@ -1,8 +1,8 @@
 """The commands and examples of pages.
 
     pages.py PAGE              runs each command of a page, `    $ COMMAND`, and compares its output with the lines below it; each
-                               indented block of Python that begins with an import, with the module of bindings/python; and each table
-                               of lines with their replies, as a script
+                               indented block of Python that begins with an import, with the module of bindings/python, and compares
+                               what it prints if the page says that; and each table of lines with their replies, as a script
     pages.py --listed PAGE ..  checks that tests/pages.list has exactly the commands that the pages name in their text; that each block
                                of a page is run, quoted from a source or tried in a scratch repository; and that no link is dead
     pages.py --ways            the ways by which tests/pages.sh runs commands of the list itself, a line each
@@ -22,6 +22,7 @@ TESTS = ["tests/README.md", "tests/ROWS.md"]
 BEGINNINGS = ("./", "cargo ", "cc ", "python3 ", "rt ", "sh ", "tools/")
 PYTHON = ("    from ", "    import ")
 TRIED = "<!-- tried in a scratch repository -->"
+PRINTED = "<!-- printed by the Python above -->"
 # The crate of the scratch repository: what the page uses, and what it does with two lists of bytes.
 MY_LOG = """#![tactic(auto)]
 
@@ -67,17 +68,19 @@ def commands(lines):
 
 
 def programs(lines):
-    """The blocks of Python."""
-    found, inside = [], False
+    """The blocks of Python, each with what it prints if the page says so."""
+    found, inside = [], None
     for line in lines:
-        if not inside and line.startswith(PYTHON):
-            found.append([])
-            inside = True
+        if inside is None and line.startswith(PYTHON):
+            found.append(([], []))
+            inside = found[-1][0]
+        elif line == PRINTED:
+            inside = found[-1][1]
         elif line.strip() and not line.startswith("    "):
-            inside = False
-        if inside:
-            found[-1].append(line[4:])
-    return ["\n".join(block) + "\n" for block in found]
+            inside = None
+        if inside is not None and line != PRINTED and (inside or line.strip()):
+            inside.append(line[4:])
+    return [("\n".join(block) + "\n", trimmed(printed)) for block, printed in found]
 
 
 def tables(lines):
@@ -165,7 +168,7 @@ def compare_with_list(pages):
         wrong += dead_links(page)
         wrong += [f"{page}: `{command}` isn't in {LIST}" for command in sorted(named(lines) - set(ways))]
         for above, block in blocks(lines):
-            is_run = block[0].startswith(("    $ ", *PYTHON)) or above.startswith(("<!-- quoted: ", TRIED))
+            is_run = block[0].startswith(("    $ ", *PYTHON)) or above.startswith(("<!-- quoted: ", TRIED, PRINTED))
             if not is_run:
                 wrong.append(f"{page}: no test runs the block that begins with {block[0].strip()}")
     wrong += [f"{LIST}: no page names `{command}`" for command in sorted(set(ways) - on_pages)]
@@ -238,11 +241,13 @@ def main(page):
         run = subprocess.run(["./blobcrash"], input="\n".join(script), **how)
         failed += differs(f"{page}: a table that begins with {script[0]}", wanted, run)
     environment = dict(os.environ, PYTHONPATH="bindings/python", PYTHONDONTWRITEBYTECODE="1")
-    for program in programs(lines):
+    for program, wanted in programs(lines):
         run = subprocess.run([sys.executable, "-c", program], env=environment, **how)
         if run.returncode != 0:
             failed += 1
             print(f"{page}: a block of Python\n{run.stderr}")
+        elif wanted:
+            failed += differs(f"{page}: what a block of Python prints", wanted, run)
     return int(failed > 0)
 
 

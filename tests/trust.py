@@ -1,9 +1,11 @@
-"""The trusted definitions: those of specs/ that the contracts of the program's calls lead to, by the imports of the files.
+"""The trusted definitions: those of specs/ that the contracts of the program's calls lead to, by the imports of the files, and those that the
+contracts of calls on files lead to besides.
 
-    trust.py         compares them with the table in docs/PROOFS.md, and checks that no two files of one crate's specs/ define a name.
-                     The last line is `N passed, M failed`
-    trust.py write   writes that table again, into the page or a copy of it
-    trust.py text    prints the definitions with their comments, in reading order
+    trust.py              compares them with the tables in docs/PROOFS.md, and checks that no two files of one crate's specs/ define a
+                          name. The last line is `N passed, M failed`
+    trust.py write        writes these tables again, into the page or a copy of it
+    trust.py text         prints the definitions of the program with their comments, in reading order
+    trust.py text files   prints those of files
 
 A name decides, so a variable with the name of an imported definition counts as a use of it."""
 
@@ -24,10 +26,14 @@ CALLS = [
     ("crates/blob_lab/src/scripts.rt", "serve_script"),
     ("crates/blob_lab/src/resolutions.rt", "serve_resolve"),
 ]
+# Every public function of this crate is a call on files. This type has invariants, which hold before and after each.
+FILES = "crates/blob_fs/src"
+HELD = "crates/blob_fs/src/file_system.rt"
+INVARIANT = re.compile(r"^    ghost \w+: \{(.*)\},$", re.M)
 PAGE = "docs/PROOFS.md"
-# The table of the page: between its head and the heading after it.
-BEGIN = "| crate | files of its `specs/` | definitions |\n|---|---|---|\n"
-END = "\n\n<!-- end of the table -->"
+# The tables of the page, each between its head and the comment after it.
+HEAD = "files of its `specs/` | definitions |\n|---|---|---|\n"
+TABLES = {"program": ("| crate | " + HEAD, "\n\n<!-- end of the table -->"), "files": ("| crate, for files | " + HEAD, "\n\n<!-- end of the table of files -->")}
 IMPORT = re.compile(r"^\s*(?:pub )?(?:ghost )?use Rattle\.(\w+)\.specs\.([\w.]+)\.\{([^}]*)\}", re.M)
 ALIAS = re.compile(r"^\s*(?:ghost )?use Rattle\.(\w+)\.specs\.([\w.]+) as (\w+)", re.M)
 PASSED_ON = re.compile(r"^pub use Rattle\.(\w+)\.specs\.([\w.]+)$", re.M)
@@ -142,6 +148,8 @@ def contract(text, function):
     else:
         sys.exit(f"trust: there is no {function}")
     clauses = []
+    if line.endswith("{"):
+        return ""
     for line in lines:
         if line.strip() == "{":
             return " ".join(clauses)
@@ -150,12 +158,19 @@ def contract(text, function):
     return ""
 
 
-def trusted(specs):
-    """The definitions that the calls' contracts lead to."""
-    found = set()
-    for path, function in CALLS:
+def clauses_on_files():
+    """The paths, each with clauses of one of its functions, or of a type's invariants."""
+    for path in sorted(glob.glob(f"{FILES}/**/*.rt", recursive=True)):
         text = read(path)
-        for meant in Names(text).used(contract(text, function)):
+        yield from ((path, contract(text, function)) for function in re.findall(r"\bpub fn (\w+)", text))
+    yield HELD, " ".join(INVARIANT.findall(read(HELD)))
+
+
+def trusted(specs, stated):
+    """The definitions that clauses lead to, each of which is given with the path of its file."""
+    found = set()
+    for path, clauses in stated:
+        for meant in Names(read(path)).used(clauses):
             found.add(specs.known(*meant))
     found.discard(None)
     todo = list(found)
@@ -182,7 +197,7 @@ def order(specs, found):
     """The files of these definitions, each after those that it uses, and files of one crate together if possible."""
     below = collections.defaultdict(set)
     for key in found:
-        below[key[0]].update(to[0] for to in specs.leads(key) if to[0] != key[0])
+        below[key[0]].update(to[0] for to in specs.leads(key) if to in found and to[0] != key[0])
     todo, done, crate = sorted(below), [], None
     while todo:
         ready = [module for module in todo if not below[module] - set(done)]
@@ -214,33 +229,47 @@ def show(specs, found):
                 print("\n".join(specs.comments.get(key, []) + lines) + "\n")
 
 
-def main(what, page_path):
+def compare(name, wanted, page):
+    """Compares a table of the page with the wanted one, and returns whether they are the same."""
+    begin, end = TABLES[name]
+    told = page.partition(begin)[2].partition(end)[0].split("\n")
+    if told != wanted:
+        print(f"{PAGE} differs from what the contracts of {name} lead to: sh tests/trust.sh write")
+        print("\n".join(difflib.unified_diff(told, wanted, "page", "found", lineterm="")))
+    return told == wanted
+
+
+def replaced(name, wanted, page):
+    """Returns the page with this table."""
+    begin, end = TABLES[name]
+    before, _, rest = page.partition(begin)
+    return before + begin + "\n".join(wanted) + end + rest.partition(end)[2]
+
+
+def main(what="", more=""):
     specs = Specs()
-    found = trusted(specs)
+    program = trusted(specs, [(path, contract(read(path), function)) for path, function in CALLS])
+    found = {"program": program, "files": trusted(specs, clauses_on_files()) - program}
     if what == "text":
-        show(specs, found)
+        show(specs, found[more or "program"])
         return 0
-    wanted, page = table(specs, found), read(page_path)
-    before, _, rest = page.partition(BEGIN)
-    told, _, after = rest.partition(END)
+    page = read(more or PAGE)
     if what == "write":
-        with open(page_path, "w", encoding="utf-8") as file:
-            file.write(before + BEGIN + "\n".join(wanted) + END + after)
+        for name in TABLES:
+            page = replaced(name, table(specs, found[name]), page)
+        with open(more or PAGE, "w", encoding="utf-8") as file:
+            file.write(page)
         return 0
-    failed = 0
-    if told.split("\n") != wanted:
-        failed += 1
-        print(f"{PAGE} differs from what the contracts lead to: sh tests/trust.sh write")
-        print("\n".join(difflib.unified_diff(told.split("\n"), wanted, "page", "found", lineterm="")))
+    passed = sum(compare(name, table(specs, found[name]), page) for name in TABLES)
     twice = defined_twice(specs)
     for name, paths in twice:
-        failed += 1
         print(f"{name} is defined in {' and '.join(paths)}")
-    print(f"{2 - min(failed, 2)} passed, {failed} failed")
+    failed = len(TABLES) - passed + len(twice)
+    print(f"{passed + (not twice)} passed, {failed} failed")
     return int(failed > 0)
 
 
 if __name__ == "__main__":
     os.chdir(os.path.dirname(os.path.dirname(os.path.abspath(__file__))))
     CRATES = depths()
-    sys.exit(main(sys.argv[1] if len(sys.argv) > 1 else "", sys.argv[2] if len(sys.argv) > 2 else PAGE))
+    sys.exit(main(*sys.argv[1:]))

@@ -31,19 +31,19 @@ def frozen(value: Any) -> Any:
     return value
 
 
-def durable_blobs(layer: Any, names: Iterable[Tuple[bytes, bytes]]) -> Tuple[Tuple[bytes, bytes, bytes], ...]:
-    """Returns the partition, the name and the durable bytes, with the header, of each of these blobs that there is. `layer` is a `Library`.
-    Draws nothing."""
+def durable_blobs(layer: Any, names: Iterable[Tuple[bytes, bytes]], with_header: bool = True) -> Tuple[Tuple[bytes, bytes, bytes], ...]:
+    """Returns the partition, the name and the durable bytes of each of these blobs that there is. Without `with_header` these are the bytes after
+    the header, of each blob that has one. `layer` is a `Library`. Draws nothing."""
     function, size = layer._functions.blobcrash_durable_blob, ctypes.c_size_t
     function.restype = Ran
     function.argtypes = [ctypes.POINTER(Session), ctypes.c_char_p, size, ctypes.c_char_p, size, ctypes.c_bool, ctypes.c_void_p, size]
     found = []
     room = ctypes.create_string_buffer(4096)
     for partition, name in names:
-        ran = function(layer._at, partition, len(partition), name, len(name), True, room, len(room))
+        ran = function(layer._at, partition, len(partition), name, len(name), with_header, room, len(room))
         if ran.status == NO_ROOM:
             room = ctypes.create_string_buffer(ran.len)
-            ran = function(layer._at, partition, len(partition), name, len(name), True, room, len(room))
+            ran = function(layer._at, partition, len(partition), name, len(name), with_header, room, len(room))
         if ran.status == DONE:
             found.append((partition, name, room.raw[: ran.len]))
         elif ran.status != E_BLOB_MISSING:
