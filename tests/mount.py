@@ -10,12 +10,12 @@ import signal
 import subprocess
 import sys
 import time
-import traceback
 
 sys.dont_write_bytecode = True
-from mount_calls import allocate, check, counts, differential, fill, get, put, refusal, sync_folder, tree  # noqa: E402
+from mount_calls import allocate, check, comes, differential, fill, get, put, refusal, refused  # noqa: E402
+from mount_calls import run_tests, sync_folder, tree  # noqa: E402
 from mount_programs import A, B, SECTOR, letters, test_programs  # noqa: E402
-from mounting import Failed, Mount  # noqa: E402
+from mounting import Mount  # noqa: E402
 
 PROGRAM = sys.argv[1]
 
@@ -121,10 +121,7 @@ def test_switches():
             os.fsync(file.fileno())
         mount.ask("crash")
         check("a sync that lies", get(f"{at}/f") == A)
-        try:
-            check("no such switch", mount.ask("syncs sometimes") is None)
-        except Failed as error:
-            check("no such switch", str(error) == "Invalid argument")
+        check("no such switch", refused(mount, "syncs sometimes") == "Invalid argument")
         mount.ask("syncs honest")
         before = [mount.control.status()[name] for name in ("bytes", "files")]
         put(f"{at}/g", bytes(5000))
@@ -199,16 +196,6 @@ def program(text, *arguments):
     return subprocess.Popen(command, stdout=subprocess.PIPE, text=True)
 
 
-def comes(holds):
-    """Waits until something holds, for a minute at most. Returns whether it does."""
-    until = time.monotonic() + 60
-    while not holds():
-        if time.monotonic() > until:
-            return False
-        time.sleep(0.02)
-    return True
-
-
 def waits_in_open(process):
     """Waits until a process is in a call of open that doesn't return."""
     calls = []
@@ -257,7 +244,8 @@ def test_power():
         check("three calls were made", counted.communicate(timeout=60)[0] == "0\n1\n2\n")
         mount.ask("crash")
         maps_and_waits(mount)
-        check("a bad command", refused(mount, "crash-after x") and refused(mount, "frob") and refused(mount, "config frob"))
+        bad = [refused(mount, line) for line in ("crash-after x", "frob", "config frob")]
+        check("a bad command", bad == ["Invalid argument", "no such command", "Invalid argument"], bad)
 
 
 MAPS = """
@@ -323,15 +311,6 @@ def test_survivors(daemon):
         check("the daemon ends well after them", mount.daemon.wait(60) == 0 and not mount.messages(), mount.messages())
 
 
-def refused(mount, line):
-    """Returns whether a command is refused."""
-    try:
-        mount.ask(line)
-    except Failed:
-        return True
-    return False
-
-
 def test_kill():
     """A daemon that is killed leaves no hung process."""
     mount = mounted()
@@ -355,16 +334,7 @@ def main():
     tests.append(lambda: test_survivors(sanitized or PROGRAM))
     tests += [test_profiles, test_stale, test_names, test_missing, test_switches, test_kinds, test_bytes, test_write_back]
     tests += [test_power, test_kill]
-    for test in tests:
-        began = time.time()
-        try:
-            test()
-        except Exception:  # noqa: BLE001 - a test that breaks is one failure, and the others run
-            check(getattr(test, "__name__", "test"), False, traceback.format_exc())
-        if os.environ.get("VERBOSE"):
-            print(f"{getattr(test, '__name__', 'test')} {time.time() - began:.1f} s")
-    print(f"{counts['passed']} passed, {counts['failed']} failed")
-    sys.exit(counts["failed"] > 0)
+    run_tests(tests)
 
 
 if __name__ == "__main__":

@@ -1,6 +1,6 @@
 #!/bin/sh
-# Tests of the mount (adapters/mount, tools/mount, tools/mountctl) and of crash runs (tools/crash_run): tests/mount.py, once with the
-# daemon under the sanitizers, and the commands. Skipped where FUSE or the right to mount is missing, with CI=true too, since no package
+# Tests of the mount (adapters/mount, tools/mount, tools/mountctl) and of crash runs (tools/crash_run): the commands, tests/mount.py and
+# others, with the daemon under the sanitizers. Skipped where FUSE or the right to mount is missing, with CI=true too, since no package
 # brings them. BLOBCRASH_ARCHIVE names a library that is built already. The last line is `N passed, M failed`.
 top=$(CDPATH='' cd -- "$(dirname -- "$0")/.." && pwd -P)
 # shellcheck source=tests/counting.sh
@@ -240,5 +240,6 @@ else
     skip 'the daemon under the address sanitizer'
 fi
 add python3 "$top/tests/mount.py" "$program" ${sanitized:+"$sanitized"}
+add python3 "$top/tests/mount_clients.py" "${sanitized:-$program}"
 add python3 "$top/tests/mount_records.py" "${sanitized:-$program}" "$files"
 finish

@@ -10,11 +10,13 @@ import shutil
 import stat
 import sys
 import tempfile
+import time
+import traceback
 
 sys.dont_write_bytecode = True
 TOP = os.path.join(os.path.dirname(os.path.realpath(__file__)), "..")
 sys.path.insert(0, os.path.join(TOP, "adapters", "mount"))
-from mounting import Mount  # noqa: E402
+from mounting import Failed, Mount  # noqa: E402
 
 libc = ctypes.CDLL(None, use_errno=True)
 counts = {"passed": 0, "failed": 0}
@@ -24,7 +26,39 @@ def check(name, holds, shown=""):
     """Counts one test."""
     counts["passed" if holds else "failed"] += 1
     if not holds:
-        print(f"mount.py: FAILED: {name} {str(shown)[:2000]}")
+        print(f"{os.path.basename(sys.argv[0])}: FAILED: {name} {str(shown)[:2000]}")
+
+
+def run_tests(tests):
+    """Runs tests, and prints the last line. A test that breaks is one failure, and the others run. Ends with the status."""
+    for test in tests:
+        name, began = getattr(test, "__name__", "test"), time.time()
+        try:
+            test()
+        except Exception:  # noqa: BLE001 - as above
+            check(name, False, traceback.format_exc())
+        if os.environ.get("VERBOSE"):
+            print(f"{name} {time.time() - began:.1f} s")
+    print(f"{counts['passed']} passed, {counts['failed']} failed")
+    sys.exit(counts["failed"] > 0)
+
+
+def refused(mount, line):
+    """Returns why a command is refused, or what it replies."""
+    try:
+        return mount.ask(line)
+    except Failed as error:
+        return str(error)
+
+
+def comes(holds):
+    """Waits until something holds, for a minute at most. Returns whether it does."""
+    until = time.monotonic() + 60
+    while not holds():
+        if time.monotonic() > until:
+            return False
+        time.sleep(0.02)
+    return True
 
 
 def put(path, data, sync=False, flags=os.O_CREAT, at=None):

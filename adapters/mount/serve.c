@@ -15,7 +15,7 @@
 
 enum {
     ENDED_MOST = 1 << 16, /* calls that a crash ends. A program that goes on after a power loss may make calls without end */
-    WATCHED_MOST = 32,
+    WATCHED_MOST = 128,
     READY_MOST = 8
 };
 
