@@ -9,6 +9,7 @@ import os
 import signal
 import subprocess
 import sys
+import tempfile
 import time
 
 sys.dont_write_bytecode = True
@@ -49,6 +50,29 @@ def test_stale():
         for descriptor in (file, folder, root):
             os.close(descriptor)
         check("a new open", get(f"{mount.at}/f") == A)
+
+
+def test_unlinked():
+    """A file without a name, whose open that truncated is closed before another: its descriptors work as on tmpfs."""
+    with mounted() as mount, tempfile.TemporaryDirectory(dir="/dev/shm") as reference:
+        found = []
+        for at in (mount.at, reference):
+            path = f"{at}/f"
+            put(path, A)
+            first = os.open(path, os.O_RDWR | os.O_TRUNC)
+            os.write(first, b"first")
+            second = os.open(path, os.O_RDWR)
+            os.unlink(path)
+            os.close(first)
+            told = [refusal(os.pread, second, 100, 0), refusal(os.pwrite, second, b"S", 0), refusal(os.fsync, second)]
+            third = refusal(os.open, f"/proc/self/fd/{second}", os.O_RDWR | os.O_TRUNC)
+            told += [type(third), os.fstat(second).st_size, refusal(os.pwrite, second, b"third", 2), refusal(os.pread, second, 100, 0)]
+            for descriptor in (second, third):
+                if isinstance(descriptor, int):
+                    os.close(descriptor)
+            found.append(told)
+        check("a file without a name", found[0] == found[1], found)
+        check("and without a descriptor", comes(lambda: mount.control.status()["bytes"].startswith("0/")))
 
 
 def test_names():
@@ -332,7 +356,7 @@ def main():
     programs = [PROGRAM] * 17 + [sanitized or PROGRAM] * 3
     tests = [lambda seed=seed, program=program: differential(seed, 2500, program) for seed, program in enumerate(programs, 1)]
     tests.append(lambda: test_survivors(sanitized or PROGRAM))
-    tests += [test_profiles, test_stale, test_names, test_missing, test_switches, test_kinds, test_bytes, test_write_back]
+    tests += [test_profiles, test_stale, test_unlinked, test_names, test_missing, test_switches, test_kinds, test_bytes, test_write_back]
     tests += [test_power, test_kill]
     run_tests(tests)
 

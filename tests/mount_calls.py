@@ -182,22 +182,30 @@ class Random:
             if closes:
                 os.close(self.held[at].pop(which))
 
-    def hold(self, at, name):
+    def hold(self, at, name, flags):
         """Opens a file, and keeps it open."""
-        self.held[at].append(os.open(f"{self.roots[at]}/{name}", os.O_RDWR))
+        self.held[at].append(os.open(f"{self.roots[at]}/{name}", os.O_RDWR | flags))
+
+    def hold_again(self, at, which, flags):
+        """Opens an open file once more, whatever has happened to its name, and keeps it open."""
+        self.held[at].append(os.open(f"/proc/self/fd/{self.held[at][which]}", os.O_RDWR | flags))
 
     def call(self):
         """Draws a call. Returns its name, and a function of the index of a root."""
         draw, roots = self.random, self.roots
-        one, two, kind = draw.choice(self.NAMES), draw.choice(self.NAMES), draw.randrange(19)
+        one, two, kind = draw.choice(self.NAMES), draw.choice(self.NAMES), draw.randrange(20)
         offset = draw.choice([0, 1, 10, 4095, 4096, 70000])
         data = bytes([draw.randrange(97, 123)]) * draw.choice([0, 1, 100, 5000, 140000])
         if kind < 5:
             flags = os.O_RDWR | draw.choice([0, os.O_CREAT, os.O_CREAT | os.O_EXCL, os.O_TRUNC, os.O_CREAT | os.O_TRUNC, os.O_APPEND])
             length = draw.choice([None, None, 0, 3, 5000, 66000])
             return "write", lambda at: self.write(roots[at], one, flags, offset, data, length)
+        truncates = draw.choice([0, 0, os.O_TRUNC])
         if kind == 5 and len(self.held[0]) < 20:
-            return "hold", lambda at: self.hold(at, one)
+            return "hold", lambda at: self.hold(at, one, truncates)
+        if kind == 19 and 0 < len(self.held[0]) < 20:
+            which = draw.randrange(len(self.held[0]))
+            return "hold again", lambda at: self.hold_again(at, which, truncates)
         if kind in (6, 7) and self.held[0]:
             which, closes = draw.randrange(len(self.held[0])), draw.random() < 0.3
             return "use", lambda at: self.use(at, which, offset, data, closes)

@@ -30,13 +30,11 @@ int call_truncate(struct node *node, uint64_t length) {
 static int open_truncated(struct node *node) {
     if (node->is_truncated) return call_truncate(node, 0);
     bool is_edit = node->size > 0;
-    int error = is_edit && !has_room() ? ENOSPC : node_close(node);
-    if (!error) error = layer_open_truncated(node->inode, &node->descriptor);
+    int error = is_edit && !has_room() ? ENOSPC : node_open_truncated(node);
     if (error) {
         node_measure(node);
         return error;
     }
-    node->is_open = node->is_truncated = true;
     node_counts.changes += is_edit;
     node_resized(node, 0);
     node_written(node);
@@ -69,7 +67,7 @@ void call_open(fuse_req_t req, fuse_ino_t id, struct fuse_file_info *info) {
 void call_release(fuse_req_t req, fuse_ino_t id, struct fuse_file_info *info) {
     struct node *node = info->fh == power.life ? call_node(id) : NULL;
     if (node) {
-        if (node->is_truncated && !power.is_ending) node_close(node);
+        if (!power.is_ending) node_close_truncated(node);
         node->opens--;
         node_rest(node);
     }

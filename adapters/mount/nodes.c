@@ -85,13 +85,6 @@ static void node_remove(struct node *node) {
     node_free(node);
 }
 
-void node_rest(struct node *node) {
-    if (is_directory(node) || node->links > 0 || node->opens > 0 || node->is_gone || node_close(node)) return;
-    node->is_gone = true;
-    node_resized(node, 0);
-    node_counts.files--;
-}
-
 int nodes_begin(uid_t owner, gid_t group) {
     table_size = 1024;
     table = calloc(table_size, sizeof *table);
@@ -132,17 +125,36 @@ int node_open(struct node *node) {
     return error;
 }
 
-int node_close(struct node *node) {
-    if (!node->is_open) return 0;
-    int error = layer_close(node->descriptor);
-    if (error) return error;
-    node->is_open = node->is_truncated = false;
-    return 0;
+int node_open_truncated(struct node *node) {
+    int error = layer_open_truncated(node->inode, &node->truncated);
+    node->is_truncated = error == 0;
+    return error;
+}
+
+int node_close_truncated(struct node *node) {
+    int error = node->is_truncated ? layer_close(node->truncated) : 0;
+    if (!error) node->is_truncated = false;
+    return error;
+}
+
+/* Closes the layer's descriptors. */
+static int close_all(struct node *node) {
+    int error = node_close_truncated(node);
+    if (!error && node->is_open) error = layer_close(node->descriptor);
+    if (!error) node->is_open = false;
+    return error;
 }
 
 void node_resized(struct node *node, uint64_t size) {
     node_counts.bytes += size - node->size;
     node->size = size;
+}
+
+void node_rest(struct node *node) {
+    if (is_directory(node) || node->links > 0 || node->opens > 0 || node->is_gone || close_all(node)) return;
+    node->is_gone = true;
+    node_resized(node, 0);
+    node_counts.files--;
 }
 
 void node_measure(struct node *node) {

@@ -25,11 +25,11 @@ struct node {
     uint64_t opens;   /* by programs */
     uint64_t size;
     uint64_t unsynced; /* bytes written since the last sync */
-    uint64_t descriptor;
-    bool is_open; /* the descriptor is the layer's, of this life */
-    bool is_truncated; /* by an open, and not closed since */
-    bool is_gone;      /* no name, and not open: the layer doesn't count it any more */
-    bool is_reached;   /* used by nodes_recover */
+    uint64_t descriptor, truncated; /* the layer's, of this life: for all calls, and of the open that truncated */
+    bool is_open;                   /* whether there is the first */
+    bool is_truncated;              /* whether there is the second: no program has closed the file since that open */
+    bool is_gone;                   /* no name, and not open: the layer doesn't count it any more */
+    bool is_reached;                /* used by nodes_recover */
     /* One of its names. NULL without memory. The name may have been removed. */
     uint64_t directory;
     char *name;
@@ -77,8 +77,10 @@ bool node_path(const struct node *node, char *path, size_t capacity);
 
 /* Opens the layer's descriptor, if it isn't open. */
 int node_open(struct node *node);
-/* Closes it, if it is open. A program's open that truncated ends with it. */
-int node_close(struct node *node);
+/* Opens it and makes it empty, as a program's open does. The layer's other descriptor stays open: the file may have no name. */
+int node_open_truncated(struct node *node);
+/* Ends that open: a profile may make the bytes durable. */
+int node_close_truncated(struct node *node);
 /* Says which size the file has now. */
 void node_resized(struct node *node, uint64_t size);
 /* Asks the layer for the size. */
