@@ -241,5 +241,6 @@ else
 fi
 add python3 "$top/tests/mount.py" "$program" ${sanitized:+"$sanitized"}
 add python3 "$top/tests/mount_clients.py" "${sanitized:-$program}"
+add python3 "$top/tests/mount_limits.py" "${sanitized:-$program}"
 add python3 "$top/tests/mount_records.py" "${sanitized:-$program}" "$files"
 finish

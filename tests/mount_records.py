@@ -129,6 +129,7 @@ def test_random():
         random_run(seed, "--profile", profile)
     random_run(5, "--profile", "posix", "--tear", "subset", "--keep", "3/4", "--size", "1M")
     random_run(6, "--tear", "prefix", settings=["config read 1 20", "config sync 1 8", "config open 1 9", "config write 1 9 1 2 prefix"])
+    random_run(8, "--changes", "20")
     random_run(7, settings=["profile posix", "keep 1 5", "config read 1 3", "config resize 1 4 1 2"])
 
 

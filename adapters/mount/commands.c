@@ -15,16 +15,11 @@
 static void print_status(char *reply, size_t capacity) {
     snprintf(reply, capacity,
              "ok power %s life %" PRIu64 " calls %" PRIu64 " changing %" PRIu64 " bytes %" PRIu64 "/%" PRIu64 " files %" PRIu64
-             "/%" PRIu64 " unsynced %" PRIu64 " names-changed %" PRIu64 "/%" PRIu64 " write-backs %" PRIu64 " stale %" PRIu64 " record %s",
+             "/%" PRIu64 " unsynced %" PRIu64 " names-changed %" PRIu64 "/%" PRIu64 " commits %" PRIu64 " write-backs %" PRIu64 " stale %" PRIu64
+             " record %s",
              power.is_off ? "off" : "on", power.life, power.calls, power.changing_calls, node_counts.bytes, node_limits.bytes,
              node_counts.files, node_limits.files, node_counts.unsynced, node_counts.changes, node_limits.changes,
-             power.write_backs, power.stale_calls, record_state());
-}
-
-static int settle(void) {
-    int error = layer_settle();
-    if (!error) nodes_synced();
-    return error;
+             power.commits, power.write_backs, power.stale_calls, record_state());
 }
 
 static int crash(char *reply, size_t capacity, pid_t *child) {
@@ -64,7 +59,7 @@ pid_t command_run(const char *line, char *reply, size_t capacity) {
     pid_t child = 0;
     snprintf(reply, capacity, "ok");
     if (!strcmp(line, "status")) print_status(reply, capacity);
-    else if (!strcmp(line, "settle")) error = settle();
+    else if (!strcmp(line, "settle")) error = nodes_settle();
     else if (!strcmp(line, "off")) power.is_off = true;
     else if (!strcmp(line, "on")) power_on();
     else if (!strcmp(line, "crash")) error = crash(reply, capacity, &child);

@@ -35,7 +35,7 @@ static void report(void) {
     uint64_t count = 0;
     nodes_visit(report_node, &count);
     fprintf(log_file,
-            "unsynced: %" PRIu64 " files, %" PRIu64 " bytes, %" PRIu64 " changes of names and truncations since the last crash\n",
+            "unsynced: %" PRIu64 " files, %" PRIu64 " bytes, %" PRIu64 " changes of names and truncations since the last commit\n",
             count, node_counts.unsynced, node_counts.changes);
 }
 

@@ -1,6 +1,7 @@
 #include "nodes.h"
 
 #include "layer.h"
+#include "power.h"
 
 #include <errno.h>
 #include <stdlib.h>
@@ -155,6 +156,12 @@ void node_rest(struct node *node) {
     node->is_gone = true;
     node_resized(node, 0);
     node_counts.files--;
+    node_counts.removed += node->unsynced;
+}
+
+void node_forget(struct node *node, uint64_t times) {
+    node->lookups -= times < node->lookups ? times : node->lookups;
+    if (node->is_over && node->lookups == 0) node_remove(node);
 }
 
 void node_measure(struct node *node) {
@@ -179,15 +186,62 @@ void nodes_visit(void (*visit)(const struct node *node, void *data), void *data)
         for (const struct node *node = table[at]; node; node = node->next) visit(node, data);
 }
 
-void nodes_write_back(void) {
-    for (size_t at = 0; at < table_size; at++)
-        for (struct node *node = table[at]; node; node = node->next)
-            if (node->unsynced > 0) node_sync(node, true);
+/* Removes the nodes that no crash finds any more, once all changes of names are durable. Those that the kernel knows stay so long. */
+static void drop_gone(void) {
+    for (size_t at = 0; at < table_size; at++) {
+        for (struct node *node = table[at], *next; node; node = next) {
+            next = node->next;
+            if (is_directory(node) ? node->links > 0 : !node->is_gone) continue;
+            node->is_over = true;
+            mark_synced(node);
+            node_forget(node, 0);
+        }
+    }
+    node_counts.removed = 0;
 }
 
-void nodes_synced(void) {
+/* Says that all changes of names are durable, and that the layer keeps none of them. */
+static void end_changes(void) {
+    node_counts.changes = 0;
+    drop_gone();
+}
+
+/* Makes all changes of names durable, as a kernel does from time to time. Bytes stay as they are. */
+static int commit(void) {
+    int error = layer_commit();
+    if (error) return error;
+    power.commits++;
+    end_changes();
+    return 0;
+}
+
+int nodes_make_room(void) { return node_counts.changes < node_limits.changes ? 0 : commit(); }
+
+static bool has_room_for(uint64_t len) { return node_counts.unsynced + len <= node_limits.bytes; }
+
+/* Syncs the bytes of all files. Errors are left to the next sync. */
+static void write_back(void) {
+    power.write_backs++;
+    for (size_t at = 0; at < table_size; at++)
+        for (struct node *node = table[at]; node; node = node->next)
+            if (node->unsynced > 0 && !node->is_gone) node_sync(node, true);
+}
+
+int nodes_make_room_unsynced(uint64_t len) {
+    if (has_room_for(len)) return 0;
+    if (len > node_limits.bytes) return ENOSPC;
+    int error = node_counts.removed > 0 ? commit() : 0;
+    if (!error && !has_room_for(len)) write_back();
+    return error ? error : has_room_for(len) ? 0 : ENOSPC;
+}
+
+int nodes_settle(void) {
+    int error = layer_settle();
+    if (error) return error;
     for (size_t at = 0; at < table_size; at++)
         for (struct node *node = table[at]; node; node = node->next) mark_synced(node);
+    end_changes();
+    return 0;
 }
 
 /* After a crash nothing is open, and the kernel's nodes are those of an older life. */
@@ -196,8 +250,8 @@ static void reset(void) {
     for (size_t at = 0; at < table_size; at++) {
         for (struct node *node = table[at]; node; node = node->next) {
             node->links = is_directory(node) ? 2 : 0;
-            node->opens = node->size = node->unsynced = 0;
-            node->is_open = node->is_truncated = node->is_gone = node->is_reached = false;
+            node->opens = node->lookups = node->size = node->unsynced = 0;
+            node->is_open = node->is_truncated = node->is_gone = node->is_over = node->is_reached = false;
         }
     }
 }
