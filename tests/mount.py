@@ -52,6 +52,37 @@ def test_stale():
         check("a new open", get(f"{mount.at}/f") == A)
 
 
+MAPPED = """
+import mmap
+mapped = mmap.mmap(os.open(sys.argv[1], os.O_RDWR), 10)
+print(mapped[:].decode(), flush=True)
+sys.stdin.readline()
+print(mapped[:])
+"""
+
+
+def test_cached():
+    """After a crash the kernel has no page and no attribute of the life before: old descriptors and maps don't show lost bytes."""
+    with mounted("--keep", "0/1", "--profile", "posix") as mount:
+        os.mkdir(f"{mount.at}/d")
+        paths = [f"{mount.at}/f", f"{mount.at}/d/f"]
+        for path in paths:
+            put(path, b"lost bytes")
+        descriptors = [os.open(path, os.O_RDONLY) for path in paths]
+        check("cached pages", [os.pread(descriptor, 10, 0) for descriptor in descriptors] == [b"lost bytes"] * 2)
+        folder = os.open(f"{mount.at}/d", os.O_RDONLY)
+        os.stat("f", dir_fd=folder)
+        maps = program(MAPPED, paths[0], stdin=subprocess.PIPE)
+        check("a map", maps.stdout.readline() == "lost bytes\n")
+        mount.ask("crash")
+        check("an old read", [refusal(os.pread, descriptor, 10, 0) for descriptor in descriptors] == ["EIO"] * 2)
+        check("an old size", [refusal(os.fstat, descriptor) for descriptor in descriptors] == ["EIO"] * 2)
+        check("an old name", refusal(lambda: os.stat("f", dir_fd=folder)) == "EIO")
+        check("an old map", (maps.communicate("\n", timeout=60)[0], maps.returncode) == ("", -signal.SIGBUS))
+        for descriptor in (*descriptors, folder):
+            os.close(descriptor)
+
+
 def test_unlinked():
     """A file without a name, whose open that truncated is closed before another: its descriptors work as on tmpfs."""
     with mounted() as mount, tempfile.TemporaryDirectory(dir="/dev/shm") as reference:
@@ -214,10 +245,10 @@ def test_write_back():
         check("written back", int(status["write-backs"]) >= 1 and int(status["unsynced"]) <= 1 << 20, status)
 
 
-def program(text, *arguments):
+def program(text, *arguments, stdin=None):
     """Starts a program in Python that prints what it sees."""
     command = [sys.executable, "-c", "import errno, os, signal, sys\n" + text, *arguments]
-    return subprocess.Popen(command, stdout=subprocess.PIPE, text=True)
+    return subprocess.Popen(command, stdin=stdin, stdout=subprocess.PIPE, text=True)
 
 
 def waits_in_open(process):
@@ -356,7 +387,7 @@ def main():
     programs = [PROGRAM] * 17 + [sanitized or PROGRAM] * 3
     tests = [lambda seed=seed, program=program: differential(seed, 2500, program) for seed, program in enumerate(programs, 1)]
     tests.append(lambda: test_survivors(sanitized or PROGRAM))
-    tests += [test_profiles, test_stale, test_unlinked, test_names, test_missing, test_switches, test_kinds, test_bytes, test_write_back]
+    tests += [test_profiles, test_stale, test_cached, test_unlinked, test_names, test_missing, test_switches, test_kinds, test_bytes, test_write_back]
     tests += [test_power, test_kill]
     run_tests(tests)
 

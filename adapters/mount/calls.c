@@ -15,7 +15,7 @@
 enum { LIFE_SHIFT = 40 };
 #define FOREVER 86400.0
 
-static fuse_ino_t id_of(const struct node *node) {
+fuse_ino_t call_id(const struct node *node) {
     return node->inode == ROOT ? FUSE_ROOT_ID : (fuse_ino_t)(power.life << LIFE_SHIFT | node->inode);
 }
 
@@ -70,7 +70,7 @@ static struct stat attributes_of(const struct node *node) {
 struct fuse_entry_param call_entry(struct node *node) {
     node->lookups++;
     return (struct fuse_entry_param){
-        .ino = id_of(node), .attr = attributes_of(node), .attr_timeout = FOREVER, .entry_timeout = FOREVER};
+        .ino = call_id(node), .attr = attributes_of(node), .attr_timeout = FOREVER, .entry_timeout = FOREVER};
 }
 
 void call_reply_entry(fuse_req_t req, struct node *node) {

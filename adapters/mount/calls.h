@@ -18,6 +18,8 @@ enum call_kind { CALL_READS, CALL_CHANGES, CALL_CHANGES_NAMES };
  * older life, or the error of a commit that makes room for a change of names.
  */
 struct node *call_begin(fuse_req_t req, fuse_ino_t id, enum call_kind kind);
+/* Returns the kernel's number of a node. */
+fuse_ino_t call_id(const struct node *node);
 /* Returns the node of the kernel's number, or NULL if that is of an older life. */
 struct node *call_node(fuse_ino_t id);
 
