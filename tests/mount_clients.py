@@ -1,5 +1,5 @@
 """
-Tests of what reaches the daemon from outside: mount_clients.py PROGRAM. Clients of the control socket that go away or send anything, and the
+Tests of what reaches the daemon from outside: mount_clients.py PROGRAM. Clients of the control socket that go away or send anything, the
 fifo. The last line is `N passed, M failed`.
 """
 
@@ -11,7 +11,7 @@ import sys
 import tempfile
 
 sys.dont_write_bytecode = True
-from mount_calls import TOP, check, comes, get, put, refused, run_tests  # noqa: E402
+from mount_calls import TOP, check, comes, get, put, refusal, refused, run_tests  # noqa: E402
 from mounting import Mount  # noqa: E402
 
 PROGRAM = sys.argv[1]
@@ -52,7 +52,7 @@ def test_early_ends():
                 client.sendall(sent)
             os.kill(mount.daemon.pid, signal.SIGCONT)
             check(f"a client that sent {sent[:30]!r} and went", refused(mount, "status").startswith("power on"), mount.messages())
-        check("the files are there", get(f"{mount.at}/f") == b"bytes")
+        check("the files are there", comes(lambda: refusal(get, f"{mount.at}/f") == b"bytes"))  # nobody has waited for the crash
 
 
 def test_connections():
@@ -79,5 +79,23 @@ def test_lines():
         check("no crash", "life 1 " in refused(mount, "status"))
 
 
+def test_fifo():
+    """What isn't a line of at most 511 bytes is no command, and neither is its rest."""
+    with tempfile.TemporaryDirectory() as folder:
+        log = f"{folder}/log"
+
+        def logged():
+            with open(log, "rb") as file:
+                return file.read()
+
+        with Mount(PROGRAM, "--fifo", f"{folder}/fifo", "--log", log) as mount, open(f"{folder}/fifo", "wb", buffering=0) as fifo:
+            for sent in (b"x" * 512, b"x" * 2000, b"lazyfs::clear-cache" * 27, b"lazyfs::clear-cache\0", b"\xff\n", b"\n\n"):
+                fifo.write(sent + b"lazyfs::clear-cache\n" if b"\n" not in sent else sent)
+            fifo.write(b"lazyfs::help\n")
+            check("the command after them", comes(lambda: b"lazyfs::help: ok\n" in logged()), logged())
+            check("no crash", "life 1 " in refused(mount, "status"), logged())
+            check("seven lines are no commands", logged().count(b"not a command: ") == 7, logged())
+
+
 if __name__ == "__main__":
-    run_tests([test_early_ends, test_connections, test_lines])
+    run_tests([test_early_ends, test_connections, test_lines, test_fifo])
