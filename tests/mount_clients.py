@@ -1,6 +1,6 @@
 """
 Tests of what reaches the daemon from outside: mount_clients.py PROGRAM. Clients of the control socket that go away or send anything, the
-fifo. The last line is `N passed, M failed`.
+fifo, notes, and where a record may be. The last line is `N passed, M failed`.
 """
 
 import os
@@ -97,5 +97,42 @@ def test_fifo():
             check("seven lines are no commands", logged().count(b"not a command: ") == 7, logged())
 
 
+def test_notes():
+    """Each note is a line of the record that a replay reads; others are refused."""
+    with tempfile.TemporaryDirectory() as folder, Mount(PROGRAM, "--record", f"{folder}/record") as mount:
+        bad = (b"\xff\xfe", b"a\rb", b"\xc3", b"\xc0\x80", b"\xed\xa0\x80", b"\xf4\x90\x80\x80", b"\xe2\x80\xa8", b"\xc2\x85", b"\x1b[1m", b"\t")
+        said = [reply_to(mount, b"note acknowledged " + text + b"\n") for text in bad]
+        check("bad notes", said == [b"error: a note is UTF-8 without control characters\n"] * len(bad), said)
+        good = ["a", "\u00fc \u20ac \U0001f600 # \\", "\u07ff\u0800\uffff\U00010000\U0010ffff"]
+        check("good notes", [refused(mount, f"note {text}") for text in good] == [""] * 3)
+        command = [os.path.join(TOP, "tools", "mountctl"), os.path.join(mount.folder, "socket"), "note"]
+        ran = subprocess.run([*command, "acknowledged 1\ncrash"], stdout=subprocess.PIPE, stderr=subprocess.PIPE, text=True)
+        check("a note of two lines", (ran.returncode, ran.stderr) == (1, "mountctl: a command is one line of at most 500 bytes\n"), ran)
+        mount.ask("record stop")
+        with open(f"{folder}/record", encoding="utf-8") as file:
+            notes = [line for line in file.read().splitlines() if line.startswith("#")]
+        check("the record", notes == [f"# {text}" for text in good], notes)
+
+
+def test_records():
+    """A record that would be on the mount is refused, whatever leads there: the daemon would wait for itself."""
+    with tempfile.TemporaryDirectory() as folder, Mount(PROGRAM) as mount:
+        os.symlink("loop", f"{folder}/loop")
+        said = reply_to(mount, f"record {folder}/loop\n".encode())
+        check("a loop of links", said == b"error: Too many levels of symbolic links\n", said)
+        said = reply_to(mount, f"record {folder}/none/record\n".encode())
+        check("a folder that is missing", said == b"error: No such file or directory\n", said)
+        os.mkdir(f"{mount.at}/d")
+        os.mkdir(f"{folder}/e")
+        os.symlink(mount.at, f"{folder}/link")
+        os.symlink("../link/d", f"{folder}/e/relative")
+        os.symlink(f"{folder}/e/relative/../x", f"{folder}/file")
+        mount.ask("crash")
+        paths = [f"{folder}/link/record", f"{folder}/e/relative/record", f"{folder}/file", f"{mount.at}/../x", f"{folder}//e/../link/./d/record",
+                 f"/proc/self/root{mount.at}/record"]
+        said = [reply_to(mount, f"record {path}\n".encode()) for path in paths]
+        check("on the mount", said == [b"error: Resource deadlock avoided\n"] * len(paths), said)
+
+
 if __name__ == "__main__":
-    run_tests([test_early_ends, test_connections, test_lines, test_fifo])
+    run_tests([test_early_ends, test_connections, test_lines, test_fifo, test_notes, test_records])

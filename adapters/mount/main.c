@@ -4,6 +4,7 @@
  */
 #define _GNU_SOURCE
 #include "calls.h"
+#include "commands.h"
 #include "control.h"
 #include "fifo.h"
 #include "layer.h"
@@ -176,7 +177,7 @@ int main(int count, char **words) {
         end(FAILED, "%s: %s", options.directory, strerror(errno));
     }
     options.directory = directory;
-    record_mounted_on(directory);
+    commands_mounted_on(directory);
     struct fuse_session *session = mount_it(words[0]);
     /* In the foreground the daemon ends with the process that started it. */
     if (options.stays && prctl(PR_SET_PDEATHSIG, SIGTERM)) end(FAILED, "the foreground: %s", strerror(errno));

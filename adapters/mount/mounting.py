@@ -57,11 +57,12 @@ class Control:
 
     def ask(self, line):
         """Sends a command, and returns its reply without the `ok`. An error of the daemon is raised."""
-        if "\n" in line or len(line) > 500:
+        sent = os.fsencode(line)
+        if b"\n" in sent or len(sent) > 500:
             raise Failed("a command is one line of at most 500 bytes")
         reply = ""
         with contextlib.suppress(OSError):  # a daemon that takes no more clients says so, and closes
-            self._socket.sendall(os.fsencode(line) + b"\n")
+            self._socket.sendall(sent + b"\n")
         with contextlib.suppress(OSError):
             reply = self._lines.readline()
         if not reply.endswith("\n"):
