@@ -8,8 +8,8 @@ import sys
 import time
 
 sys.dont_write_bytecode = True
-from mount_calls import check, fill, put, refusal, run_tests, sync_folder  # noqa: E402
-from mounting import Mount  # noqa: E402
+from mount_calls import allocate, check, put, refusal, run_tests, sync_folder  # noqa: E402
+from mounting import Failed, Mount  # noqa: E402
 
 PROGRAM = sys.argv[1]
 MEGABYTE = 1 << 20
@@ -114,5 +114,44 @@ def test_default():
         check("66,000 changes", refusal(put, f"{mount.at}/f", b"f") is None and changes_of(mount) == ("465", "1"), changes_of(mount))
 
 
+def machine():
+    """Returns the bytes of memory of this machine, as the kernel says, or of its control group if that has fewer."""
+    with open("/proc/meminfo", encoding="ascii") as file:
+        found = [int(line.split()[1]) * 1024 for line in file if line.startswith("MemTotal:")]
+    if os.path.exists("/sys/fs/cgroup/memory.max"):
+        with open("/sys/fs/cgroup/memory.max", encoding="ascii") as file:
+            found += [int(word) for word in file.read().split() if word != "max"]
+    return min(found)
+
+
+def memory_of(mount):
+    """Returns the most bytes that the daemon has had."""
+    with open(f"/proc/{mount.daemon.pid}/status", encoding="ascii") as file:
+        return [int(line.split()[1]) * 1024 for line in file if line.startswith("VmHWM:")][0]
+
+
+def test_sizes():
+    """What doesn't fit is refused before it takes memory. The size without an option goes with the memory, and can't exceed it."""
+    with Mount(PROGRAM) as mount:
+        size, before = min(machine() // 4 // MEGABYTE, 1024) * MEGABYTE, memory_of(mount)
+        check("the size without an option", mount.control.status()["bytes"] == f"0/{size}", mount.control.status())
+        path = f"{mount.at}/sparse"
+        put(path, b"x")
+        began = time.monotonic()
+        descriptor = os.open(path, os.O_RDWR)
+        calls = [lambda: os.truncate(path, 4 << 30), lambda: os.pwrite(descriptor, b"x", 4 << 30), lambda: allocate(path, 0, 0, 4 << 30)]
+        found = [refusal(call) for call in calls]
+        os.close(descriptor)
+        check("files of 4 GB", found == ["ENOSPC"] * 3 and os.stat(path).st_size == 1, found)
+        check("take no time and no memory", time.monotonic() < began + 5 and memory_of(mount) < before + 16 * MEGABYTE, memory_of(mount))
+    larger = f"{machine() // MEGABYTE + 1}M"
+    try:
+        Mount(PROGRAM, "--size", larger).close()
+        said = ""
+    except Failed as error:
+        said = str(error)
+    check("more than the memory", said == f"mount: --size {larger}: files are in memory, and there are only {machine() // MEGABYTE}M", said)
+
+
 if __name__ == "__main__":
-    run_tests([test_removed, test_open_removed, test_changes, test_known, test_default])
+    run_tests([test_removed, test_open_removed, test_changes, test_known, test_default, test_sizes])

@@ -8,6 +8,7 @@
 #include "control.h"
 #include "fifo.h"
 #include "layer.h"
+#include "memory.h"
 #include "power.h"
 #include "record.h"
 #include "serve.h"
@@ -35,7 +36,7 @@ static struct {
     const char *directory, *control, *seed, *profile, *tear, *keep, *record, *fifo, *completed, *log;
     uint64_t size, changes;
     bool allows_other, stays;
-} options = {.seed = "1", .profile = "ext4", .tear = "sectors512", .keep = "1/2", .size = (uint64_t)1 << 30};
+} options = {.seed = "1", .profile = "ext4", .tear = "sectors512", .keep = "1/2"};
 
 static void end(int status, const char *format, ...) {
     va_list values;
@@ -58,7 +59,10 @@ static uint64_t size_of(const char *text) {
     unsigned shift = *unit == 'K' ? 10 : *unit == 'M' ? 20 : *unit == 'G' ? 30 : 0;
     if (errno || *text < '0' || *text > '9' || (shift ? unit[1] : *unit) || size == 0 || size > (UINT64_MAX >> 1) >> shift)
         end(BAD_OPTION, "--size %s: not a size, such as 512M", text);
-    return (uint64_t)size << shift;
+    uint64_t bytes = (uint64_t)size << shift, memory = memory_of_machine();
+    if (memory > 0 && bytes > memory)
+        end(BAD_OPTION, "--size %s: files are in memory, and there are only %" PRIu64 "M", text, memory >> 20);
+    return bytes;
 }
 
 /* Reads a number of changes. */
@@ -95,6 +99,7 @@ static void read_options(int count, char **words) {
         }
     }
     if (optind + 1 != count || !options.control) end(BAD_OPTION, "%s", usage_text);
+    if (options.size == 0) options.size = memory_for_files();
     if (!options.fifo && (options.completed || options.log)) end(BAD_OPTION, "--fifo-completed and --log belong to --fifo");
     options.directory = words[optind];
 }
