@@ -245,10 +245,10 @@ def test_write_back():
         check("written back", int(status["write-backs"]) >= 1 and int(status["unsynced"]) <= 1 << 20, status)
 
 
-def program(text, *arguments, stdin=None):
+def program(text, *arguments, **streams):
     """Starts a program in Python that prints what it sees."""
     command = [sys.executable, "-c", "import errno, os, signal, sys\n" + text, *arguments]
-    return subprocess.Popen(command, stdin=stdin, stdout=subprocess.PIPE, text=True)
+    return subprocess.Popen(command, stdout=subprocess.PIPE, text=True, **streams)
 
 
 def waits_in_open(process):

@@ -237,10 +237,11 @@ if OUT="$work/sanitized" CFLAGS="${CFLAGS:-} -fsanitize=address,undefined -fno-s
     sh "$top/adapters/mount/build.sh" >"$work/path" 2>"$work/err"; then
     sanitized=$(cat "$work/path")
 else
-    skip 'the daemon under the address sanitizer'
+    skip 'the daemon under the address sanitizer, and random bytes for it'
 fi
 add python3 "$top/tests/mount.py" "$program" ${sanitized:+"$sanitized"}
 add python3 "$top/tests/mount_clients.py" "${sanitized:-$program}"
 add python3 "$top/tests/mount_limits.py" "${sanitized:-$program}"
 add python3 "$top/tests/mount_records.py" "${sanitized:-$program}" "$files"
+[ -z "$sanitized" ] || add python3 "$top/tests/mount_fuzz.py" "$sanitized" "$files"
 finish
