@@ -23,9 +23,9 @@ _blobcrash() {
             crash_run:--from | crash_run:--out)
             mapfile -t COMPREPLY < <(compgen -f -- "$word")
             ;;
-        mount:--seed | mount:--keep | mount:--size | crash_run:--seeds | crash_run:--first | crash_run:--jobs) ;;
+        mount:--seed | mount:--keep | mount:--size | mount:--changes | crash_run:--seeds | crash_run:--first | crash_run:--jobs) ;;
         mount:*)
-            words='--seed --profile --tear --keep --size --from --control --fifo --fifo-completed --log --record --allow-other --foreground --help'
+            words='--seed --profile --tear --keep --size --changes --from --control --fifo --fifo-completed --log --record --allow-other --foreground --help'
             [[ $word == -* ]] || mapfile -t COMPREPLY < <(compgen -d -- "$word")
             ;;
         mountctl:mountctl) mapfile -t COMPREPLY < <(compgen -f -- "$word") ;;

@@ -9,13 +9,14 @@ import os
 import signal
 import subprocess
 import sys
+import tempfile
 import time
-import traceback
 
 sys.dont_write_bytecode = True
-from mount_calls import allocate, check, counts, differential, fill, get, put, refusal, sync_folder, tree  # noqa: E402
+from mount_calls import allocate, check, comes, differential, fill, get, put, refusal, refused  # noqa: E402
+from mount_calls import run_tests, sync_folder, tree  # noqa: E402
 from mount_programs import A, B, SECTOR, letters, test_programs  # noqa: E402
-from mounting import Failed, Mount  # noqa: E402
+from mounting import Mount  # noqa: E402
 
 PROGRAM = sys.argv[1]
 
@@ -49,6 +50,60 @@ def test_stale():
         for descriptor in (file, folder, root):
             os.close(descriptor)
         check("a new open", get(f"{mount.at}/f") == A)
+
+
+MAPPED = """
+import mmap
+mapped = mmap.mmap(os.open(sys.argv[1], os.O_RDWR), 10)
+print(mapped[:].decode(), flush=True)
+sys.stdin.readline()
+print(mapped[:])
+"""
+
+
+def test_cached():
+    """After a crash the kernel has no page and no attribute of the life before: old descriptors and maps don't show lost bytes."""
+    with mounted("--keep", "0/1", "--profile", "posix") as mount:
+        os.mkdir(f"{mount.at}/d")
+        paths = [f"{mount.at}/f", f"{mount.at}/d/f"]
+        for path in paths:
+            put(path, b"lost bytes")
+        descriptors = [os.open(path, os.O_RDONLY) for path in paths]
+        check("cached pages", [os.pread(descriptor, 10, 0) for descriptor in descriptors] == [b"lost bytes"] * 2)
+        folder = os.open(f"{mount.at}/d", os.O_RDONLY)
+        os.stat("f", dir_fd=folder)
+        maps = program(MAPPED, paths[0], stdin=subprocess.PIPE)
+        check("a map", maps.stdout.readline() == "lost bytes\n")
+        mount.ask("crash")
+        check("an old read", [refusal(os.pread, descriptor, 10, 0) for descriptor in descriptors] == ["EIO"] * 2)
+        check("an old size", [refusal(os.fstat, descriptor) for descriptor in descriptors] == ["EIO"] * 2)
+        check("an old name", refusal(lambda: os.stat("f", dir_fd=folder)) == "EIO")
+        check("an old map", (maps.communicate("\n", timeout=60)[0], maps.returncode) == ("", -signal.SIGBUS))
+        for descriptor in (*descriptors, folder):
+            os.close(descriptor)
+
+
+def test_unlinked():
+    """A file without a name, whose open that truncated is closed before another: its descriptors work as on tmpfs."""
+    with mounted() as mount, tempfile.TemporaryDirectory(dir="/dev/shm") as reference:
+        found = []
+        for at in (mount.at, reference):
+            path = f"{at}/f"
+            put(path, A)
+            first = os.open(path, os.O_RDWR | os.O_TRUNC)
+            os.write(first, b"first")
+            second = os.open(path, os.O_RDWR)
+            os.unlink(path)
+            os.close(first)
+            told = [refusal(os.pread, second, 100, 0), refusal(os.pwrite, second, b"S", 0), refusal(os.fsync, second)]
+            third = refusal(os.open, f"/proc/self/fd/{second}", os.O_RDWR | os.O_TRUNC)
+            told += [type(third), os.fstat(second).st_size, refusal(os.pwrite, second, b"third", 2), refusal(os.pread, second, 100, 0)]
+            for descriptor in (second, third):
+                if isinstance(descriptor, int):
+                    os.close(descriptor)
+            found.append(told)
+        check("a file without a name", found[0] == found[1], found)
+        check("and without a descriptor", comes(lambda: mount.control.status()["bytes"].startswith("0/")))
 
 
 def test_names():
@@ -121,10 +176,7 @@ def test_switches():
             os.fsync(file.fileno())
         mount.ask("crash")
         check("a sync that lies", get(f"{at}/f") == A)
-        try:
-            check("no such switch", mount.ask("syncs sometimes") is None)
-        except Failed as error:
-            check("no such switch", str(error) == "Invalid argument")
+        check("no such switch", refused(mount, "syncs sometimes") == "Invalid argument")
         mount.ask("syncs honest")
         before = [mount.control.status()[name] for name in ("bytes", "files")]
         put(f"{at}/g", bytes(5000))
@@ -193,20 +245,10 @@ def test_write_back():
         check("written back", int(status["write-backs"]) >= 1 and int(status["unsynced"]) <= 1 << 20, status)
 
 
-def program(text, *arguments):
+def program(text, *arguments, **streams):
     """Starts a program in Python that prints what it sees."""
     command = [sys.executable, "-c", "import errno, os, signal, sys\n" + text, *arguments]
-    return subprocess.Popen(command, stdout=subprocess.PIPE, text=True)
-
-
-def comes(holds):
-    """Waits until something holds, for a minute at most. Returns whether it does."""
-    until = time.monotonic() + 60
-    while not holds():
-        if time.monotonic() > until:
-            return False
-        time.sleep(0.02)
-    return True
+    return subprocess.Popen(command, stdout=subprocess.PIPE, text=True, **streams)
 
 
 def waits_in_open(process):
@@ -257,7 +299,8 @@ def test_power():
         check("three calls were made", counted.communicate(timeout=60)[0] == "0\n1\n2\n")
         mount.ask("crash")
         maps_and_waits(mount)
-        check("a bad command", refused(mount, "crash-after x") and refused(mount, "frob") and refused(mount, "config frob"))
+        bad = [refused(mount, line) for line in ("crash-after x", "frob", "config frob")]
+        check("a bad command", bad == ["Invalid argument", "no such command", "Invalid argument"], bad)
 
 
 MAPS = """
@@ -323,15 +366,6 @@ def test_survivors(daemon):
         check("the daemon ends well after them", mount.daemon.wait(60) == 0 and not mount.messages(), mount.messages())
 
 
-def refused(mount, line):
-    """Returns whether a command is refused."""
-    try:
-        mount.ask(line)
-    except Failed:
-        return True
-    return False
-
-
 def test_kill():
     """A daemon that is killed leaves no hung process."""
     mount = mounted()
@@ -353,18 +387,9 @@ def main():
     programs = [PROGRAM] * 17 + [sanitized or PROGRAM] * 3
     tests = [lambda seed=seed, program=program: differential(seed, 2500, program) for seed, program in enumerate(programs, 1)]
     tests.append(lambda: test_survivors(sanitized or PROGRAM))
-    tests += [test_profiles, test_stale, test_names, test_missing, test_switches, test_kinds, test_bytes, test_write_back]
+    tests += [test_profiles, test_stale, test_cached, test_unlinked, test_names, test_missing, test_switches, test_kinds, test_bytes, test_write_back]
     tests += [test_power, test_kill]
-    for test in tests:
-        began = time.time()
-        try:
-            test()
-        except Exception:  # noqa: BLE001 - a test that breaks is one failure, and the others run
-            check(getattr(test, "__name__", "test"), False, traceback.format_exc())
-        if os.environ.get("VERBOSE"):
-            print(f"{getattr(test, '__name__', 'test')} {time.time() - began:.1f} s")
-    print(f"{counts['passed']} passed, {counts['failed']} failed")
-    sys.exit(counts["failed"] > 0)
+    run_tests(tests)
 
 
 if __name__ == "__main__":

@@ -1,6 +1,6 @@
 #!/bin/sh
-# Tests of the mount (adapters/mount, tools/mount, tools/mountctl) and of crash runs (tools/crash_run): tests/mount.py, once with the
-# daemon under the sanitizers, and the commands. Skipped where FUSE or the right to mount is missing, with CI=true too, since no package
+# Tests of the mount (adapters/mount, tools/mount, tools/mountctl) and of crash runs (tools/crash_run): the commands, tests/mount.py and
+# others, with the daemon under the sanitizers. Skipped where FUSE or the right to mount is missing, with CI=true too, since no package
 # brings them. BLOBCRASH_ARCHIVE names a library that is built already. The last line is `N passed, M failed`.
 top=$(CDPATH='' cd -- "$(dirname -- "$0")/.." && pwd -P)
 # shellcheck source=tests/counting.sh
@@ -237,8 +237,11 @@ if OUT="$work/sanitized" CFLAGS="${CFLAGS:-} -fsanitize=address,undefined -fno-s
     sh "$top/adapters/mount/build.sh" >"$work/path" 2>"$work/err"; then
     sanitized=$(cat "$work/path")
 else
-    skip 'the daemon under the address sanitizer'
+    skip 'the daemon under the address sanitizer, and random bytes for it'
 fi
 add python3 "$top/tests/mount.py" "$program" ${sanitized:+"$sanitized"}
+add python3 "$top/tests/mount_clients.py" "${sanitized:-$program}"
+add python3 "$top/tests/mount_limits.py" "${sanitized:-$program}"
 add python3 "$top/tests/mount_records.py" "${sanitized:-$program}" "$files"
+[ -z "$sanitized" ] || add python3 "$top/tests/mount_fuzz.py" "$sanitized" "$files"
 finish

@@ -10,11 +10,13 @@ import shutil
 import stat
 import sys
 import tempfile
+import time
+import traceback
 
 sys.dont_write_bytecode = True
 TOP = os.path.join(os.path.dirname(os.path.realpath(__file__)), "..")
 sys.path.insert(0, os.path.join(TOP, "adapters", "mount"))
-from mounting import Mount  # noqa: E402
+from mounting import Failed, Mount  # noqa: E402
 
 libc = ctypes.CDLL(None, use_errno=True)
 counts = {"passed": 0, "failed": 0}
@@ -24,7 +26,39 @@ def check(name, holds, shown=""):
     """Counts one test."""
     counts["passed" if holds else "failed"] += 1
     if not holds:
-        print(f"mount.py: FAILED: {name} {str(shown)[:2000]}")
+        print(f"{os.path.basename(sys.argv[0])}: FAILED: {name} {str(shown)[:2000]}")
+
+
+def run_tests(tests):
+    """Runs tests, and prints the last line. A test that breaks is one failure, and the others run. Ends with the status."""
+    for test in tests:
+        name, began = getattr(test, "__name__", "test"), time.time()
+        try:
+            test()
+        except Exception:  # noqa: BLE001 - as above
+            check(name, False, traceback.format_exc())
+        if os.environ.get("VERBOSE"):
+            print(f"{name} {time.time() - began:.1f} s")
+    print(f"{counts['passed']} passed, {counts['failed']} failed")
+    sys.exit(counts["failed"] > 0)
+
+
+def refused(mount, line):
+    """Returns why a command is refused, or what it replies."""
+    try:
+        return mount.ask(line)
+    except Failed as error:
+        return str(error)
+
+
+def comes(holds):
+    """Waits until something holds, for a minute at most. Returns whether it does."""
+    until = time.monotonic() + 60
+    while not holds():
+        if time.monotonic() > until:
+            return False
+        time.sleep(0.02)
+    return True
 
 
 def put(path, data, sync=False, flags=os.O_CREAT, at=None):
@@ -148,22 +182,30 @@ class Random:
             if closes:
                 os.close(self.held[at].pop(which))
 
-    def hold(self, at, name):
+    def hold(self, at, name, flags):
         """Opens a file, and keeps it open."""
-        self.held[at].append(os.open(f"{self.roots[at]}/{name}", os.O_RDWR))
+        self.held[at].append(os.open(f"{self.roots[at]}/{name}", os.O_RDWR | flags))
+
+    def hold_again(self, at, which, flags):
+        """Opens an open file once more, whatever has happened to its name, and keeps it open."""
+        self.held[at].append(os.open(f"/proc/self/fd/{self.held[at][which]}", os.O_RDWR | flags))
 
     def call(self):
         """Draws a call. Returns its name, and a function of the index of a root."""
         draw, roots = self.random, self.roots
-        one, two, kind = draw.choice(self.NAMES), draw.choice(self.NAMES), draw.randrange(19)
+        one, two, kind = draw.choice(self.NAMES), draw.choice(self.NAMES), draw.randrange(20)
         offset = draw.choice([0, 1, 10, 4095, 4096, 70000])
         data = bytes([draw.randrange(97, 123)]) * draw.choice([0, 1, 100, 5000, 140000])
         if kind < 5:
             flags = os.O_RDWR | draw.choice([0, os.O_CREAT, os.O_CREAT | os.O_EXCL, os.O_TRUNC, os.O_CREAT | os.O_TRUNC, os.O_APPEND])
             length = draw.choice([None, None, 0, 3, 5000, 66000])
             return "write", lambda at: self.write(roots[at], one, flags, offset, data, length)
+        truncates = draw.choice([0, 0, os.O_TRUNC])
         if kind == 5 and len(self.held[0]) < 20:
-            return "hold", lambda at: self.hold(at, one)
+            return "hold", lambda at: self.hold(at, one, truncates)
+        if kind == 19 and 0 < len(self.held[0]) < 20:
+            which = draw.randrange(len(self.held[0]))
+            return "hold again", lambda at: self.hold_again(at, which, truncates)
         if kind in (6, 7) and self.held[0]:
             which, closes = draw.randrange(len(self.held[0])), draw.random() < 0.3
             return "use", lambda at: self.use(at, which, offset, data, closes)

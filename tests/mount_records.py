@@ -12,8 +12,7 @@ import tempfile
 import time
 
 sys.dont_write_bytecode = True
-from mount_calls import Mount, Random, check, counts, get, put, refusal  # noqa: E402
-from mounting import Failed  # noqa: E402
+from mount_calls import Mount, Random, check, get, put, refusal, refused, run_tests  # noqa: E402
 
 PROGRAM, FILES = sys.argv[1:3]
 FOLDER = tempfile.TemporaryDirectory()  # removed at the end
@@ -124,6 +123,16 @@ def random_run(seed, *options, settings=()):
     compare(f"seed {seed} {' '.join(options)}", read_record(path), crashes, trees)
 
 
+def test_random():
+    """Random calls in each profile, with faults and other settings."""
+    for seed, profile in enumerate(("ext4", "xfs", "btrfs", "posix"), 1):
+        random_run(seed, "--profile", profile)
+    random_run(5, "--profile", "posix", "--tear", "subset", "--keep", "3/4", "--size", "1M")
+    random_run(6, "--tear", "prefix", settings=["config read 1 20", "config sync 1 8", "config open 1 9", "config write 1 9 1 2 prefix"])
+    random_run(8, "--changes", "20")
+    random_run(7, settings=["profile posix", "keep 1 5", "config read 1 3", "config resize 1 4 1 2"])
+
+
 THREADS = """
 import os, random, sys, threading
 
@@ -162,14 +171,6 @@ def test_threads():
     compare("threads", read_record(path), crashes, trees)
 
 
-def refused(mount, line):
-    """Returns why a command is refused, or what it replies."""
-    try:
-        return mount.ask(line)
-    except Failed as error:
-        return str(error)
-
-
 def test_commands():
     """When a record may begin, and where."""
     folder = tempfile.mkdtemp(dir=FOLDER.name)
@@ -206,15 +207,7 @@ def test_full():
 
 def main():
     """Runs all tests."""
-    for seed, profile in enumerate(("ext4", "xfs", "btrfs", "posix"), 1):
-        random_run(seed, "--profile", profile)
-    random_run(5, "--profile", "posix", "--tear", "subset", "--keep", "3/4", "--size", "1M")
-    random_run(6, "--tear", "prefix", settings=["config read 1 20", "config sync 1 8", "config open 1 9", "config write 1 9 1 2 prefix"])
-    random_run(7, settings=["profile posix", "keep 1 5", "config read 1 3", "config resize 1 4 1 2"])
-    for test in (test_threads, test_commands, test_full):
-        test()
-    print(f"{counts['passed']} passed, {counts['failed']} failed")
-    sys.exit(counts["failed"] > 0)
+    run_tests([test_random, test_threads, test_commands, test_full])
 
 
 if __name__ == "__main__":

@@ -19,7 +19,6 @@ enum {
 
 bool record_notes = true;
 static char preamble[PREAMBLE_MOST];
-static const char *mounted_on;
 static int file = -1;
 static int failure;      /* the number of errno for which the record stopped */
 static bool reads_draw;  /* since a setting gave reads a rate */
@@ -244,14 +243,6 @@ void record_read(uint64_t descriptor, uint64_t offset, size_t len, uint32_t stat
     end_line();
 }
 
-void record_mounted_on(const char *directory) { mounted_on = directory; }
-
-/* Whether a path is on the mount: the daemon would wait for itself. */
-static bool is_on_mount(const char *path) {
-    size_t len = mounted_on ? strlen(mounted_on) : 0;
-    return len > 0 && strncmp(path, mounted_on, len) == 0 && path[len] == '/';
-}
-
 void record_preamble(const char *text) { snprintf(preamble, sizeof preamble, "%s", text); }
 
 /* Opens an empty file that is its owner's alone. A fifo would let the daemon wait. */
@@ -271,7 +262,6 @@ static int open_file(const char *path) {
 int record_begin(const char *path) {
     if (file >= 0) return EBUSY;
     if (!record_notes) return EALREADY;
-    if (is_on_mount(path)) return EDEADLK;
     buffer = end = malloc(FLUSH_AT + LINE_MOST);
     if (!buffer) return ENOMEM;
     int error = open_file(path);

@@ -19,11 +19,9 @@ extern bool record_notes;
 
 /* Keeps the first lines of a record: the preamble of the layer. */
 void record_preamble(const char *lines);
-/* Says where the layer is mounted. */
-void record_mounted_on(const char *directory);
 /*
  * Begins a record in a new file, which is its owner's alone. Returns 0 or a number of errno: EALREADY if a call was made before, EBUSY if
- * another record is being written, EEXIST if the path is of another kind of file, EDEADLK if it is on the mount.
+ * another record is being written, EEXIST if the path is of another kind of file.
  */
 int record_begin(const char *path);
 /* Ends the record, if there is one. Returns 0, or the number of errno for which it had stopped. */
@@ -34,7 +32,7 @@ const char *record_state(void);
 /* Notes a call that returned this status, if it changes something or may draw. */
 void record_call(const struct blobcrash_file_call *call, const char *path, const char *to, uint32_t status);
 void record_setting(const char *setting);
-/* Adds a comment to the record, if there is one. It is no change. */
+/* Adds a comment to the record, if there is one. It is no change. The text is UTF-8 without a line feed: else no replay reads it. */
 void record_note(const char *text);
 void record_write(uint64_t descriptor, uint64_t offset, const void *bytes, size_t len, uint32_t status);
 void record_read(uint64_t descriptor, uint64_t offset, size_t len, uint32_t status);

@@ -8,13 +8,11 @@
 #include <fcntl.h>
 #include <stdlib.h>
 
-/* Whether the layer may keep one edit more. A truncation to another size is one. */
-static bool has_room(void) { return node_counts.changes < node_limits.changes; }
-
 int call_truncate(struct node *node, uint64_t length) {
     if (!is_file(node)) return EINVAL;
     bool is_edit = node->size != length;
-    int error = is_edit ? has_room() ? node_open(node) : ENOSPC : 0;
+    int error = is_edit ? nodes_make_room() : 0;
+    if (!error && is_edit) error = node_open(node);
     if (!error && is_edit) error = layer_truncate(node->descriptor, length);
     if (error) {
         node_measure(node);
@@ -30,13 +28,12 @@ int call_truncate(struct node *node, uint64_t length) {
 static int open_truncated(struct node *node) {
     if (node->is_truncated) return call_truncate(node, 0);
     bool is_edit = node->size > 0;
-    int error = is_edit && !has_room() ? ENOSPC : node_close(node);
-    if (!error) error = layer_open_truncated(node->inode, &node->descriptor);
+    int error = is_edit ? nodes_make_room() : 0;
+    if (!error) error = node_open_truncated(node);
     if (error) {
         node_measure(node);
         return error;
     }
-    node->is_open = node->is_truncated = true;
     node_counts.changes += is_edit;
     node_resized(node, 0);
     node_written(node);
@@ -69,7 +66,7 @@ void call_open(fuse_req_t req, fuse_ino_t id, struct fuse_file_info *info) {
 void call_release(fuse_req_t req, fuse_ino_t id, struct fuse_file_info *info) {
     struct node *node = info->fh == power.life ? call_node(id) : NULL;
     if (node) {
-        if (node->is_truncated && !power.is_ending) node_close(node);
+        if (!power.is_ending) node_close_truncated(node);
         node->opens--;
         node_rest(node);
     }
@@ -91,18 +88,10 @@ void call_read(fuse_req_t req, fuse_ino_t id, size_t size, off_t offset, struct 
     free(bytes);
 }
 
-/* Bounds the memory of unsynced bytes: writes them back if these are too many. */
-static int bound_unsynced(uint64_t len) {
-    if (node_counts.unsynced + len <= node_limits.bytes) return 0;
-    power.write_backs++;
-    nodes_write_back();
-    return node_counts.unsynced + len <= node_limits.bytes ? 0 : ENOSPC;
-}
-
 /* Writes bytes, unsynced. */
 static int write_at(struct node *node, uint64_t offset, const void *bytes, size_t len) {
     int error = node_open(node);
-    if (!error) error = bound_unsynced(len);
+    if (!error) error = nodes_make_room_unsynced(len);
     if (!error) error = layer_write(node->descriptor, offset, bytes, len);
     if (error) {
         node_measure(node);

@@ -82,7 +82,10 @@ void call_create(fuse_req_t req, fuse_ino_t parent, const char *name, mode_t mod
     if (!node) return;
     struct fuse_entry_param entry = call_entry(node);
     call_opened(node, info);
-    if (fuse_reply_create(req, &entry, info)) node->opens--;
+    if (fuse_reply_create(req, &entry, info)) {
+        node->opens--;
+        node_forget(node, 1);
+    }
 }
 
 void call_link(fuse_req_t req, fuse_ino_t id, fuse_ino_t parent, const char *name) {

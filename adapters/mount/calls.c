@@ -15,7 +15,7 @@
 enum { LIFE_SHIFT = 40 };
 #define FOREVER 86400.0
 
-static fuse_ino_t id_of(const struct node *node) {
+fuse_ino_t call_id(const struct node *node) {
     return node->inode == ROOT ? FUSE_ROOT_ID : (fuse_ino_t)(power.life << LIFE_SHIFT | node->inode);
 }
 
@@ -41,8 +41,9 @@ struct node *call_begin(fuse_req_t req, fuse_ino_t id, enum call_kind kind) {
         return NULL;
     }
     if (kind == CALL_READS) return node;
-    if (kind == CALL_CHANGES_NAMES && node_counts.changes >= node_limits.changes) {
-        fuse_reply_err(req, ENOSPC);
+    int error = kind == CALL_CHANGES_NAMES ? nodes_make_room() : 0;
+    if (error) {
+        fuse_reply_err(req, error);
         return NULL;
     }
     count_change(kind);
@@ -66,14 +67,15 @@ static struct stat attributes_of(const struct node *node) {
     return found;
 }
 
-struct fuse_entry_param call_entry(const struct node *node) {
+struct fuse_entry_param call_entry(struct node *node) {
+    node->lookups++;
     return (struct fuse_entry_param){
-        .ino = id_of(node), .attr = attributes_of(node), .attr_timeout = FOREVER, .entry_timeout = FOREVER};
+        .ino = call_id(node), .attr = attributes_of(node), .attr_timeout = FOREVER, .entry_timeout = FOREVER};
 }
 
-void call_reply_entry(fuse_req_t req, const struct node *node) {
+void call_reply_entry(fuse_req_t req, struct node *node) {
     struct fuse_entry_param entry = call_entry(node);
-    fuse_reply_entry(req, &entry);
+    if (fuse_reply_entry(req, &entry)) node_forget(node, 1);
 }
 
 void call_reply_no_entry(fuse_req_t req) {
@@ -94,9 +96,10 @@ static void begin(void *data, struct fuse_conn_info *connection) {
     connection->want |= connection->capable & FUSE_CAP_EXPLICIT_INVAL_DATA;
 }
 
-/* The kernel doesn't know a node any more. It is kept all the same: a crash may bring a name back. */
+/* The kernel doesn't know a node any more. It is kept as long as a crash may bring a name back. */
 static void forget(fuse_req_t req, fuse_ino_t id, uint64_t times) {
-    (void)id, (void)times;
+    struct node *node = call_node(id);
+    if (node) node_forget(node, times);
     fuse_reply_none(req);
 }
 

@@ -15,20 +15,22 @@ enum call_kind { CALL_READS, CALL_CHANGES, CALL_CHANGES_NAMES };
 
 /*
  * Begins a call on a node. Returns the node, or NULL after a reply: EIO if the power went off during the call or the node is of an
- * older life, ENOSPC if too many names were changed.
+ * older life, or the error of a commit that makes room for a change of names.
  */
 struct node *call_begin(fuse_req_t req, fuse_ino_t id, enum call_kind kind);
+/* Returns the kernel's number of a node. */
+fuse_ino_t call_id(const struct node *node);
 /* Returns the node of the kernel's number, or NULL if that is of an older life. */
 struct node *call_node(fuse_ino_t id);
 
 /* Replies with a node that a name leads to. */
-void call_reply_entry(fuse_req_t req, const struct node *node);
+void call_reply_entry(fuse_req_t req, struct node *node);
 /* Replies that no node has the name. */
 void call_reply_no_entry(fuse_req_t req);
 /* Replies with attributes. */
 void call_reply_attributes(fuse_req_t req, const struct node *node);
-/* Returns an entry for the kernel. */
-struct fuse_entry_param call_entry(const struct node *node);
+/* Returns an entry for the kernel. From then on the kernel knows the node. */
+struct fuse_entry_param call_entry(struct node *node);
 
 /* Names: call_names.c. */
 void call_lookup(fuse_req_t req, fuse_ino_t parent, const char *name);

@@ -2,9 +2,11 @@
 
 #include "layer.h"
 #include "nodes.h"
+#include "outside.h"
 #include "power.h"
 #include "record.h"
 #include "serve.h"
+#include "text.h"
 
 #include <errno.h>
 #include <inttypes.h>
@@ -12,19 +14,18 @@
 #include <stdlib.h>
 #include <string.h>
 
+static const char *mounted_on;
+
+void commands_mounted_on(const char *directory) { mounted_on = directory; }
+
 static void print_status(char *reply, size_t capacity) {
     snprintf(reply, capacity,
              "ok power %s life %" PRIu64 " calls %" PRIu64 " changing %" PRIu64 " bytes %" PRIu64 "/%" PRIu64 " files %" PRIu64
-             "/%" PRIu64 " unsynced %" PRIu64 " names-changed %" PRIu64 "/%" PRIu64 " write-backs %" PRIu64 " stale %" PRIu64 " record %s",
+             "/%" PRIu64 " unsynced %" PRIu64 " names-changed %" PRIu64 "/%" PRIu64 " commits %" PRIu64 " write-backs %" PRIu64 " stale %" PRIu64
+             " record %s",
              power.is_off ? "off" : "on", power.life, power.calls, power.changing_calls, node_counts.bytes, node_limits.bytes,
              node_counts.files, node_limits.files, node_counts.unsynced, node_counts.changes, node_limits.changes,
-             power.write_backs, power.stale_calls, record_state());
-}
-
-static int settle(void) {
-    int error = layer_settle();
-    if (!error) nodes_synced();
-    return error;
+             power.commits, power.write_backs, power.stale_calls, record_state());
 }
 
 static int crash(char *reply, size_t capacity, pid_t *child) {
@@ -49,6 +50,14 @@ static int crash_after(const char *text) {
     return 0;
 }
 
+static int begin_record(const char *path) { return leads_to_mount(path, mounted_on) ? EDEADLK : record_begin(path); }
+
+static int note(const char *text) {
+    if (!is_plain_text(text)) return EILSEQ;
+    record_note(text);
+    return 0;
+}
+
 static bool begins(const char *line, const char *word) { return strncmp(line, word, strlen(word)) == 0; }
 
 /* Whether a line is a setting of the layer that may change at any time. */
@@ -64,19 +73,20 @@ pid_t command_run(const char *line, char *reply, size_t capacity) {
     pid_t child = 0;
     snprintf(reply, capacity, "ok");
     if (!strcmp(line, "status")) print_status(reply, capacity);
-    else if (!strcmp(line, "settle")) error = settle();
+    else if (!strcmp(line, "settle")) error = nodes_settle();
     else if (!strcmp(line, "off")) power.is_off = true;
     else if (!strcmp(line, "on")) power_on();
     else if (!strcmp(line, "crash")) error = crash(reply, capacity, &child);
     else if (!strcmp(line, "umount")) serve_end();
     else if (!strcmp(line, "record stop")) error = record_end();
-    else if (begins(line, "record /")) error = record_begin(line + strlen("record "));
-    else if (begins(line, "note ")) record_note(line + strlen("note "));
+    else if (begins(line, "record /")) error = begin_record(line + strlen("record "));
+    else if (begins(line, "note ")) error = note(line + strlen("note "));
     else if (begins(line, "crash-after ")) error = crash_after(line + strlen("crash-after "));
     else if (is_setting(line)) error = layer_set(line);
     else error = ENOSYS;
     if (error == ENOSYS) snprintf(reply, capacity, "error: no such command");
     else if (error == EALREADY) snprintf(reply, capacity, "error: too late: a record begins before the first change, as with --record");
+    else if (error == EILSEQ) snprintf(reply, capacity, "error: a note is UTF-8 without control characters");
     else if (error) snprintf(reply, capacity, "error: %s", strerror(error));
     return error ? 0 : child;
 }

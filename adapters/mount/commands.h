@@ -5,6 +5,9 @@
 #include <stddef.h>
 #include <sys/types.h>
 
+/* Says where the layer is mounted. */
+void commands_mounted_on(const char *directory);
+
 /*
  * Makes the command of a line, and writes its reply, without a line feed: `ok` with what there is to say, or `error:` and why.
  *

@@ -12,7 +12,7 @@
 #include <sys/un.h>
 #include <unistd.h>
 
-enum { CLIENTS = 16, LINE_MOST = 512 };
+enum { CLIENTS = 64, LINE_MOST = 512 };
 
 struct client {
     int fd;
@@ -51,19 +51,30 @@ static bool send_reply(int fd, char *reply) {
     return send(fd, reply, len, MSG_NOSIGNAL | MSG_DONTWAIT) == (ssize_t)len;
 }
 
-/* Handles the whole lines that a client has sent. */
+/* Makes the command of a line, and sends its reply. Returns whether that was possible. */
+static bool answer(int fd, const char *line, size_t len) {
+    char reply[LINE_MOST];
+    pid_t owner = getpid(), child = 0;
+    if (strlen(line) < len)
+        strcpy(reply, "error: a line with a zero byte");
+    else
+        child = command_run(line, reply, sizeof reply - 1);
+    bool is_sent = child != 0 || send_reply(fd, reply);
+    if (getpid() != owner) _exit(0);
+    return is_sent;
+}
+
+/* Makes the commands of the whole lines that a client has sent. A client that doesn't take its reply is dropped, with what it sent. */
 static void answer_lines(struct client *client) {
-    char reply[LINE_MOST], *end;
-    while (client->fd >= 0 && (end = memchr(client->line, '\n', client->len))) {
-        size_t used = (size_t)(end + 1 - client->line);
+    char *end;
+    while ((end = memchr(client->line, '\n', client->len))) {
         *end = 0;
-        pid_t owner = getpid();
-        pid_t child = command_run(client->line, reply, sizeof reply - 1);
-        bool is_sent = child != 0 || send_reply(client->fd, reply);
-        if (getpid() != owner) _exit(0);
-        if (!is_sent) drop_client(client);
-        client->len -= used;
-        memmove(client->line, client->line + used, client->len);
+        if (!answer(client->fd, client->line, (size_t)(end - client->line))) {
+            drop_client(client);
+            return;
+        }
+        client->len -= (size_t)(end + 1 - client->line);
+        memmove(client->line, end + 1, client->len);
     }
     if (client->len == LINE_MOST) drop_client(client);
 }
@@ -84,8 +95,9 @@ static void hear_client(int fd) {
         if (clients[at].fd == fd) hear(&clients[at]);
 }
 
-/* Takes a new client, unless there are too many. */
+/* Takes a new client. If there are too many, says so to it. */
 static void take_client(int from) {
+    char refusal[] = "error: all connections to the daemon are in use\n";
     int fd = accept4(from, NULL, NULL, SOCK_CLOEXEC | SOCK_NONBLOCK);
     if (fd < 0) return;
     for (int at = 0; at < CLIENTS; at++) {
@@ -94,6 +106,7 @@ static void take_client(int from) {
         clients[at].fd = fd;
         return;
     }
+    send(fd, refusal, sizeof refusal - 1, MSG_NOSIGNAL | MSG_DONTWAIT);
     close(fd);
 }
 

@@ -9,6 +9,7 @@
 #include <fcntl.h>
 #include <inttypes.h>
 #include <limits.h>
+#include <stdbool.h>
 #include <stdio.h>
 #include <string.h>
 #include <sys/stat.h>
@@ -22,6 +23,7 @@ static int commands = -1, completed = -1;
 static FILE *log_file;
 static char line[LINE_MOST];
 static size_t line_len;
+static bool is_too_long; /* the line: its rest is no command */
 
 static void report_node(const struct node *node, void *count) {
     char path[PATH_MAX];
@@ -35,7 +37,7 @@ static void report(void) {
     uint64_t count = 0;
     nodes_visit(report_node, &count);
     fprintf(log_file,
-            "unsynced: %" PRIu64 " files, %" PRIu64 " bytes, %" PRIu64 " changes of names and truncations since the last crash\n",
+            "unsynced: %" PRIu64 " files, %" PRIu64 " bytes, %" PRIu64 " changes of names and truncations since the last commit\n",
             count, node_counts.unsynced, node_counts.changes);
 }
 
@@ -56,12 +58,12 @@ static pid_t run(const char *command) {
 }
 
 /* Makes the command of a line, and says that it is done. */
-static void take_line(const char *text) {
+static void take_line(const char *text, size_t len) {
     char done[LINE_MOST + 16];
     pid_t owner = getpid();
-    bool is_command = strncmp(text, prefix, sizeof prefix - 1) == 0;
+    bool is_command = !is_too_long && strlen(text) == len && strncmp(text, prefix, sizeof prefix - 1) == 0;
     if (!is_command) {
-        fprintf(log_file, "not a command: %s\n", text);
+        fprintf(log_file, "not a command: %s%s\n", is_too_long ? ".." : "", text);
         fflush(log_file);
         return;
     }
@@ -81,11 +83,15 @@ static void hear_line(int fd) {
     for (char *end; (end = memchr(line, '\n', line_len));) {
         size_t used = (size_t)(end + 1 - line);
         *end = 0;
-        take_line(line);
+        take_line(line, used - 1);
+        is_too_long = false;
         line_len -= used;
         memmove(line, line + used, line_len);
     }
-    if (line_len == sizeof line) line_len = 0;
+    if (line_len == sizeof line) {
+        is_too_long = true;
+        line_len = 0;
+    }
 }
 
 /* Makes a fifo and opens it, for both directions, so that neither end waits for the other. A fifo of an earlier daemon is replaced. */

@@ -52,6 +52,8 @@ int layer_write(uint64_t descriptor, uint64_t offset, const void *bytes, size_t 
 /* Returns in `len` how many bytes were read. */
 int layer_read(uint64_t descriptor, uint64_t offset, void *into, size_t capacity, size_t *len);
 
+/* Makes all changes of names durable, and drops what the layer keeps of them until then. Makes no draw. */
+int layer_commit(void);
 /* Makes everything durable. */
 int layer_settle(void);
 /* Crashes. All descriptors are stale. After an error crash again. */

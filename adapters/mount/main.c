@@ -4,9 +4,11 @@
  */
 #define _GNU_SOURCE
 #include "calls.h"
+#include "commands.h"
 #include "control.h"
 #include "fifo.h"
 #include "layer.h"
+#include "memory.h"
 #include "power.h"
 #include "record.h"
 #include "serve.h"
@@ -27,14 +29,14 @@ enum { FAILED = 1, BAD_OPTION = 2, NO_FUSE = 3 };
 
 static const char usage_text[] =
     "usage: blobcrash_mount DIR --control SOCKET [--seed N] [--profile ext4|xfs|btrfs|posix] [--tear prefix|subset|sectorsN]\n"
-    "                       [--keep N/D] [--size BYTES] [--record FILE] [--fifo FIFO] [--fifo-completed FIFO] [--log FILE]\n"
+    "                       [--keep N/D] [--size BYTES] [--changes N] [--record FILE] [--fifo FIFO] [--fifo-completed FIFO] [--log FILE]\n"
     "                       [--allow-other] [--foreground]";
 
 static struct {
     const char *directory, *control, *seed, *profile, *tear, *keep, *record, *fifo, *completed, *log;
-    uint64_t size;
+    uint64_t size, changes;
     bool allows_other, stays;
-} options = {.seed = "1", .profile = "ext4", .tear = "sectors512", .keep = "1/2", .size = (uint64_t)1 << 30};
+} options = {.seed = "1", .profile = "ext4", .tear = "sectors512", .keep = "1/2"};
 
 static void end(int status, const char *format, ...) {
     va_list values;
@@ -46,6 +48,9 @@ static void end(int status, const char *format, ...) {
     exit(status);
 }
 
+/* Whether a text has only digits. */
+static bool is_number(const char *text, size_t len) { return len > 0 && len < 20 && strspn(text, "0123456789") >= len; }
+
 /* Reads a size in bytes, with K, M or G after it for powers of 1024. */
 static uint64_t size_of(const char *text) {
     char *unit;
@@ -54,7 +59,16 @@ static uint64_t size_of(const char *text) {
     unsigned shift = *unit == 'K' ? 10 : *unit == 'M' ? 20 : *unit == 'G' ? 30 : 0;
     if (errno || *text < '0' || *text > '9' || (shift ? unit[1] : *unit) || size == 0 || size > (UINT64_MAX >> 1) >> shift)
         end(BAD_OPTION, "--size %s: not a size, such as 512M", text);
-    return (uint64_t)size << shift;
+    uint64_t bytes = (uint64_t)size << shift, memory = memory_of_machine();
+    if (memory > 0 && bytes > memory)
+        end(BAD_OPTION, "--size %s: files are in memory, and there are only %" PRIu64 "M", text, memory >> 20);
+    return bytes;
+}
+
+/* Reads a number of changes. */
+static uint64_t count_of(const char *text) {
+    if (!is_number(text, strlen(text)) || strtoull(text, NULL, 10) == 0) end(BAD_OPTION, "--changes %s: not a number above 0", text);
+    return strtoull(text, NULL, 10);
 }
 
 static void read_options(int count, char **words) {
@@ -64,8 +78,8 @@ static void read_options(int count, char **words) {
         {"keep", required_argument, NULL, 'k'},    {"size", required_argument, NULL, 'z'},
         {"fifo", required_argument, NULL, 'F'},    {"fifo-completed", required_argument, NULL, 'C'},
         {"log", required_argument, NULL, 'l'},     {"record", required_argument, NULL, 'r'},
-        {"allow-other", no_argument, NULL, 'o'},   {"foreground", no_argument, NULL, 'f'},
-        {NULL, 0, NULL, 0}};
+        {"changes", required_argument, NULL, 'n'}, {"allow-other", no_argument, NULL, 'o'},
+        {"foreground", no_argument, NULL, 'f'},    {NULL, 0, NULL, 0}};
     for (int option; (option = getopt_long(count, words, "", names, NULL)) != -1;) {
         switch (option) {
         case 'c': options.control = optarg; break;
@@ -74,6 +88,7 @@ static void read_options(int count, char **words) {
         case 't': options.tear = optarg; break;
         case 'k': options.keep = optarg; break;
         case 'z': options.size = size_of(optarg); break;
+        case 'n': options.changes = count_of(optarg); break;
         case 'F': options.fifo = optarg; break;
         case 'C': options.completed = optarg; break;
         case 'l': options.log = optarg; break;
@@ -84,12 +99,10 @@ static void read_options(int count, char **words) {
         }
     }
     if (optind + 1 != count || !options.control) end(BAD_OPTION, "%s", usage_text);
+    if (options.size == 0) options.size = memory_for_files();
     if (!options.fifo && (options.completed || options.log)) end(BAD_OPTION, "--fifo-completed and --log belong to --fifo");
     options.directory = words[optind];
 }
-
-/* Whether a text has only digits. */
-static bool is_number(const char *text, size_t len) { return len > 0 && len < 20 && strspn(text, "0123456789") >= len; }
 
 /* Opens the layer with the settings that the options say. */
 static void begin_layer(void) {
@@ -105,7 +118,7 @@ static void begin_layer(void) {
         end(BAD_OPTION, "--profile %s: not ext4, xfs, btrfs or posix", options.profile);
     node_limits.bytes = options.size;
     node_limits.files = options.size / 4096 > 1024 ? options.size / 4096 : 1024;
-    node_limits.changes = options.size / 2048 > 65536 ? options.size / 2048 : 65536;
+    node_limits.changes = options.changes ? options.changes : options.size / 2048 > 65536 ? options.size / 2048 : 65536;
     int number = (int)(slash - options.keep);
     snprintf(preamble, sizeof preamble,
              "seed %s\nprofile %s\nconfig write 0 1 %.*s %s %s %s\nkeep %.*s %s\nspace %" PRIu64 " %" PRIu64 "\n", options.seed,
@@ -169,7 +182,7 @@ int main(int count, char **words) {
         end(FAILED, "%s: %s", options.directory, strerror(errno));
     }
     options.directory = directory;
-    record_mounted_on(directory);
+    commands_mounted_on(directory);
     struct fuse_session *session = mount_it(words[0]);
     /* In the foreground the daemon ends with the process that started it. */
     if (options.stays && prctl(PR_SET_PDEATHSIG, SIGTERM)) end(FAILED, "the foreground: %s", strerror(errno));

@@ -1,5 +1,6 @@
 """What tools/mountctl, tools/crash_run and the tests share: where a control socket is, its lines, and mounts of their own."""
 
+import contextlib
 import hashlib
 import os
 import shutil
@@ -56,13 +57,14 @@ class Control:
 
     def ask(self, line):
         """Sends a command, and returns its reply without the `ok`. An error of the daemon is raised."""
-        if "\n" in line or len(line) > 500:
+        sent = os.fsencode(line)
+        if b"\n" in sent or len(sent) > 500:
             raise Failed("a command is one line of at most 500 bytes")
-        try:
-            self._socket.sendall(os.fsencode(line) + b"\n")
+        reply = ""
+        with contextlib.suppress(OSError):  # a daemon that takes no more clients says so, and closes
+            self._socket.sendall(sent + b"\n")
+        with contextlib.suppress(OSError):
             reply = self._lines.readline()
-        except OSError:
-            reply = ""
         if not reply.endswith("\n"):
             raise Failed("the daemon has ended")
         word, _, rest = reply.strip().partition(" ")

@@ -1,6 +1,7 @@
 #include "nodes.h"
 
 #include "layer.h"
+#include "power.h"
 
 #include <errno.h>
 #include <stdlib.h>
@@ -85,13 +86,6 @@ static void node_remove(struct node *node) {
     node_free(node);
 }
 
-void node_rest(struct node *node) {
-    if (is_directory(node) || node->links > 0 || node->opens > 0 || node->is_gone || node_close(node)) return;
-    node->is_gone = true;
-    node_resized(node, 0);
-    node_counts.files--;
-}
-
 int nodes_begin(uid_t owner, gid_t group) {
     table_size = 1024;
     table = calloc(table_size, sizeof *table);
@@ -132,17 +126,42 @@ int node_open(struct node *node) {
     return error;
 }
 
-int node_close(struct node *node) {
-    if (!node->is_open) return 0;
-    int error = layer_close(node->descriptor);
-    if (error) return error;
-    node->is_open = node->is_truncated = false;
-    return 0;
+int node_open_truncated(struct node *node) {
+    int error = layer_open_truncated(node->inode, &node->truncated);
+    node->is_truncated = error == 0;
+    return error;
+}
+
+int node_close_truncated(struct node *node) {
+    int error = node->is_truncated ? layer_close(node->truncated) : 0;
+    if (!error) node->is_truncated = false;
+    return error;
+}
+
+/* Closes the layer's descriptors. */
+static int close_all(struct node *node) {
+    int error = node_close_truncated(node);
+    if (!error && node->is_open) error = layer_close(node->descriptor);
+    if (!error) node->is_open = false;
+    return error;
 }
 
 void node_resized(struct node *node, uint64_t size) {
     node_counts.bytes += size - node->size;
     node->size = size;
+}
+
+void node_rest(struct node *node) {
+    if (is_directory(node) || node->links > 0 || node->opens > 0 || node->is_gone || close_all(node)) return;
+    node->is_gone = true;
+    node_resized(node, 0);
+    node_counts.files--;
+    node_counts.removed += node->unsynced;
+}
+
+void node_forget(struct node *node, uint64_t times) {
+    node->lookups -= times < node->lookups ? times : node->lookups;
+    if (node->is_over && node->lookups == 0) node_remove(node);
 }
 
 void node_measure(struct node *node) {
@@ -167,15 +186,62 @@ void nodes_visit(void (*visit)(const struct node *node, void *data), void *data)
         for (const struct node *node = table[at]; node; node = node->next) visit(node, data);
 }
 
-void nodes_write_back(void) {
-    for (size_t at = 0; at < table_size; at++)
-        for (struct node *node = table[at]; node; node = node->next)
-            if (node->unsynced > 0) node_sync(node, true);
+/* Removes the nodes that no crash finds any more, once all changes of names are durable. Those that the kernel knows stay so long. */
+static void drop_gone(void) {
+    for (size_t at = 0; at < table_size; at++) {
+        for (struct node *node = table[at], *next; node; node = next) {
+            next = node->next;
+            if (is_directory(node) ? node->links > 0 : !node->is_gone) continue;
+            node->is_over = true;
+            mark_synced(node);
+            node_forget(node, 0);
+        }
+    }
+    node_counts.removed = 0;
 }
 
-void nodes_synced(void) {
+/* Says that all changes of names are durable, and that the layer keeps none of them. */
+static void end_changes(void) {
+    node_counts.changes = 0;
+    drop_gone();
+}
+
+/* Makes all changes of names durable, as a kernel does from time to time. Bytes stay as they are. */
+static int commit(void) {
+    int error = layer_commit();
+    if (error) return error;
+    power.commits++;
+    end_changes();
+    return 0;
+}
+
+int nodes_make_room(void) { return node_counts.changes < node_limits.changes ? 0 : commit(); }
+
+static bool has_room_for(uint64_t len) { return node_counts.unsynced + len <= node_limits.bytes; }
+
+/* Syncs the bytes of all files. Errors are left to the next sync. */
+static void write_back(void) {
+    power.write_backs++;
+    for (size_t at = 0; at < table_size; at++)
+        for (struct node *node = table[at]; node; node = node->next)
+            if (node->unsynced > 0 && !node->is_gone) node_sync(node, true);
+}
+
+int nodes_make_room_unsynced(uint64_t len) {
+    if (has_room_for(len)) return 0;
+    if (len > node_limits.bytes) return ENOSPC;
+    int error = node_counts.removed > 0 ? commit() : 0;
+    if (!error && !has_room_for(len)) write_back();
+    return error ? error : has_room_for(len) ? 0 : ENOSPC;
+}
+
+int nodes_settle(void) {
+    int error = layer_settle();
+    if (error) return error;
     for (size_t at = 0; at < table_size; at++)
         for (struct node *node = table[at]; node; node = node->next) mark_synced(node);
+    end_changes();
+    return 0;
 }
 
 /* After a crash nothing is open, and the kernel's nodes are those of an older life. */
@@ -184,8 +250,8 @@ static void reset(void) {
     for (size_t at = 0; at < table_size; at++) {
         for (struct node *node = table[at]; node; node = node->next) {
             node->links = is_directory(node) ? 2 : 0;
-            node->opens = node->size = node->unsynced = 0;
-            node->is_open = node->is_truncated = node->is_gone = node->is_reached = false;
+            node->opens = node->lookups = node->size = node->unsynced = 0;
+            node->is_open = node->is_truncated = node->is_gone = node->is_over = node->is_reached = false;
         }
     }
 }

@@ -1,7 +1,7 @@
 /*
  * What the daemon keeps of each inode: its kind, mode, owner, times and counts, and the target of a symbolic link. The layer has the
  * names and the bytes. A node is kept by the number of its inode, so it survives a crash if the inode does. One without a name is
- * kept until the next crash too, which may bring a name back.
+ * kept as long as a crash may bring a name back or the kernel knows it.
  */
 #ifndef MOUNT_NODES_H
 #define MOUNT_NODES_H
@@ -23,13 +23,15 @@ struct node {
     char *target;
     uint64_t links;   /* names of a file; 2 and the directories in it of a directory */
     uint64_t opens;   /* by programs */
+    uint64_t lookups; /* how often the kernel got its number in this life, less what it forgot */
     uint64_t size;
     uint64_t unsynced; /* bytes written since the last sync */
-    uint64_t descriptor;
-    bool is_open; /* the descriptor is the layer's, of this life */
-    bool is_truncated; /* by an open, and not closed since */
-    bool is_gone;      /* no name, and not open: the layer doesn't count it any more */
-    bool is_reached;   /* used by nodes_recover */
+    uint64_t descriptor, truncated; /* the layer's, of this life: for all calls, and of the open that truncated */
+    bool is_open;                   /* whether there is the first */
+    bool is_truncated;              /* whether there is the second: no program has closed the file since that open */
+    bool is_gone;                   /* a file without a name that isn't open: the layer doesn't count it any more */
+    bool is_over;                   /* no name, not open, and no crash finds it */
+    bool is_reached;                /* used by nodes_recover */
     /* One of its names. NULL without memory. The name may have been removed. */
     uint64_t directory;
     char *name;
@@ -41,14 +43,15 @@ struct node_counts {
     uint64_t bytes;    /* those that count against the limit of the layer */
     uint64_t files;    /* files and directories that the layer counts */
     uint64_t unsynced; /* bytes written since the last sync of their files */
-    uint64_t changes;  /* of names, and truncations, since the last crash */
+    uint64_t removed;  /* those of them whose files are gone, which a crash may find */
+    uint64_t changes;  /* of names, and truncations, since the last commit or crash */
 };
 
 /* What bounds the memory. */
 struct node_limits {
     uint64_t bytes;   /* of all files; of all unsynced writes */
     uint64_t files;   /* files and directories */
-    uint64_t changes; /* of names, and truncations, between two crashes: the layer keeps each until then */
+    uint64_t changes; /* of names, and truncations, between two commits: the layer keeps each until then */
 };
 
 extern struct node_counts node_counts;
@@ -69,6 +72,8 @@ void node_add(struct node *node, uint64_t inode);
 void node_free(struct node *node);
 /* Closes a file that has no name and isn't open in a program. It doesn't count against the limits any more. */
 void node_rest(struct node *node);
+/* The kernel has forgotten the node so many times. */
+void node_forget(struct node *node, uint64_t times);
 
 /* Remembers a name of the node. */
 void node_name(struct node *node, uint64_t directory, const char *name);
@@ -77,18 +82,25 @@ bool node_path(const struct node *node, char *path, size_t capacity);
 
 /* Opens the layer's descriptor, if it isn't open. */
 int node_open(struct node *node);
-/* Closes it, if it is open. A program's open that truncated ends with it. */
-int node_close(struct node *node);
+/* Opens it and makes it empty, as a program's open does. The layer's other descriptor stays open: the file may have no name. */
+int node_open_truncated(struct node *node);
+/* Ends that open: a profile may make the bytes durable. */
+int node_close_truncated(struct node *node);
 /* Says which size the file has now. */
 void node_resized(struct node *node, uint64_t size);
 /* Asks the layer for the size. */
 void node_measure(struct node *node);
 /* Syncs its bytes in the layer. */
 int node_sync(struct node *node, bool only_data);
-/* Syncs the bytes of all files, as a kernel does that has too much to write back. Errors are left to the next sync. */
-void nodes_write_back(void);
-/* Says that all bytes are durable. */
-void nodes_synced(void);
+/* Makes room for one change of names or truncation more: commits if the layer has as many as it may keep. */
+int nodes_make_room(void);
+/*
+ * Makes room for so many unsynced bytes more, if there is none: commits if files are gone that have some, and then syncs the bytes of all
+ * files, as a kernel does that has too much to write back. ENOSPC if they are more than the limit.
+ */
+int nodes_make_room_unsynced(uint64_t len);
+/* Makes everything durable. */
+int nodes_settle(void);
 
 /* Sets times to the present. */
 void node_written(struct node *node);

@@ -13,7 +13,7 @@ struct power {
     bool is_counting;
     uint64_t calls_left; /* if it is counting: how many changing calls are made before the power goes off */
     uint64_t life;       /* 1, and one more with each crash */
-    uint64_t calls, changing_calls, stale_calls, write_backs;
+    uint64_t calls, changing_calls, stale_calls, write_backs, commits;
 };
 
 extern struct power power;

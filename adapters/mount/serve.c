@@ -1,5 +1,6 @@
 #include "serve.h"
 
+#include "cached.h"
 #include "calls.h"
 #include "power.h"
 
@@ -7,15 +8,13 @@
 #include <fcntl.h>
 #include <poll.h>
 #include <signal.h>
-#include <stdlib.h>
-#include <string.h>
 #include <sys/epoll.h>
 #include <sys/prctl.h>
 #include <unistd.h>
 
 enum {
     ENDED_MOST = 1 << 16, /* calls that a crash ends. A program that goes on after a power loss may make calls without end */
-    WATCHED_MOST = 32,
+    WATCHED_MOST = 128,
     READY_MOST = 8
 };
 
@@ -81,48 +80,25 @@ static void end_calls(void) {
     for (int ended = 0; ended < ENDED_MOST && !fuse_session_exited(session) && poll(&wait, 1, 0) > 0; ended++) take_call();
 }
 
-/* Names in the root. */
-struct names {
-    struct layer_name *list;
-    size_t count;
-};
-
-static void forget_name(const char *name) { fuse_lowlevel_notify_inval_entry(session, FUSE_ROOT_ID, name, strlen(name)); }
-
-/* Lets the kernel forget names in the root, and that names are missing which a crash brought back. Both lists are sorted. */
-static void forget_names(const struct names *before, const struct names *after) {
-    size_t at = 0;
-    for (size_t next = 0; next < after->count; next++) {
-        const char *name = after->list[next].name;
-        while (at < before->count && strcmp(before->list[at].name, name) < 0) forget_name(before->list[at++].name);
-        if (at < before->count && strcmp(before->list[at].name, name) == 0) at++;
-        forget_name(name);
-    }
-    while (at < before->count) forget_name(before->list[at++].name);
-}
-
-/* Crashes, and lists the names in the root before and after. */
-static int crash_between(struct layer_crash *crash, struct names *before, struct names *after) {
-    int error = layer_list(ROOT, &before->list, &before->count);
+/* Crashes, and lists what the kernel keeps before and after. */
+static int crash_between(struct layer_crash *crash, struct cached *before, struct cached *after) {
+    int error = cached_list(before);
     if (!error) error = power_crash(crash);
-    if (!error) error = layer_list(ROOT, &after->list, &after->count);
+    if (!error) error = cached_list(after);
     return error;
 }
 
 int serve_crash(struct layer_crash *crash, pid_t *child) {
-    struct names before = {NULL, 0}, after = {NULL, 0};
+    struct cached before = {0}, after = {0};
     end_calls();
     int error = crash_between(crash, &before, &after);
     if (!error) {
         *child = fork();
         if (*child < 0) error = errno;
-        if (*child == 0 && prctl(PR_SET_PDEATHSIG, SIGKILL) == 0) {
-            forget_names(&before, &after);
-            fuse_lowlevel_notify_inval_inode(session, FUSE_ROOT_ID, -1, 0);
-        }
+        if (*child == 0 && prctl(PR_SET_PDEATHSIG, SIGKILL) == 0) cached_forget(session, &before, &after);
     }
-    free(before.list);
-    free(after.list);
+    cached_free(&before);
+    cached_free(&after);
     return error;
 }
 
