@@ -242,7 +242,10 @@ def test_limits_leave_subtrees():
     assert explore(torn, settings=PREFIX, runs=9).complete
     visited = explore(torn, settings=PREFIX, seconds=0)
     assert visited.runs == 1 and visited.rest[0] == "0 0 0 0 0 0 0 max" and not visited.complete
-    assert explore(torn, settings=PREFIX, runs=0).rest == ("",)
+    for nothing in ({"runs": 0}, {"under": ()}):
+        assert "nothing to explore" in str(raises(ValueError, explore, torn, settings=PREFIX, **nothing))
+    for no_seeds in (0, [], range(3, 3)):
+        assert "no seeds" in str(raises(ValueError, seeds, torn, no_seeds, settings=PREFIX))
 
 
 def test_what_is_no_argument():

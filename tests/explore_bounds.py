@@ -14,7 +14,7 @@ from explore_bodies import PREFIX, forgets, raises, synced, torn, unreached
 from passing import run_tests
 
 import blobcrash
-from blobcrash import Failed, Library, NotDeterministic, PowerLoss, StorageError, TooLong, explore, seeds, shrink
+from blobcrash import Failed, Library, NoRuns, NotDeterministic, PowerLoss, StorageError, TooLong, explore, seeds, shrink
 
 
 class Caller:
@@ -161,21 +161,23 @@ def test_a_run_that_is_under_way_ends_with_the_time():
         if store.choose(2):
             slow(store)
 
-    for body in (slow, slow_after_one):
-        began = time.monotonic()
-        visited = explore(body, seconds=0.5)
-        assert 0.4 < time.monotonic() - began < 5, body
-        assert (visited.runs, visited.rest) == ((0, ("",)) if body is slow else (1, ("1/2",))), visited
-        with ThreadPoolExecutor(2) as pool:
-            visited = explore(body, seconds=0.5, executor=pool)
-            assert (visited.runs, visited.rest) == ((0, ("",)) if body is slow else (1, ("1/2",))), visited
+    with ThreadPoolExecutor(2) as pool:
+        for executor in (None, pool):
+            began = time.monotonic()
+            visited = explore(slow_after_one, seconds=0.5, executor=executor)
+            assert 0.4 < time.monotonic() - began < 5, executor
+            assert (visited.runs, visited.rest) == (1, ("1/2",)), visited
+            # Nothing was checked.
+            began = time.monotonic()
+            none = raises(NoRuns, explore, slow, seconds=0.5, executor=executor)
+            assert 0.4 < time.monotonic() - began < 5, executor
+            assert pickle.loads(pickle.dumps(none)).rest == ("",) and "nothing was checked" in str(none)
     began = time.monotonic()
     found = seeds(lambda store: slow(store) if store.seed == 2 else None, 5, seconds=0.5, by=Library)
     assert found == (2, (2, 3, 4)) and time.monotonic() - began < 5, found
-    assert seeds(slow, 5, seconds=0, by=Library) == (0, (0, 1, 2, 3, 4))
+    assert raises(NoRuns, seeds, slow, 5, seconds=0, by=Library).rest == (0, 1, 2, 3, 4)
     with ThreadPoolExecutor(2) as pool:
-        found = seeds(slow, [7], seconds=0.5, executor=pool, by=Library)
-        assert found == (0, (7,)), found
+        assert raises(NoRuns, seeds, slow, [7], seconds=0.5, executor=pool, by=Library).rest == (7,)
     # The first run is given a second: a search that is continued gets on.
     assert explore(lambda store: (time.sleep(0.2), store.crash()) and None, seconds=0).complete
 

@@ -11,7 +11,7 @@ sys.path.insert(0, os.path.join(TOP, "bindings", "python"))
 
 from passing import raises, run_tests
 
-from blobcrash import BadLine, Failed, Files, Injected, NotDeterministic, PowerLoss, TooLong, explore, seeds, shrink
+from blobcrash import BadLine, Failed, Files, Injected, NoRuns, NotDeterministic, PowerLoss, TooLong, explore, seeds, shrink
 from files import get, put
 
 HALF = ["write 0 1 1 2 sectors 4"]
@@ -139,8 +139,7 @@ def test_bodies_that_go_wrong():
     assert "mkdir /d" in str(error), error
     error = raises(TooLong, explore, endless, files="xfs", calls_per_run=50)
     assert error.script == ["profile xfs"], error.script
-    visited = explore(endless, files="xfs", seconds=0.01, calls_per_run=10**9)
-    assert visited.runs == 0 and not visited.complete
+    assert raises(NoRuns, explore, endless, files="xfs", seconds=0.01, calls_per_run=10**9).rest == ("",)
     kept = []
     explore(kept.append, files=True)
     assert "the store's run has ended" in str(raises(ValueError, kept[0].mkdir, "/d"))
@@ -159,8 +158,7 @@ def test_seeds():
     failed = raises(Failed, seeds, forgets, 100, files="xfs")
     assert failed.path.startswith("seed ") and failed.script[1] == "profile xfs" and "its calls:" in str(failed)
     raises(Failed, seeds, forgets, [int(failed.path.split()[1])], files="xfs")
-    late = seeds(endless, 3, files="xfs", seconds=0.05)
-    assert late == (0, (0, 1, 2))
+    assert raises(NoRuns, seeds, endless, 3, files="xfs", seconds=0.05).rest == (0, 1, 2)
 
 
 def test_shrinks():

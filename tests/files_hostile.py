@@ -37,11 +37,11 @@ def test_hostile_names():
                 refused(*kind, files.open, path, "xb")
                 refused(*kind, files.open, path, "wb")
                 assert not files.exists(path)
-        for root in ("", "/", "//"):
-            for call in (files.unlink, files.mkdir, files.rmdir, files.open):
-                refused(*invalid, call, root)
-            refused(*invalid, files.rename, root, "/g")
-            refused(*invalid, files.rename, "/d", root)
+        for empty in ("", b""):
+            for call in on_path:
+                refused(FileNotFoundError, errno.ENOENT, "NotFound", call, empty)
+            assert not files.exists(empty)
+        for root in ("/", "//"):
             assert files.exists(root) and files.listdir(root) == ["d", "f"]
             files.fsync_directory(root)
         refused(*invalid, files.mkdir, "/d/../e")

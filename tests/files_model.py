@@ -26,7 +26,7 @@ class Profile(NamedTuple):
 
 
 PROFILES = {
-    "ext4": Profile(True, "all", True, True),
+    "ext4": Profile(True, "up to its last change", True, True),
     "xfs": Profile(True, "up to its last", False, False),
     "btrfs": Profile(True, "its names", False, False),
     "posix": Profile(False, "its own", False, False),
@@ -53,8 +53,10 @@ class File:
 
     def __init__(self):
         self.live, self.durable, self.pending = b"", b"", []
-        self.synced = self.grown = 0
-        self.is_changed = self.is_truncated = False
+        self.synced = 0
+        # The number of the next edit at its last write, and after the last write or truncation that changed its size.
+        self.written = self.grown = 0
+        self.is_truncated = False
         # What reads return in place of the live bytes, after a failed sync that dropped some.
         self.shown = None
 
@@ -212,7 +214,7 @@ class Model(Names):
     def write(self, asked):
         file = self.files[self.inode_of(asked)]
         before = len(file.seen())
-        file.live, file.is_changed = written(file.live, asked.first, asked.path), True
+        file.live, file.written = written(file.live, asked.first, asked.path), self.next_edit
         if file.shown is not None:
             file.shown = written(file.shown, asked.first, asked.path)
         if len(file.seen()) > before:
@@ -233,9 +235,9 @@ class Model(Names):
             length = self.draw_between(length, len(file.seen()))
         if length == len(file.seen()):
             return
-        file.is_changed = True
         file.pending.append(Truncation(length, self.next_edit))
         self.bind([], [inode], [inode])
+        file.grown = self.next_edit
         file.live = resized(file.live, length)
         if file.shown is not None:
             file.shown = resized(file.shown, length)
@@ -254,6 +256,9 @@ class Model(Names):
 
     def settle_where(self, holds):
         self.settled |= {edit.number for edit in self.edits if holds(edit)}
+
+    def settle_before(self, end):
+        self.settle_where(lambda edit: edit.number < end)
 
     def unsettled(self):
         return [edit for edit in self.edits if edit.number not in self.settled]
@@ -275,14 +280,13 @@ class Model(Names):
         file = self.files[inode]
         if self.lies:
             return
-        was_changed, is_resized = file.is_changed, file.synced != len(file.live)
         self.sync_bytes(file)
-        file.is_changed = data and was_changed and not is_resized
-        if self.profile.settles == "all" and ((is_resized if data else was_changed) or self.after_last(inode)):
-            self.settle_where(lambda edit: True)
+        if self.profile.settles == "up to its last change" and not data:
+            self.settle_before(max(self.after_last(inode), file.written))
+        elif self.profile.settles == "up to its last change":
+            self.settle_before(file.grown)
         elif self.profile.settles == "up to its last":
-            end = max(self.after_last(inode), file.grown)
-            self.settle_where(lambda edit: edit.number < end)
+            self.settle_before(max(self.after_last(inode), file.grown))
         elif self.profile.settles == "its names":
             self.settle_names(inode)
         elif self.profile.settles == "its own":
@@ -303,11 +307,10 @@ class Model(Names):
         directory = self.directory_of(asked.path)
         if self.lies:
             return
-        if self.profile.settles == "all":
+        if self.profile.settles == "up to its last change":
             self.settle_where(lambda edit: True)
         elif self.profile.settles == "up to its last":
-            end = self.after_last(directory)
-            self.settle_where(lambda edit: edit.number < end)
+            self.settle_before(self.after_last(directory))
         else:
             if self.profile.settles == "its names":
                 self.settle_names(directory)
@@ -319,13 +322,12 @@ class Model(Names):
         for inode, file in sorted(self.files.items()):
             if inode not in self.gone:
                 self.sync_bytes(file)
-                file.is_changed = False
         self.settle_where(lambda edit: True)
 
     def settle(self, asked):
         for file in self.files.values():
             file.flush()
-            file.is_changed, file.shown = False, None
+            file.shown = None
         self.settle_where(lambda edit: True)
 
     def configure(self, asked):
@@ -359,20 +361,21 @@ class Model(Names):
 
     def crash_bytes(self, file, kept):
         """Leaves the durable bytes of a file with what is kept of its writes and truncations, and cuts it if the profile does."""
-        data, synced = file.durable, file.synced
+        # The size from which it is cut: that of its last sync, or of its last truncation that is kept.
+        data, sure = file.durable, file.synced
         for change in file.pending:
             if isinstance(change, Write):
                 data = self.with_kept(data, change)
             elif change.edit in kept:
-                data, synced = resized(data, change.length), min(synced, change.length)
-        if self.profile.cuts and len(data) > synced:
-            end = synced
+                data, sure = resized(data, change.length), change.length
+        if self.profile.cuts and len(data) > sure:
+            end = sure
             while end < min(len(data), len(file.live)) and data[end] == file.live[end]:
                 end += 1
             data = data[:end]
         file.live, file.shown = data, None
         file.flush()
-        file.is_changed, file.grown = False, 0
+        file.written = file.grown = 0
 
     def with_kept(self, data, write):
         """Data with the sectors of a write that a crash keeps."""

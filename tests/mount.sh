@@ -189,6 +189,20 @@ run tools/crash_run --seeds 2 --stop-after 1000 --fault 'syncs lie' --out "$work
 ok 'syncs that lie' [ "$status" -eq 1 ]
 run tools/crash_run --seeds 1 --work true --check false
 ok 'a check that fails without a crash' [ "$status" -eq 2 ]
+run tools/crash_run --seeds 1 --work true --check true
+ok 'a workload that changes nothing' [ "$status" -eq 2 ]
+ok 'says so' grep -q '^crash_run: --start and --work change nothing' "$work/err"
+run tools/crash_run --seeds 1 --stop-after 0 --work true --check true
+ok 'no call to stop after' [ "$status" -eq 2 ]
+# Of some of these seeds the check fails in a recovery in which the power was to go off too.
+# shellcheck disable=SC2016
+run tools/crash_run --seeds 5 --out "$work/recovery" --work 'for i in 1 2 3; do echo $i >"$MOUNT/f$i"; done; sync' \
+    --check 'touch "$MOUNT/checked"; test -e "$MOUNT/f3"'
+for kept in "$work/recovery"/seed-*; do
+    tree=$(cd "$kept/tree" && for name in *; do [ ! -e "$name" ] || printf ' /%s' "$name"; done)
+    replayed=$( (cat "$kept/run.script"; echo tree) | ./blobcrash files | tail -n 1 | sed 's/=[^ ]*//g')
+    ok "the tree of ${kept##*/} is that of its record" [ "$replayed" = "tree$tree" ]
+done
 
 # SQLite deletes its journal after a commit, and syncs the folder only at EXTRA.
 crash_sqlite() {

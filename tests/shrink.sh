@@ -117,7 +117,7 @@ reopen
 open p 62
 SCRIPT
 judged 'content that this script has not written' 'judge: no acknowledgement counts: the script has not written or read those bytes there before
-status 0' <<'SCRIPT'
+status 2' <<'SCRIPT'
 open p 62
 # acknowledged p 62 0 6162
 crash
@@ -179,10 +179,21 @@ crash
 reopen
 SCRIPT
 judged 'a script without an acknowledgement' 'judge: the script acknowledges nothing: it has no comment `# acknowledged PARTITION NAME OFFSET HEX`
-status 0' <<'SCRIPT'
+status 2' <<'SCRIPT'
 open p 62
 crash
 reopen
+SCRIPT
+judged 'an acknowledgement without a crash' 'judge: no acknowledgement counts: no crash and reopen follow one
+status 2' <<'SCRIPT'
+open p 62
+writes 0 0 61
+crash
+reopen
+open p 62
+writes 1 0 61
+# acknowledged p 62 0 61
+crash
 SCRIPT
 judged 'the second of two crashes' 'line 10: acknowledged p 62 0 61, found 00
 status 1' <<'SCRIPT'

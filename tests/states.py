@@ -310,6 +310,23 @@ def test_a_limit_takes_the_least_and_the_greatest_losses_first():
     assert len(list(whole)) == 2 and whole.outcomes == 2 and whole.complete
 
 
+def test_a_line_without_a_crash():
+    script = "profile ext4\ncreate /f # is 0\nsize 0\nwrite 0 0 61\n"
+    for at in (3, 5, 99, -1):
+        error = raises(ValueError, list, CrashStates(script, files=True, at=at))
+        assert str(error) == f"there is no crash after line {at}: there are crashes after the lines 0 2 4", error
+    with tempfile.TemporaryDirectory() as work:
+        path = os.path.join(work, "script")
+        with open(path, "w", encoding="utf-8") as file:
+            file.write(script)
+        ran = command("--files", "--at", "99", path, "--", "true")
+        assert (ran.returncode, ran.stdout) == (2, "") and ran.stderr.startswith("states: there is no crash after line 99: "), ran
+        with open(path, "w", encoding="utf-8"):
+            pass
+        # Before the first line there is a crash too.
+        assert command(path, "--", "true").stdout == "1 crashes, 1 outcomes, 1 states, all of them; 0 fail\n"
+
+
 def test_a_crash_in_the_record_keeps_what_it_kept():
     script = "words max 0 0 0\nconfig write 0 1 1 2 subset\nopen p 61\nwrite 0 0 6162\ncrash\nreopen\nopen p 61\nsync 1\n"
     states = list(CrashStates(script))

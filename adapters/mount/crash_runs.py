@@ -159,6 +159,8 @@ class Run:
         status = self.command("check")
         if status != 0:
             raise Broken(f"--check without a crash: {status}{self.tail()}")
+        if not calls:
+            raise Broken("--start and --work change nothing, so that there is no call after which the power could go off")
         return calls
 
     def judge(self, calls):
@@ -166,7 +168,7 @@ class Run:
         if not self.options.no_record:
             self.mount.ask(f"record {self.folder}/run.script")
         self.prepare()
-        self.mount.ask(f"crash-after {self.random.randint(1, max(calls, 1))}")
+        self.mount.ask(f"crash-after {self.random.randint(1, calls)}")
         for fault in self.options.fault:
             self.mount.ask(fault)
         if self.command("start") == 0:
@@ -174,24 +176,46 @@ class Run:
         self.crash()
         self.end_faults()
         if self.random.random() < 1 / 3:
+            self.keep_tree()
             self.mount.ask(f"crash-after {self.random.randint(1, max(calls // 4, 4))}")
             verdict = self.recover()
             if verdict is not None and verdict != "held":
+                self.end_record()
+                self.cut_record()
                 return verdict
             self.crash()
+        self.end_record()
         self.keep_tree()
         verdict = self.recover()
         if verdict is None:
             raise Broken("the power went off without a command")
         return verdict
 
-    def keep_tree(self):
-        """Copies what is durable. The record ends with the crash before."""
+    def end_record(self):
+        """Ends the record."""
+        if self.options.no_record:
+            return
         try:
             self.mount.ask("record stop")
         except Failed as error:
             self.log.write(f"# the record isn't complete: {error}\n".encode())
-        command = ["cp", "-a", "--", os.path.join(self.mount.at, "."), os.path.join(self.folder, "tree")]
+
+    def cut_record(self):
+        """Cuts what a recovery has added to the record. It ends with the crash before."""
+        path = os.path.join(self.folder, "run.script")
+        if not os.path.exists(path):
+            return
+        with open(path, "rb+") as file:
+            lines = file.read().splitlines(keepends=True)
+            ends = [number for number, line in enumerate(lines, 1) if line.split()[:1] == [b"crash"]]
+            if ends:
+                file.truncate(len(b"".join(lines[: ends[-1]])))
+
+    def keep_tree(self):
+        """Copies what is durable after a crash."""
+        tree = os.path.join(self.folder, "tree")
+        shutil.rmtree(tree, ignore_errors=True)
+        command = ["cp", "-a", "--", os.path.join(self.mount.at, "."), tree]
         if subprocess.run(command, stderr=self.log).returncode:
             self.log.write(b"# the tree isn't complete\n")
 

@@ -22,7 +22,8 @@ a third of the seeds the power goes off in that recovery too.
   --profile, --tear, --keep, --size, --allow-other   as for tools/mount
 
 A command is run by sh in this folder, with MOUNT, the folder of the mount, ACKNOWLEDGED and SEED in the environment.
-Exit statuses: 0 if nothing failed; 1 if a seed failed; 2 for bad options, or if the check fails without a crash; 3 without FUSE.
+Exit statuses: 0 if nothing failed; 1 if a seed failed; 2 for bad options, if the check fails without a crash, or if the start and the
+workload change nothing; 3 without FUSE.
 
 From Python: `main(words, executor)` of this module with the words of a command line and an executor of `concurrent.futures`, which may
 be that of a cluster: each seed is a process of its own on one of its workers. The repository has the same path on each of them.
@@ -69,8 +70,8 @@ def parse(words):
         parser.add_argument("--" + name, required=True)
     parser.add_argument("--one", choices=("measure", "judge"), help=argparse.SUPPRESS)  # by a worker: one seed, with a line of JSON
     options = parser.parse_args(words)
-    if options.seeds < 1 or options.first < 0 or options.jobs < 1:
-        parser.error("--seeds and --jobs are at least 1, and --first at least 0")
+    if options.seeds < 1 or options.first < 0 or options.jobs < 1 or (options.stop_after is not None and options.stop_after < 1):
+        parser.error("--seeds, --jobs and --stop-after are at least 1, and --first at least 0")
     return options
 
 
@@ -145,7 +146,9 @@ def run_all(options, words, executor, at_once):
         crashes += result["crashes"]
         acknowledged += result["acknowledged"]
         if result["kept"]:
-            print(f"seed {seed}: {result['verdict']}{result['tail']}\n  the durable tree: {result['kept']}/tree", flush=True)
+            print(f"seed {seed}: {result['verdict']}{result['tail']}", flush=True)
+            if os.path.exists(os.path.join(result["kept"], "tree")):
+                print(f"  the durable tree: {result['kept']}/tree", flush=True)
             tool = os.path.relpath(TOOL) if os.path.samefile(TOP, ".") else TOOL
             script = os.path.join(result["kept"], "run.script")
             if os.path.exists(script):

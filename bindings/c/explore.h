@@ -6,12 +6,14 @@
  *
  *     struct blobcrash_paths paths = {0};
  *     struct blobcrash_session session = {0};
- *     while (blobcrash_next_run(&paths, &session, settings) == BLOBCRASH_EXPLORE_RUN) {
+ *     int status;
+ *     while ((status = blobcrash_next_run(&paths, &session, settings)) == BLOBCRASH_EXPLORE_RUN) {
  *         ... calls of the session, the same ones for the same replies ...
  *         if (blobcrash_end_run(&paths, &session) == BLOBCRASH_EXPLORE_RUN) {
  *             ... the run counts: check its result ...
  *         }
  *     }
+ *     ... fail unless `status` is BLOBCRASH_EXPLORE_END: with bad settings, for example, nothing was run ...
  *     blobcrash_free_paths(&paths);
  *
  * Power losses, and the script of a run: blobcrash_explored_call and blobcrash_repeat_run. explore_log.c has an example of both. Files

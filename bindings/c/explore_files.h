@@ -3,12 +3,15 @@
  *
  *     struct blobcrash_paths paths = {.power_losses = 1};
  *     struct blobcrash_files files = {0};
- *     while (blobcrash_next_files_run(&paths, &files, "profile xfs\nconfig write 0 1 1 2 sectors 512\n") == BLOBCRASH_EXPLORE_RUN) {
+ *     const char *settings = "profile xfs\nconfig write 0 1 1 2 sectors 512\n";
+ *     int status;
+ *     while ((status = blobcrash_next_files_run(&paths, &files, settings)) == BLOBCRASH_EXPLORE_RUN) {
  *         ... explored calls of the files, the same ones for the same replies ...
  *         if (blobcrash_end_files_run(&paths, &files) == BLOBCRASH_EXPLORE_RUN) {
  *             ... the run counts: check its result ...
  *         }
  *     }
+ *     ... fail unless `status` is BLOBCRASH_EXPLORE_END ...
  *     blobcrash_free_paths(&paths);
  *
  * With `paths.power_losses` the power may fail at each explored call that may change what a crash leaves. This call and all later ones

@@ -11,7 +11,7 @@ from typing import Callable, List
 from .checking import check
 from .cutting import cut, cut_lines, loses
 from .errors import BadLine, LibraryMissing
-from .judging import Verdict, judge, verdict
+from .judging import verdict
 
 
 class OutputFailed(Exception):
@@ -41,7 +41,7 @@ def check_command(arguments: List[str]) -> int:
 
 
 def judge_command(arguments: List[str]) -> int:
-    """Prints what a script loses of acknowledged content. Status 1 if it loses some, 2 if it can't be judged."""
+    """Prints what a script loses of acknowledged content. Status 1 if it loses some, 2 if it can't be judged or acknowledges nothing."""
     try:
         found = verdict(read(arguments))
         write((found.lost + "\n").encode() if found.lost is not None else b"")
@@ -54,15 +54,10 @@ def judge_command(arguments: List[str]) -> int:
     except (OSError, MemoryError) as error:
         print(f"judge: {error or 'no memory'}", file=sys.stderr)
         return 2
-    if found.counted == 0:
-        print(f"judge: {_none_counts(found)}", file=sys.stderr)
+    if found.nothing is not None:
+        print(f"judge: {found.nothing}", file=sys.stderr)
+        return 2
     return int(found.lost is not None)
-
-
-def _none_counts(found: Verdict) -> str:
-    if not found.found:
-        return "the script acknowledges nothing: it has no comment `# acknowledged PARTITION NAME OFFSET HEX`"
-    return "no acknowledgement counts: the script has not written or read those bytes there before"
 
 
 def read(arguments: List[str]) -> bytes:
@@ -87,7 +82,7 @@ def shrink_command(arguments: List[str]) -> int:
             fails = _command(arguments[1:], os.path.join(folder, "script")) if arguments[1:] else loses
             if not arguments[1:]:
                 # A bad line isn't a loss.
-                judge(script)
+                verdict(script)
             if not fails(script):
                 print("shrink: the whole script doesn't fail", file=sys.stderr)
                 return 1

@@ -9,7 +9,7 @@ from dataclasses import replace
 from typing import Callable, Iterator, List, Optional, Sequence, Tuple, TypeVar
 
 from .errors import BadLine
-from .judging import Acknowledged, judge
+from .judging import Acknowledged, verdict
 from .played import Played, play
 from .recorded import Lines, Needs, record
 
@@ -20,7 +20,7 @@ Fails = Callable[[str], bool]
 def loses(script: str) -> bool:
     """Whether a script loses content that it says is acknowledged."""
     try:
-        return judge(script) is not None
+        return verdict(script).lost is not None
     except BadLine:
         return False
 

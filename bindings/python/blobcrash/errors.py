@@ -3,7 +3,7 @@
 from __future__ import annotations
 
 import errno
-from typing import Dict, Optional, Tuple, Type
+from typing import Any, Dict, Iterable, Optional, Tuple, Type
 
 
 class StorageError(Exception):
@@ -125,6 +125,17 @@ class BadLine(ValueError):
 
 class NeedsSeed(ValueError):
     """A rate needs random draws, and the store has neither a seed nor words."""
+
+
+class NoRuns(RuntimeError):
+    """The time was over before a run had ended, so that nothing was checked. `rest` are the subtrees, or the seeds, that are left."""
+
+    def __init__(self, rest: Iterable[Any]) -> None:
+        super().__init__("the time was over before a run had ended: nothing was checked")
+        self.rest = tuple(rest)
+
+    def __reduce__(self) -> Any:
+        return NoRuns, (self.rest,)
 
 
 class StaleHandle(RuntimeError):

@@ -23,6 +23,7 @@ from typing import Any, Callable, Dict, Iterable, List, NamedTuple, Optional, Tu
 
 from .bodies import check_body, check_result
 from .bounds import CALLS_PER_RUN, FIRST_RUN, Bounds, RunEnded
+from .errors import NoRuns
 from .failures import Failed, TooLong, reason_of, reporter
 from .file_calls import FileCall
 from .file_follow import ExploredFiles
@@ -140,7 +141,9 @@ def explore(
 
     Raises `Failed`, with a script, for the first run in which the body raises; `report` is a file for a page that shows it. `TooLong`,
     with the script so far, for a run with more calls or draws. `NotDeterministic` if the body makes other calls along the same path.
-    `LostWork` if workers are lost. `ValueError` or `TypeError` for an invalid argument, before the body is called. `TypeError` too for a body that hasn't run when it returns: a generator or a coroutine.
+    `LostWork` if workers are lost. `NoRuns` if the time is over before a run has ended. `ValueError` or `TypeError` for an invalid
+    argument, before the body is called: also for no runs and no subtrees. `TypeError` too for a body that hasn't run when it returns: a
+    generator or a coroutine.
     """
     check_body(body)
     if getattr(_running, "is_on", False):
@@ -166,6 +169,8 @@ def explore(
         raise ValueError("an exploration counts the draws of its runs, which only `by=Library` can")
     most = MAX if runs is None else number(runs, "a number of runs")
     subtrees = [text_of(path_of(path)) for path in ([under] if isinstance(under, str) else under)]
+    if not most or not subtrees:
+        raise ValueError(f"there is nothing to explore: no {'runs' if subtrees else 'subtrees'}")
     now = time.monotonic()
     until = now + seconds_of(seconds)
     show = reporter(report, profile is not None)
@@ -179,6 +184,8 @@ def explore(
     except Failed as failed:
         show(failed)
         raise
+    if not part.runs:
+        raise NoRuns(part.rest)
     return Explored(part.runs, part.outcomes, tuple(part.rest), part.met)
 
 

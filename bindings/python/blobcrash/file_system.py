@@ -10,6 +10,7 @@ from .errors import BadLine, Interrupted, NeedsSeed, NotMade, WrongThread
 from .file_calls import FileCall, Kept, reply_text
 from .file_errors import error_of
 from .file_library import files_way
+from .file_paths import Path, bytes_of, check_link, check_one, check_rename, is_plain, is_root, named
 from .file_power import FileSupply
 from .file_settings import file_setting_line, profile_of
 from .foreign_files import EXCHANGES, IS_DIRECTORY, REFUSES, REPLACES, Refusal
@@ -17,7 +18,6 @@ from .grammar import comment_lines, number, text_of
 from .open_file import OpenFile, plain_mode
 from .power import PowerLoss, Supply
 
-Path = Union[str, bytes, "os.PathLike[Any]"]
 # The refusals by which a path has no file.
 _MISSING = frozenset(("NotFound", "NotDirectory", "InvalidName", "NameTooLong"))
 
@@ -39,7 +39,7 @@ class Files:
     `xfs`, `btrfs` or `posix`. `settings` are those of `configure`, from the start. `by` is the way to the layer: `FilesLibrary`.
 
     The calls have the names of `os`. A path is a `str`, `bytes` or an `os.PathLike`, of names, each after a slash, from the root on; `.` and
-    `..` are no names. A refused call raises the `OSError` that `os` would raise, whose `refusal` names why; an injected fault is
+    `..` are no names, and a path that ends with a slash is one of a directory. A refused call raises the `OSError` that `os` would raise, whose `refusal` names why; an injected fault is
     `Injected`, with EIO.
 
     Raises `NeedsSeed` if a setting needs random draws and there is neither a seed nor a word, and `ValueError` or `TypeError` for an
@@ -114,7 +114,8 @@ class Files:
         Raises `FileNotFoundError`, `FileExistsError` for `x`, `IsADirectoryError`, `NotADirectoryError`.
         """
         plain = plain_mode(mode)
-        name = _bytes_of(path)
+        name = named(path)
+        check_one(self, {"x": "make", "r": "open"}.get(plain[0], "create"), path, name)
         word = "open"
         if plain[0] == "x" or (plain[0] in "wa" and not self._has(name)):
             word = "create"
@@ -122,6 +123,8 @@ class Files:
             word = "open_truncated"
         descriptor = self._call(FileCall(word, path=name), path).number
         opened = self._opened[descriptor] = OpenFile(self, descriptor, path, mode)
+        if plain[0] == "a":
+            opened._at = self._call(FileCall("size", descriptor), path, False).size
         return opened
 
     def rename(self, old: Path, new: Path, *, replaces: bool = True) -> None:
@@ -129,7 +132,7 @@ class Files:
 
         Without `replaces` that raises `FileExistsError`.
         """
-        self._on_two("rename", old, new, REPLACES if replaces else REFUSES)
+        self._rename(old, new, REPLACES if replaces else REFUSES)
 
     def replace(self, old: Path, new: Path) -> None:
         """Does what `rename` does."""
@@ -137,11 +140,18 @@ class Files:
 
     def exchange(self, one: Path, other: Path) -> None:
         """Exchanges two names, in one step. Both have to be there."""
-        self._on_two("rename", one, other, EXCHANGES)
+        self._rename(one, other, EXCHANGES)
 
     def link(self, old: Path, new: Path) -> None:
         """Gives a file a second name."""
-        self._on_two("link", old, new)
+        name, to = bytes_of(old), bytes_of(new)
+        if not (is_plain(name) and is_plain(to)):
+            check_link(self, old, name, new, to)
+        try:
+            self._call(FileCall("link", path=name, to=to), old, True, new)
+        except IsADirectoryError:
+            check_link(self, old, name, new, to)
+            raise
 
     def unlink(self, path: Path) -> None:
         """Removes a name of a file. An open file stays readable."""
@@ -157,12 +167,12 @@ class Files:
 
     def makedirs(self, path: Path, exist_ok: bool = False) -> None:
         """Makes a directory and those above it that are missing."""
-        names = [name for name in _bytes_of(path).split(b"/") if name]
+        names = [name for name in named(path).split(b"/") if name]
         for count in range(1, len(names)):
             above = b"/" + b"/".join(names[:count])
             if not self._has(above):
                 self._call(FileCall("mkdir", path=above), path)
-        if not (exist_ok and self._is_directory(_bytes_of(path))):
+        if not (exist_ok and self._is_directory(bytes_of(path))):
             self.mkdir(path)
 
     def rmdir(self, path: Path) -> None:
@@ -178,13 +188,14 @@ class Files:
 
     def exists(self, path: Path) -> bool:
         """Returns whether a path leads to a file or a directory."""
-        return self._has(_bytes_of(path))
+        return self._has(bytes_of(path))
 
     def stat(self, path: Path) -> FileStatus:
         """Returns the size, the kind and the inode of a file or a directory."""
-        name = _bytes_of(path)
-        if not name.strip(b"/"):
+        name = named(path)
+        if is_root(name):
             return FileStatus(0, "directory", 1)
+        check_one(self, "find", path, name)
         found = self._call(FileCall("find", path=name), path, False)
         kind = "directory" if found.kind == IS_DIRECTORY else "file"
         return FileStatus(found.size, kind, found.number)
@@ -272,10 +283,20 @@ class Files:
         return line
 
     def _on(self, word: str, path: Path) -> Any:
-        return self._call(FileCall(word, path=_bytes_of(path)), path)
+        name = named(path)
+        check_one(self, word, path, name)
+        return self._call(FileCall(word, path=name), path)
 
-    def _on_two(self, word: str, path: Path, to: Path, how: int = 0) -> None:
-        self._call(FileCall(word, first=how, path=_bytes_of(path), to=_bytes_of(to)), path, True, to)
+    def _rename(self, old: Path, new: Path, how: int) -> None:
+        name, to = bytes_of(old), bytes_of(new)
+        if not (is_plain(name) and is_plain(to)):
+            check_rename(self, old, name, new, to, how)
+        try:
+            self._call(FileCall("rename", first=how, path=name, to=to), old, True, new)
+        except OSError as error:
+            if getattr(error, "refusal", None) in ("IsDirectory", "Loop", "NameTooLong"):
+                check_rename(self, old, name, new, to, how)
+            raise
 
     def _on_file(self, word: str, file: OpenFile) -> None:
         if not isinstance(file, OpenFile) or file._files is not self:
@@ -284,11 +305,13 @@ class Files:
         file._ask(word)
 
     def _has(self, name: bytes) -> bool:
-        return not name.strip(b"/") or self._found(name) is not None
+        """Whether a path leads to anything: with a slash at its end, to a directory."""
+        found = None if is_root(name) or not name else self._found(name)
+        return is_root(name) or (found is not None and (found.kind == IS_DIRECTORY or not name.endswith(b"/")))
 
     def _is_directory(self, name: bytes) -> bool:
-        found = self._found(name)
-        return not name.strip(b"/") or (found is not None and found.kind == IS_DIRECTORY)
+        found = self._found(name) if name else None
+        return is_root(name) or (found is not None and found.kind == IS_DIRECTORY)
 
     def _found(self, name: bytes) -> Any:
         """What a path leads to, or `None`. It makes no draw, and isn't in the script."""
@@ -350,9 +373,3 @@ class Files:
         elif is_shown:
             self._lines.append((asked, ""))
         self._cause = error
-
-
-def _bytes_of(path: Path) -> bytes:
-    """A path as bytes. Raises `TypeError`."""
-    path = os.fspath(path)
-    return path if type(path) is bytes else path.encode("utf-8", "surrogateescape") if isinstance(path, str) else bytes(path)

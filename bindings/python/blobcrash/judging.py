@@ -62,11 +62,23 @@ class Released(NamedTuple):
 
 
 class Verdict(NamedTuple):
-    """What a script loses, and how many of its acknowledgements count, of how many."""
+    """What a script loses, and how many acknowledgements it has, how many of them are of what it wrote or read, and how many count."""
 
     lost: Optional[str]
-    counted: int
     found: int
+    known: int
+    counted: int
+
+    @property
+    def nothing(self) -> Optional[str]:
+        """Why nothing was judged, or `None` if an acknowledgement counts."""
+        if self.counted:
+            return None
+        if not self.found:
+            return "the script acknowledges nothing: it has no comment `# acknowledged PARTITION NAME OFFSET HEX`"
+        if not self.known:
+            return "no acknowledgement counts: the script has not written or read those bytes there before"
+        return "no acknowledgement counts: no crash and reopen follow one"
 
 
 def acknowledgement(partition: str, name: bytes, offset: int, data: bytes) -> str:
@@ -108,13 +120,16 @@ def judge(script: Union[str, bytes], by: Any = None) -> Optional[str]:
     """Runs a script. Returns the first acknowledged content that isn't readable at a reopen after a crash, or `None` if all is.
 
     The script is run once, and again up to each such reopen. `by` is `Library` or `Program`; by default the library if it is built.
-    Raises `BadLine` if a line isn't a call.
+    Raises `BadLine` if a line isn't a call, and `ValueError` if no acknowledgement counts.
     """
-    return verdict(script, by).lost
+    found = verdict(script, by)
+    if found.nothing is not None:
+        raise ValueError(found.nothing)
+    return found.lost
 
 
 def verdict(script: Union[str, bytes], by: Any = None) -> Verdict:
-    """As `judge`, with how many acknowledgements count."""
+    """As `judge`, with how many acknowledgements count, which may be none."""
     data = script if isinstance(script, bytes) else script.encode("utf-8", "surrogateescape")
     for fault in check(data):
         raise BadLine(f"bad call: {fault.why}", fault.line, fault.why)
@@ -122,7 +137,7 @@ def verdict(script: Union[str, bytes], by: Any = None) -> Verdict:
     way = by or (Library if os.path.exists(library()) else Program)
     watch = _Watch()
     _run(way, preamble, calls, watch).close()
-    return Verdict(_first_lost(way, preamble, calls, watch), watch.counted, watch.found)
+    return Verdict(_first_lost(way, preamble, calls, watch), watch.found, watch.known, watch.counted)
 
 
 def _first_lost(way: Any, preamble: List[str], calls: List[str], watch: _Watch) -> Optional[str]:
@@ -166,8 +181,9 @@ class _Watch:
         self._content: Dict[Name, Dict[int, int]] = {}
         self._acknowledged: List[Acknowledged] = []
         self._at_crash: List[Acknowledged] = []
-        # How many acknowledgements there are, and how many of them count.
-        self.found = self.counted = 0
+        # How many acknowledgements there are, how many are of what was written or read, and how many of these a crash and a reopen follow.
+        self.found = self.known = self.counted = 0
+        self._known_at_crash = 0
         # The reopens after a crash by the places of their lines, and what must be readable there.
         self.reopens: List[Tuple[int, List[Acknowledged]]] = []
 
@@ -185,9 +201,11 @@ class _Watch:
         elif word == "resize" and reply == ["ok"]:
             self._cut(tokens[1], value_of(tokens[2]))
         elif word == "crash":
-            self._at_crash = list(self._acknowledged)
-        elif word == "reopen" and self._at_crash:
-            self.reopens.append((at, self._at_crash))
+            self._at_crash, self._known_at_crash = list(self._acknowledged), self.known
+        elif word == "reopen":
+            self.counted = max(self.counted, self._known_at_crash)
+            if self._at_crash:
+                self.reopens.append((at, self._at_crash))
             self._at_crash = []
 
     def _note(self, line: str) -> None:
@@ -196,7 +214,7 @@ class _Watch:
             self.found += 1
             content = self._content.get(found.blob, {})
             if all(content.get(found.offset + at) == byte for at, byte in enumerate(found.data)):
-                self.counted += 1
+                self.known += 1
                 self._replace(found)
             return
         released = release_of(line)

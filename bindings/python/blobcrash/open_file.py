@@ -64,15 +64,16 @@ class OpenFile(io.RawIOBase):
         return len(found)
 
     def write(self, data: Any) -> int:
-        """Writes bytes at the position, or in the mode `a` at the end. Returns how many bytes were written."""
+        """Writes bytes at the position, or in the mode `a` at the end. Returns how many bytes were written. Without any no call is made."""
         self._check_open()
         if not self.writable():
             raise io.UnsupportedOperation("the file isn't open for writing")
         data = data_of(data, "the data of a write")
-        if self._plain[0] == "a":
-            self._at = self.size()
-        self._files._call(FileCall("write", self._descriptor, number(self._at, "an offset"), path=data), self.name)
-        self._at += len(data)
+        if not data:
+            return 0
+        at = self.size() if self._plain[0] == "a" else number(self._at, "an offset")
+        self._files._call(FileCall("write", self._descriptor, at, path=data), self.name)
+        self._at = at + len(data)
         return len(data)
 
     def seek(self, offset: int, whence: int = io.SEEK_SET) -> int:

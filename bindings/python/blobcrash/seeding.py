@@ -8,6 +8,7 @@ from typing import Any, Callable, Iterable, List, NamedTuple, Optional, Tuple, U
 
 from .bodies import check_body, check_result
 from .bounds import FIRST_RUN, BoundedFiles, BoundedStore, Bounds, RunEnded
+from .errors import NoRuns
 from .exploration import seconds_of
 from .failures import Failed, reason_of, reporter
 from .file_settings import files_of
@@ -98,7 +99,8 @@ def seeds(
     `arguments` are those of `Store`, or of `Files`.
 
     Raises `Failed`, with a script, if the body raises: for the first such seed, or by an executor for one of them. `report` is a file
-    for a page that shows it. `TypeError` for a body that hasn't run when it returns: a generator or a coroutine.
+    for a page that shows it. `NoRuns` if the time is over before a run has ended, `ValueError` for no seeds. `TypeError` for a body that
+    hasn't run when it returns: a generator or a coroutine.
     """
     check_body(body)
     for name in ("seed", "words", "pushed"):
@@ -110,6 +112,8 @@ def seeds(
     if isinstance(which, int):
         which = range(number(which, "a number of seeds"))
     every = [number(seed, "a seed") for seed in which]
+    if not every:
+        raise ValueError("there is nothing to run: no seeds")
     now = time.monotonic()
     until = now + seconds_of(seconds)
     profile = files_of(files)
@@ -117,11 +121,15 @@ def seeds(
     runs = _Runs(body, arguments, profile)
     try:
         if executor is None:
-            return Seeded(*_visit(runs, every, 0, until, max(until, now + FIRST_RUN)))
-        return Seeded(*_visit_with(executor, runs, every, until))
+            made = Seeded(*_visit(runs, every, 0, until, max(until, now + FIRST_RUN)))
+        else:
+            made = Seeded(*_visit_with(executor, runs, every, until))
     except Failed as failed:
         show(failed)
         raise
+    if not made.runs:
+        raise NoRuns(made.rest)
+    return made
 
 
 def _visit(runs: _Runs, every: List[int], before: int, until: float, first_until: float) -> Tuple[int, Tuple[int, ...]]:

@@ -87,7 +87,7 @@ class CrashStates:
 
     Iterating yields each `CrashState`. Meanwhile `crashes` counts the places of a crash, `outcomes` the crashes that were made, `states` the
     states, and `complete` is whether no limit was reached. Raises `BadLine` for a line that is no call, and `ValueError` for `proved` with
-    `files` or `limit`.
+    `files` or `limit`, and if there is no crash after the line `at`.
     """
 
     def __init__(
@@ -137,7 +137,12 @@ class CrashStates:
         for number, line in enumerate(self._lines, 1):
             if line.startswith(_ACKNOWLEDGED) or (not line.startswith("#") and self._way.changes(line)):
                 places.append(number)
-        return places if self._at is None else [place for place in places if place == self._at]
+        if self._at is None:
+            return places
+        if self._at not in places:
+            shown = " ".join(map(str, places[:20])) + (" .." if len(places) > 20 else "")
+            raise ValueError(f"there is no crash after line {self._at}: there are crashes after the lines {shown}")
+        return [self._at]
 
     def _printed(self, crash: _Crash, line: int) -> Iterator[Tuple[str, Content]]:
         """The script and the content of each state that the program prints. It counts the other outcomes."""

@@ -16,7 +16,8 @@ CHECK finds in its environment: STATE, a folder with the state as plain files (o
 header), which it may change; SCRIPT, the script up to the crash; ACKNOWLEDGED, a file with the texts of the comments `# acknowledged ..`
 before it, a line each.
 
-Exit statuses: 0 if every check does; 1 if one fails; 2 if the script or the command line is bad; 3 without memory.
+Exit statuses: 0 if every check does; 1 if one fails; 2 if the script or the command line is bad, as when LINE is none after which a crash
+is put; 3 without memory.
 """
 
 from __future__ import annotations
@@ -30,7 +31,7 @@ import tempfile
 from concurrent.futures import FIRST_COMPLETED, Future, ThreadPoolExecutor, wait
 from typing import Dict, List, Set
 
-from .errors import BadLine, LibraryMissing
+from .errors import LibraryMissing
 from .states import CrashState, CrashStates
 
 # A folder in memory, if there is one.
@@ -119,7 +120,7 @@ def states_command(arguments: List[str]) -> int:
         with open(options.script, encoding="utf-8") as file:
             script = file.read()
         return _run(script, options, command)
-    except (BadLine, LibraryMissing, OSError, UnicodeDecodeError) as error:
+    except (LibraryMissing, OSError, ValueError) as error:
         print(f"states: {error}", file=sys.stderr)
         return 2
     except MemoryError:

@@ -65,7 +65,7 @@ pub enum ExploreError<E> {
     },
     /// The body made other choices than before on the same path.
     NotDeterministic,
-    /// A store, or files, can't be opened or not be explored: the builder has a seed or words.
+    /// A store, or files, can't be opened or not be explored: the builder has a seed or words, or no run is asked for.
     Store(Error),
 }
 
@@ -202,7 +202,7 @@ impl<B: Explorable> Exploration<B> {
     /// - `Failed` for the first run in which the body returns an error.
     /// - `TooLong` for a run with too many calls or draws.
     /// - `NotDeterministic`.
-    /// - `Store` with `Argument` if the builder has a seed or words; or with what [`Builder::open`] returns.
+    /// - `Store` with `Argument` if the limit is 0 or the builder has a seed or words; or with what [`Builder::open`] returns.
     ///
     /// ```
     /// # use blobcrash::{ExploreError, Exploration, Store};
@@ -213,6 +213,9 @@ impl<B: Explorable> Exploration<B> {
         &self,
         mut body: impl FnMut(&Run<B::Opened>) -> Result<T, E>,
     ) -> Result<Explored<T>, ExploreError<E>> {
+        if self.limit == 0 {
+            return Err(nothing_to_run());
+        }
         let (mut path, mut words) = (Path::default(), WORDS);
         let mut visited = Explored {
             runs: 0,
@@ -257,6 +260,13 @@ impl<B: Explorable> Exploration<B> {
         let opened = self.builder.explored(choices, words)?;
         Ok(Run::new(opened, number))
     }
+}
+
+/// The error of an exploration without runs, which would check nothing.
+pub(crate) fn nothing_to_run<E>() -> ExploreError<E> {
+    ExploreError::Store(Error::Argument(
+        "there is nothing to run: no seeds, or a limit of 0 runs".to_owned(),
+    ))
 }
 
 /// Calls `body` with each run of an [`Exploration`] without power losses, at most `limit` times. Errors as [`Exploration::visit`].

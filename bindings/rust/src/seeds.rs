@@ -1,4 +1,5 @@
 //! Runs of many seeds.
+use crate::explore::nothing_to_run;
 use crate::{Explorable, ExploreError, Explored, Run};
 use std::collections::BTreeMap;
 use std::ops::Range;
@@ -7,7 +8,7 @@ use std::ops::Range;
 ///
 /// Errors:
 /// - `Failed` for the first seed with which the body returns an error. Its script has the seed.
-/// - `Store` with `Argument` if the builder has a seed or words, or with what its `open` returns.
+/// - `Store` with `Argument` if there are no seeds or the builder has a seed or words, or with what its `open` returns.
 ///
 /// ```
 /// use blobcrash::{Config, Error, PartialWriteMode, Probability, Store, WriteConfig, WriteOptions, seeds};
@@ -30,6 +31,9 @@ pub fn seeds<B: Explorable, T: Ord, E>(
     seeds: Range<u64>,
     mut body: impl FnMut(&Run<B::Opened>) -> Result<T, E>,
 ) -> Result<Explored<T>, ExploreError<E>> {
+    if seeds.is_empty() {
+        return Err(nothing_to_run());
+    }
     let mut visited = Explored {
         runs: 0,
         outcomes: BTreeMap::new(),

@@ -91,7 +91,7 @@ fn a_failure_has_its_script() {
 fn limits() {
     let builder = Store::builder().config(config(PartialWriteMode::Prefix));
     let visit = |limit| explore(&builder, limit, |run| torn(run, 8).map(|_| ())).unwrap();
-    for (limit, runs, is_complete) in [(0, 0, false), (4, 4, false), (9, 9, true), (10, 9, true)] {
+    for (limit, runs, is_complete) in [(4, 4, false), (9, 9, true), (10, 9, true)] {
         let Explored {
             runs: made,
             outcomes,
@@ -328,7 +328,9 @@ fn each_seed_once() {
             .keys()
             .all(|seen| visited.outcomes.contains_key(seen))
     );
-    assert_eq!(seeds(&builder, 9..9, body).unwrap().runs, 0);
+    let is_refused = |found| matches!(found, Err(ExploreError::Store(Error::Argument(_))));
+    assert!(is_refused(seeds(&builder, 9..9, body)));
+    assert!(is_refused(explore(&builder, 0, body)));
 }
 
 #[test]
