@@ -164,7 +164,7 @@ class Run:
     def judge(self, calls):
         """Crashes, recovers and checks. Returns the verdict."""
         if not self.options.no_record:
-            self.mount.ask(f"record {self.folder}/run.script")
+            self.mount.ask(f"record {self.folder}/record")
         self.prepare()
         self.mount.ask(f"crash-after {self.random.randint(1, max(calls, 1))}")
         for fault in self.options.fault:
@@ -173,27 +173,30 @@ class Run:
             self.command("work")
         self.crash()
         self.end_faults()
+        self.keep()
         if self.random.random() < 1 / 3:
             self.mount.ask(f"crash-after {self.random.randint(1, max(calls // 4, 4))}")
             verdict = self.recover()
             if verdict is not None and verdict != "held":
                 return verdict
             self.crash()
-        self.keep_tree()
+            self.keep()
         verdict = self.recover()
         if verdict is None:
             raise Broken("the power went off without a command")
         return verdict
 
-    def keep_tree(self):
-        """Copies what is durable. The record ends with the crash before."""
-        try:
-            self.mount.ask("record stop")
-        except Failed as error:
-            self.log.write(f"# the record isn't complete: {error}\n".encode())
-        command = ["cp", "-a", "--", os.path.join(self.mount.at, "."), os.path.join(self.folder, "tree")]
-        if subprocess.run(command, stderr=self.log).returncode:
+    def keep(self):
+        """Copies what is durable after a crash, and the record, which ends with it. Replaces what an earlier call kept."""
+        tree, record = os.path.join(self.folder, "tree"), os.path.join(self.folder, "record")
+        shutil.rmtree(tree, ignore_errors=True)
+        if subprocess.run(["cp", "-a", "--", os.path.join(self.mount.at, "."), tree], stderr=self.log).returncode:
             self.log.write(b"# the tree isn't complete\n")
+        if self.options.no_record:
+            return
+        shutil.copyfile(record, os.path.join(self.folder, "run.script"))
+        if self.mount.control.status()["record"] != "on":
+            self.log.write(b"# the record isn't complete\n")
 
     def acknowledged(self):
         """Returns how many operations were acknowledged."""
@@ -211,6 +214,8 @@ class Run:
         kill_started(self.mount.daemon.pid, 20)
         self.mount.close()
         self.log.close()
+        if os.path.exists(os.path.join(self.folder, "record")):
+            os.unlink(os.path.join(self.folder, "record"))
         if kept:
             shutil.rmtree(kept, ignore_errors=True)
             shutil.move(self.folder, kept)

@@ -83,7 +83,7 @@ def of_seed(words, seed, calls):
             skips = not skips and "=" not in word
         else:
             kept.append(word)
-    return ["--first", str(seed), "--seeds", "1", *(["--stop-after", str(calls)] if calls else []), *kept]
+    return ["--first", str(seed), "--seeds", "1", *([] if calls is None else ["--stop-after", str(calls)]), *kept]
 
 
 def run_one(options):
@@ -137,7 +137,9 @@ def judge_all(executor, words, seeds, calls, at_once):
 
 def run_all(options, words, executor, at_once):
     """Runs the seeds. Returns the number of each verdict, of crashes and of acknowledgements, and among how many calls each stopped."""
-    calls = options.stop_after or result_of(start(executor, of_seed(words, options.first, None), "measure"))["calls"]
+    calls = options.stop_after
+    if calls is None:
+        calls = result_of(start(executor, of_seed(words, options.first, None), "measure"))["calls"]
     counts, crashes, acknowledged, shown_at = dict.fromkeys(VERDICTS, 0), 0, 0, time.monotonic()
     seeds = range(options.first, options.first + options.seeds)
     for seed, result in judge_all(executor, words, seeds, calls, at_once):

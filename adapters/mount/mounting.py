@@ -107,7 +107,7 @@ class Mount:
 
     def __init__(self, program, *options):
         self.folder = tempfile.mkdtemp(prefix="blobcrash-mount-")
-        self.at = os.path.join(self.folder, "a mount")
+        self.at = os.path.join(self.folder, "mount")
         os.mkdir(self.at)
         self.control = None
         self._log = open(os.path.join(self.folder, "log"), "w+b")
