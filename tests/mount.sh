@@ -199,6 +199,8 @@ ok 'each failure has what it names' [ "$(ls -d "$work"/all/seed-*/tree "$work"/a
 run tools/crash_run --seeds 1 --work true --check false
 ok 'a check that fails without a crash' [ "$status" -eq 2 ]
 
+add python3 "$top/tests/mount_signals.py"
+
 # SQLite deletes its journal after a commit, and syncs the folder only at EXTRA.
 crash_sqlite() {
     run tools/crash_run --seeds "$2" --profile posix --out "$work/failed" --prepare "sh examples/mount_sqlite.sh prepare" \

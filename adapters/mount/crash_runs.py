@@ -1,5 +1,6 @@
 """One seed of tools/crash_run: a program is run on a mount, the power goes off, and what is left is checked."""
 
+import contextlib
 import os
 import random
 import shutil
@@ -8,6 +9,7 @@ import subprocess
 import tempfile
 import time
 
+from interrupts import interruptible
 from mounting import Failed, Mount
 
 MOUNT_OPTIONS = ("profile", "tear", "keep", "size")
@@ -211,6 +213,8 @@ class Run:
 
     def close(self, kept=None):
         """Ends the mount. Moves the log, the record, the acknowledgements and the tree to a folder, or removes them."""
+        with contextlib.suppress(Failed):
+            self.mount.ask("on")  # so that what is killed can end
         kill_started(self.mount.daemon.pid, 20)
         self.mount.close()
         self.log.close()
@@ -227,7 +231,8 @@ def measure(options, program):
     """Runs the first seed without a crash. Returns how many changing calls it makes."""
     run = Run(options, program, options.first)
     try:
-        return run.measure()
+        with interruptible():
+            return run.measure()
     finally:
         run.close()
 
@@ -239,7 +244,8 @@ def judge(options, program, calls):
     """
     run, kept, tail = Run(options, program, options.first), None, ""
     try:
-        verdict, acknowledged = run.judge(calls), run.acknowledged()
+        with interruptible():
+            verdict, acknowledged = run.judge(calls), run.acknowledged()
         if verdict != "held":
             os.makedirs(options.out, exist_ok=True)
             kept, tail = os.path.join(options.out, f"seed-{options.first}"), run.tail()

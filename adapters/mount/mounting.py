@@ -113,7 +113,8 @@ class Mount:
         self._log = open(os.path.join(self.folder, "log"), "w+b")
         path = os.path.join(self.folder, "socket")
         command = [program, self.at, "--control", path, "--foreground", *options]
-        self.daemon = subprocess.Popen(command, stdin=subprocess.DEVNULL, stderr=self._log)
+        # Ctrl-C is for this process, which ends the daemon.
+        self.daemon = subprocess.Popen(command, stdin=subprocess.DEVNULL, stderr=self._log, start_new_session=True)
         try:
             self._connect(path)
         except Failed:
