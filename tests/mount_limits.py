@@ -12,6 +12,7 @@ from mount_calls import allocate, check, put, refusal, run_tests, sync_folder  #
 from mounting import Failed, Mount  # noqa: E402
 
 PROGRAM = sys.argv[1]
+os.environ["ASAN_OPTIONS"] = "quarantine_size_mb=1"  # what the daemon frees doesn't count
 MEGABYTE = 1 << 20
 
 
@@ -20,6 +21,12 @@ def temporary(mount, number):
     path = f"{mount.at}/{number}"
     put(path, bytes(MEGABYTE))
     os.unlink(path)
+
+
+def memory_of(mount):
+    """Returns the most bytes that the daemon has had."""
+    with open(f"/proc/{mount.daemon.pid}/status", encoding="ascii") as file:
+        return [int(line.split()[1]) * 1024 for line in file if line.startswith("VmHWM:")][0]
 
 
 def test_removed():
@@ -37,6 +44,8 @@ def test_removed():
                 check(name, found == [None] * 20, found)
                 status = mount.control.status()
                 check(f"{name}: the count", int(status["unsynced"]) <= 8 * MEGABYTE and status["write-backs"] == "0", status)
+                found = [refusal(temporary, mount, number) for number in range(80)]
+                check(f"{name}: the memory", found == [None] * 80 and memory_of(mount) < 64 * MEGABYTE, memory_of(mount))
 
 
 def test_open_removed():
@@ -122,12 +131,6 @@ def machine():
         with open("/sys/fs/cgroup/memory.max", encoding="ascii") as file:
             found += [int(word) for word in file.read().split() if word != "max"]
     return min(found)
-
-
-def memory_of(mount):
-    """Returns the most bytes that the daemon has had."""
-    with open(f"/proc/{mount.daemon.pid}/status", encoding="ascii") as file:
-        return [int(line.split()[1]) * 1024 for line in file if line.startswith("VmHWM:")][0]
 
 
 def test_sizes():

@@ -192,7 +192,7 @@ runs=
 work=
 held=
 clean_up() {
-    [ -z "$runs" ] || kill "$runs" 2>/dev/null || true
+    [ -z "$runs" ] || { kill "$runs" && wait "$runs"; } 2>/dev/null || true
     [ -z "$work" ] || rm -rf "$work"
     [ -z "$held" ] || rmdir "$held"
     work=

@@ -17,25 +17,26 @@ if ! pkg-config --atleast-version=3.10 fuse3 2>/dev/null; then
     echo "mount: libfuse 3 is missing (Debian: apt-get install pkg-config libfuse3-dev fuse3)" >&2
     exit 3
 fi
+# shellcheck source=tools/building.sh
+. "$top/tools/building.sh"
 if [ -z "$archive" ]; then
     [ -f "$top/out/libblobcrash.a" ] || echo "mount: the library is proved and built first, which takes some minutes" >&2
-    sh "$top/bindings/build.sh" >&2
+    run sh "$top/bindings/build.sh" >&2
     archive=$top/out/libblobcrash.a
 fi
 
 is_current() {
-    [ -f "$program" ] && [ -z "$(find "$archive" "$here" "$here/../common" "$top/bindings/c" -type f -newer "$program" | head -n 1)" ]
+    [ -f "$program" ] && [ -z "$(find "$archive" "$here" "$here/../common" "$top/bindings/c" -type f ! -name '*.py' -newer "$program" |
+        head -n 1)" ]
 }
 
-# shellcheck source=tools/building.sh
-. "$top/tools/building.sh"
 mkdir -p "$out" "$top/out"
 lock mount
 if ! is_current; then
     : >"$out/began"
     # shellcheck disable=SC2046,SC2086
-    "$compiler" -std=c11 -D_XOPEN_SOURCE=700 -O2 -g -Wall -Wextra -Werror "-I$top/bindings/c" "-I$here/../common" ${CFLAGS:-} \
-        $(pkg-config --cflags fuse3) -o "$program.new" "$here"/*.c "$here/../common/record.c" "$archive" ${FUSE_LIBS:-$(pkg-config --libs fuse3)} >&2
+    run "$compiler" -std=c11 -D_XOPEN_SOURCE=700 -O2 -g -Wall -Wextra -Werror "-I$top/bindings/c" "-I$here/../common" ${CFLAGS:-} \
+        $(pkg-config --cflags fuse3) -o "$program.new" "$here"/*.c "$here/../common/record.c" "$archive" ${FUSE_LIBS:-$(pkg-config --libs fuse3)} >&2 9>&-
     touch -r "$out/began" "$program.new" # a source may have changed since
     mv -f "$program.new" "$program"
 fi

@@ -1,5 +1,6 @@
 """One seed of tools/crash_run: a program is run on a mount, the power goes off, and what is left is checked."""
 
+import contextlib
 import os
 import random
 import shutil
@@ -8,6 +9,7 @@ import subprocess
 import tempfile
 import time
 
+from interrupts import interruptible
 from mounting import Failed, Mount
 
 MOUNT_OPTIONS = ("profile", "tear", "keep", "size")
@@ -159,65 +161,44 @@ class Run:
         status = self.command("check")
         if status != 0:
             raise Broken(f"--check without a crash: {status}{self.tail()}")
-        if not calls:
-            raise Broken("--start and --work change nothing, so that there is no call after which the power could go off")
         return calls
 
     def judge(self, calls):
         """Crashes, recovers and checks. Returns the verdict."""
         if not self.options.no_record:
-            self.mount.ask(f"record {self.folder}/run.script")
+            self.mount.ask(f"record {self.folder}/record")
         self.prepare()
-        self.mount.ask(f"crash-after {self.random.randint(1, calls)}")
+        self.mount.ask(f"crash-after {self.random.randint(1, max(calls, 1))}")
         for fault in self.options.fault:
             self.mount.ask(fault)
         if self.command("start") == 0:
             self.command("work")
         self.crash()
         self.end_faults()
+        self.keep()
         if self.random.random() < 1 / 3:
-            self.keep_tree()
             self.mount.ask(f"crash-after {self.random.randint(1, max(calls // 4, 4))}")
             verdict = self.recover()
             if verdict is not None and verdict != "held":
-                self.end_record()
-                self.cut_record()
                 return verdict
             self.crash()
-        self.end_record()
-        self.keep_tree()
+            self.keep()
         verdict = self.recover()
         if verdict is None:
             raise Broken("the power went off without a command")
         return verdict
 
-    def end_record(self):
-        """Ends the record."""
+    def keep(self):
+        """Copies what is durable after a crash, and the record, which ends with it. Replaces what an earlier call kept."""
+        tree, record = os.path.join(self.folder, "tree"), os.path.join(self.folder, "record")
+        shutil.rmtree(tree, ignore_errors=True)
+        if subprocess.run(["cp", "-a", "--", os.path.join(self.mount.at, "."), tree], stderr=self.log).returncode:
+            self.log.write(b"# the tree isn't complete\n")
         if self.options.no_record:
             return
-        try:
-            self.mount.ask("record stop")
-        except Failed as error:
-            self.log.write(f"# the record isn't complete: {error}\n".encode())
-
-    def cut_record(self):
-        """Cuts what a recovery has added to the record. It ends with the crash before."""
-        path = os.path.join(self.folder, "run.script")
-        if not os.path.exists(path):
-            return
-        with open(path, "rb+") as file:
-            lines = file.read().splitlines(keepends=True)
-            ends = [number for number, line in enumerate(lines, 1) if line.split()[:1] == [b"crash"]]
-            if ends:
-                file.truncate(len(b"".join(lines[: ends[-1]])))
-
-    def keep_tree(self):
-        """Copies what is durable after a crash."""
-        tree = os.path.join(self.folder, "tree")
-        shutil.rmtree(tree, ignore_errors=True)
-        command = ["cp", "-a", "--", os.path.join(self.mount.at, "."), tree]
-        if subprocess.run(command, stderr=self.log).returncode:
-            self.log.write(b"# the tree isn't complete\n")
+        shutil.copyfile(record, os.path.join(self.folder, "run.script"))
+        if self.mount.control.status()["record"] != "on":
+            self.log.write(b"# the record isn't complete\n")
 
     def acknowledged(self):
         """Returns how many operations were acknowledged."""
@@ -232,9 +213,13 @@ class Run:
 
     def close(self, kept=None):
         """Ends the mount. Moves the log, the record, the acknowledgements and the tree to a folder, or removes them."""
+        with contextlib.suppress(Failed):
+            self.mount.ask("on")  # so that what is killed can end
         kill_started(self.mount.daemon.pid, 20)
         self.mount.close()
         self.log.close()
+        if os.path.exists(os.path.join(self.folder, "record")):
+            os.unlink(os.path.join(self.folder, "record"))
         if kept:
             shutil.rmtree(kept, ignore_errors=True)
             shutil.move(self.folder, kept)
@@ -246,7 +231,8 @@ def measure(options, program):
     """Runs the first seed without a crash. Returns how many changing calls it makes."""
     run = Run(options, program, options.first)
     try:
-        return run.measure()
+        with interruptible():
+            return run.measure()
     finally:
         run.close()
 
@@ -258,7 +244,8 @@ def judge(options, program, calls):
     """
     run, kept, tail = Run(options, program, options.first), None, ""
     try:
-        verdict, acknowledged = run.judge(calls), run.acknowledged()
+        with interruptible():
+            verdict, acknowledged = run.judge(calls), run.acknowledged()
         if verdict != "held":
             os.makedirs(options.out, exist_ok=True)
             kept, tail = os.path.join(options.out, f"seed-{options.first}"), run.tail()

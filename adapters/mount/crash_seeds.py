@@ -37,9 +37,11 @@ import os
 import shlex
 import subprocess
 import sys
+import threading
 import time
 from concurrent.futures import ThreadPoolExecutor
 
+import interrupts
 from crash_runs import MOUNT_OPTIONS, VERDICTS, Broken, judge, measure
 from mounting import Failed
 
@@ -84,7 +86,7 @@ def of_seed(words, seed, calls):
             skips = not skips and "=" not in word
         else:
             kept.append(word)
-    return ["--first", str(seed), "--seeds", "1", *(["--stop-after", str(calls)] if calls else []), *kept]
+    return ["--first", str(seed), "--seeds", "1", *([] if calls is None else ["--stop-after", str(calls)]), *kept]
 
 
 def run_one(options):
@@ -103,16 +105,53 @@ def run_one(options):
 
 def program():
     """Returns the path of the daemon."""
-    built = subprocess.run(["sh", os.path.join(TOP, "adapters", "mount", "build.sh")], stdout=subprocess.PIPE, text=True)
-    if built.returncode:
-        sys.exit(built.returncode)
-    return built.stdout.strip()
+    build = subprocess.Popen(["sh", os.path.join(TOP, "adapters", "mount", "build.sh")], stdout=subprocess.PIPE, text=True)
+    try:
+        with interrupts.interruptible():
+            built = build.communicate()[0]
+    except KeyboardInterrupt:
+        build.terminate()
+        build.wait()
+        raise
+    if build.returncode:
+        sys.exit(build.returncode)
+    return built.strip()
+
+
+class Workers(ThreadPoolExecutor):
+    """The processes of this machine, a seed each."""
+
+    def __init__(self, count):
+        super().__init__(count)
+        self._lock, self._running, self._is_ending = threading.Lock(), set(), False
+
+    def run(self, command, **options):
+        """As subprocess.run."""
+        with self._lock:
+            if self._is_ending:
+                raise Broken("interrupted")
+            process = subprocess.Popen(command, **options)
+            self._running.add(process)
+        try:
+            out = process.communicate()[0]
+            return subprocess.CompletedProcess(command, process.returncode, out)
+        finally:
+            with self._lock:
+                self._running.remove(process)
+
+    def end(self):
+        """Ends all of them, which unmount and remove what they have made."""
+        with self._lock:
+            self._is_ending = True
+            for process in self._running:
+                process.terminate()
 
 
 def start(executor, words, one):
     """Gives one seed to a worker."""
     command = [sys.executable, TOOL, "--one", one, *words]
-    return executor.submit(subprocess.run, command, cwd=os.getcwd(), stdin=subprocess.DEVNULL, stdout=subprocess.PIPE, text=True)
+    call = executor.run if isinstance(executor, Workers) else subprocess.run
+    return executor.submit(call, command, cwd=os.getcwd(), stdin=subprocess.DEVNULL, stdout=subprocess.PIPE, text=True)
 
 
 def result_of(task):
@@ -138,7 +177,9 @@ def judge_all(executor, words, seeds, calls, at_once):
 
 def run_all(options, words, executor, at_once):
     """Runs the seeds. Returns the number of each verdict, of crashes and of acknowledgements, and among how many calls each stopped."""
-    calls = options.stop_after or result_of(start(executor, of_seed(words, options.first, None), "measure"))["calls"]
+    calls = options.stop_after
+    if calls is None:
+        calls = result_of(start(executor, of_seed(words, options.first, None), "measure"))["calls"]
     counts, crashes, acknowledged, shown_at = dict.fromkeys(VERDICTS, 0), 0, 0, time.monotonic()
     seeds = range(options.first, options.first + options.seeds)
     for seed, result in judge_all(executor, words, seeds, calls, at_once):
@@ -166,13 +207,15 @@ def main(words, executor=None):
         print(__doc__.strip())
         return 0
     options = parse(words)
+    interrupts.install()
     if options.one:
         return run_one(options)
-    program()
-    own = ThreadPoolExecutor(options.jobs) if executor is None else None
+    own = Workers(options.jobs) if executor is None else None
     at_once = options.jobs if own else 2 * (getattr(executor, "_max_workers", None) or 64)
     try:
-        counts, crashes, acknowledged, calls = run_all(options, words, own or executor, at_once)
+        program()
+        with interrupts.interruptible():
+            counts, crashes, acknowledged, calls = run_all(options, words, own or executor, at_once)
     except (Broken, Failed) as error:
         print(f"crash_run: {error}", file=sys.stderr)
         return 3 if "docker run" in str(error) else 2
@@ -181,6 +224,7 @@ def main(words, executor=None):
         return 130
     finally:
         if own:
+            own.end()
             own.shutdown()
     print(f"| profile | seeds | calls | crashes | acknowledged | {' | '.join(VERDICTS)} |\n|---|{'---|' * (4 + len(VERDICTS))}")
     row = [options.profile or "ext4", options.seeds, calls, crashes, acknowledged, *counts.values()]

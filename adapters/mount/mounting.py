@@ -107,13 +107,14 @@ class Mount:
 
     def __init__(self, program, *options):
         self.folder = tempfile.mkdtemp(prefix="blobcrash-mount-")
-        self.at = os.path.join(self.folder, "a mount")
+        self.at = os.path.join(self.folder, "mount")
         os.mkdir(self.at)
         self.control = None
         self._log = open(os.path.join(self.folder, "log"), "w+b")
         path = os.path.join(self.folder, "socket")
         command = [program, self.at, "--control", path, "--foreground", *options]
-        self.daemon = subprocess.Popen(command, stdin=subprocess.DEVNULL, stderr=self._log)
+        # Ctrl-C is for this process, which ends the daemon.
+        self.daemon = subprocess.Popen(command, stdin=subprocess.DEVNULL, stderr=self._log, start_new_session=True)
         try:
             self._connect(path)
         except Failed:
