@@ -63,7 +63,7 @@ write B to f, fsync q, create g, fsync f | f = A, mkdir q | f, g | B/none | B/em
 write B to f, o = X, fsync o, create g, write C to f, fsync f | f = A | f, g | C/empty | C/empty | C/none
 write B to f, o = X, fsync o, rename o p, fsync f | f = A | f, o, p | B/X/none | B/X/none | B/none/X
 create g, append B to f, fdatasync f | f = A | f, g | AB/empty | AB/empty | AB/none
-rename f g, fdatasync g | f = A | f, g | A/none | none/A | none/A
+rename f g, fdatasync g | f = A | f, g | | none/A | none/A
 append BB to f, o = X, fsync o, truncate f to AA | f = A | f | A | A A0B ABB | A
 t = BB, o = X, fsync o, rename t f | f = AA | t, f | BB/AA | empty/AA | none/AA
 """
@@ -71,7 +71,8 @@ t = BB, o = X, fsync o, rename t f | f = AA | t, f | BB/AA | empty/AA | none/AA
 # What was seen and no crash of the profile leaves: an append of which only the end had been written back, a rewrite after O_TRUNC whose
 # close made nothing durable, and an overwrite in the tick of the kernel's clock in which the file changed before. It leaves the file's
 # times as they are, so that ext4 commits nothing at its sync. Two depend on a commit by another file: an append that was written back
-# before it and a truncation after it that is lost, and a new file's name in it, while the bytes that a later rename flushed are lost.
+# before it and a truncation after it that is lost, and a new file's name in it, while the bytes that a later rename flushed are lost. A
+# rename is nothing that ext4's fdatasync writes.
 OUTSIDE = """
 append BB to f, o = X, fsync o | f = AA | f | AA0B | |
 rewrite f BB | f = AA | f | AA | |
@@ -79,6 +80,7 @@ write A to g, fsync g, create f, write B to g, fsync g | g = AA | f | none | |
 truncate f to A, append BB to f, o = X, fsync o | f = AA | f | A0B | |
 append BB to f, o = X, fsync o, truncate f to AA | f = A | f | A0B ABB | |
 t = BB, o = X, fsync o, rename t f | f = AA | t, f | empty/AA | |
+rename f g, fdatasync g | f = A | f, g | A/none | |
 """
 
 

@@ -54,7 +54,7 @@ class File:
     def __init__(self):
         self.live, self.durable, self.pending = b"", b"", []
         self.synced = 0
-        # The number of the next edit at its last write, and after the last write or truncation that changed its size.
+        # The number of the next edit at its last write, and at the last one by which it grew.
         self.written = self.grown = 0
         self.is_truncated = False
         # What reads return in place of the live bytes, after a failed sync that dropped some.
@@ -237,7 +237,6 @@ class Model(Names):
             return
         file.pending.append(Truncation(length, self.next_edit))
         self.bind([], [inode], [inode])
-        file.grown = self.next_edit
         file.live = resized(file.live, length)
         if file.shown is not None:
             file.shown = resized(file.shown, length)
@@ -283,9 +282,7 @@ class Model(Names):
         self.sync_bytes(file)
         if self.profile.settles == "up to its last change" and not data:
             self.settle_before(max(self.after_last(inode), file.written))
-        elif self.profile.settles == "up to its last change":
-            self.settle_before(file.grown)
-        elif self.profile.settles == "up to its last":
+        elif self.profile.settles.startswith("up to its last"):
             self.settle_before(max(self.after_last(inode), file.grown))
         elif self.profile.settles == "its names":
             self.settle_names(inode)
