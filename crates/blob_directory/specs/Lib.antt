@@ -9,3 +9,4 @@ pub mod Syncs
 pub mod Wanted
 pub mod Settled
 pub mod Paths
+pub mod Presets

@@ -65,7 +65,7 @@ SyncSettles Names (File inode grown changed) edits edit = IsUpward edits inode e
 SyncSettles Names (Directory d) edits edit = IsUpward edits d edit ⊎ (is_in d edit.about ≡ true)
 SyncSettles UpToLast (File inode grown changed) edits edit = IsUpToLast edits inode edit ⊎ (edit.number < grown)
 SyncSettles UpToLast (Directory d) edits edit = IsUpToLast edits d edit
-SyncSettles All (File inode grown changed) edits edit = (changed ≡ true) ⊎ HasEdit edits inode
+SyncSettles All (File inode grown changed) edits edit = IsUpToLast edits inode edit ⊎ (edit.number < changed)
 SyncSettles All (Directory d) edits edit = Unit {0}
 
 -- an edit, marked as wanted or not

@@ -46,3 +46,11 @@ HasAll names directory list = (name : List ℕ) (to : Binding) → names (entry 
 -- and no other
 abbrev pub HasOnly : Names → ℕ → List (Vec ℕ Global × Binding) → Type 0
 HasOnly names directory list = All (λ n. names (entry directory n.0.items) ≡ Some n.1) list
+
+-- no name of a directory is bound
+abbrev pub HasNoName : Names → ℕ → Type 0
+HasNoName names directory = (name : List ℕ) → names (entry directory name) ≡ None
+
+-- each entry that the first names bind, the second ones bind to the same
+abbrev pub IsWithin : Names → Names → Type 0
+IsWithin names others = (e : List ℕ) (to : Binding) → names e ≡ Some to → others e ≡ Some to

@@ -16,7 +16,6 @@ is_up_to None n = false
 is_up_to (Some last) n = nat_le n last
 
 abbrev pub wants : wanted.Wanted → Unsettled → Bool
-wants is.None edit = false
 wants is.All edit = true
 wants (is.In d) edit = is_in d edit.about
 wants (is.Of inodes) edit = is_of_any inodes.items edit.about

@@ -1,4 +1,6 @@
 //! What a file system promises beyond POSIX, as switches.
+ghost use Rattle.std.specs.Prelude.{◌≡◌};
+ghost use Rattle.blob_directory.specs.Presets.{btrfs_row, ext4_row, posix_row, xfs_row};
 
 /// Which of the edits that nothing settled a crash may keep.
 #[derive(Clone, Copy, Debug, PartialEq, Eq)]
@@ -18,7 +20,7 @@ pub enum Settles {
     Names,
     /// All up to the last one of the file, or of the directory.
     UpToLast,
-    /// All, if the file has changed since its last sync. For a directory, all.
+    /// All up to the last one of the file or up to its last change. For a directory, all.
     All,
 }
 
@@ -38,7 +40,9 @@ pub struct Profile {
 
 impl Profile {
     /// Returns what ext4 does with ordered data.
-    pub fn ext4() -> Profile {
+    pub fn ext4() -> Profile
+        ensures { result ≡ ext4_row }
+    {
         Profile {
             keeps: Keeps::Prefix,
             settles: Settles::All,
@@ -48,7 +52,9 @@ impl Profile {
     }
 
     /// Returns what XFS does.
-    pub fn xfs() -> Profile {
+    pub fn xfs() -> Profile
+        ensures { result ≡ xfs_row }
+    {
         Profile {
             keeps: Keeps::Prefix,
             settles: Settles::UpToLast,
@@ -58,7 +64,9 @@ impl Profile {
     }
 
     /// Returns what btrfs does.
-    pub fn btrfs() -> Profile {
+    pub fn btrfs() -> Profile
+        ensures { result ≡ btrfs_row }
+    {
         Profile {
             keeps: Keeps::Prefix,
             settles: Settles::Names,
@@ -68,7 +76,9 @@ impl Profile {
     }
 
     /// Returns the least that POSIX promises.
-    pub fn posix() -> Profile {
+    pub fn posix() -> Profile
+        ensures { result ≡ posix_row }
+    {
         Profile {
             keeps: Keeps::Any,
             settles: Settles::Own,
@@ -79,7 +89,9 @@ impl Profile {
 }
 
 impl Default for Profile {
-    fn default() -> Profile {
+    fn default() -> Profile
+        ensures { result ≡ ext4_row }
+    {
         Profile::ext4()
     }
 }

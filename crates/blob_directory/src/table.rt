@@ -1,11 +1,22 @@
 //! The names of all directories, as a table of entries.
-ghost use Rattle.std.specs.Prelude.{◌≡◌, None, Some, IfOk, OnOk, OnErr};
+ghost use Rattle.std.specs.Prelude.{◌≡◌, None, Some, IfOk, OnOk, OnErr, false, true};
 ghost use Rattle.blob_directory.specs.Names.{Same, changed, edit_of, edited, entry};
-ghost use Rattle.blob_directory.specs.Tables.{HasAll, HasOnly, HasRoom, HasRoomFor, KeepsRoom, bound};
+ghost use Rattle.blob_directory.specs.Tables.{HasAll, HasNoName, HasOnly, HasRoom, HasRoomFor, IsWithin, KeepsRoom, bound};
 
 use crate::edit::{Binding, Edit, entry_of};
 use std::alloc::{AllocError, Global};
 use std::collections::BTreeMap;
+
+/// Returns whether these are the same binding, or none.
+fn are_same(one: Option<Binding>, other: Option<Binding>) -> bool
+    ensures { result ≡ true → one ≡ other }
+{
+    match (one, other) {
+        (None, None) => true,
+        (Some(one), Some(other)) => one.inode == other.inode && one.kind == other.kind,
+        _ => false,
+    }
+}
 
 /// What each entry is bound to.
 #[derive(Drop)]
@@ -130,14 +141,36 @@ impl Table {
         Ok(names)
     }
 
-    /// Returns whether a directory has no name. Fails only if memory runs out.
-    pub fn is_empty(&self, directory: u64) -> Result<bool, AllocError> {
-        let start = directory.to_be_bytes();
-        for (entry, binding) in self.entries.range(Vec::from_slice(self.alloc, &start)?..) {
-            if !entry.starts_with(&start) {
-                break;
+    /// Returns whether another table binds each entry that this one binds, to the same.
+    fn is_within(&self, other: &Table) -> bool
+        ensures { result ≡ true → IsWithin (bound self.now) (bound other.now) }
+    {
+        for (entry, binding) in &self.entries {
+            if !are_same(other.get(entry), *binding) {
+                return false;
             }
-            if binding.is_some() {
+        }
+        true
+    }
+
+    /// Returns whether another table binds the same entries to the same.
+    pub fn is_same(&self, other: &Table) -> bool
+        ensures { result ≡ true → Same (bound self.now) (bound other.now) }
+    {
+        self.is_within(other) && other.is_within(self)
+    }
+
+    /// Returns whether a directory has no name. Fails only if memory runs out.
+    pub fn is_empty(&self, directory: u64) -> Result<bool, AllocError>
+        ensures empty { IfOk result (λ empty. empty ≡ true → HasNoName (bound self.now) directory) }
+        ensures named { IfOk result (λ empty. empty ≡ false → HasNoName (bound self.now) directory → ⊥) }
+    {
+        let start = directory.to_be_bytes();
+        for (entry, _) in self.entries.range(Vec::from_slice(self.alloc, &start)?..) {
+            let Some(_) = entry.strip_prefix(&start) else {
+                break;
+            };
+            if self.get(entry).is_some() {
                 return Ok(false);
             }
         }

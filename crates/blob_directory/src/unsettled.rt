@@ -79,11 +79,11 @@ impl About {
 /// What is synced.
 #[derive(Clone, Copy)]
 pub enum Synced {
-    /// A file, with the number of the next edit when its size last grew, and whether it changed since its last sync.
+    /// A file, with the numbers of the next edit when its size last grew, and when it last changed.
     File {
         inode: u64,
         grown: u64,
-        is_changed: bool,
+        changed: u64,
     },
     Directory(u64),
 }

@@ -3,7 +3,6 @@ ghost use Rattle.std.specs.Prelude.{◌≡◌, ℕ, IfOk, OnOk};
 ghost use Rattle.std.specs.List.{Contains};
 ghost use Rattle.blob_directory.specs.Syncs.{Upward, Wants};
 ghost use Rattle.blob_directory.specs.Wanted.{HasAbove, HasDirectories, HasToo, IsLast, is_of_any, is_up_to, wants};
-ghost use Rattle.blob_directory.specs.declared.unsettled.Unsettled.{Unsettled};
 
 use crate::profile::Settles;
 use crate::unsettled::{About, Synced, Unsettled};
@@ -12,7 +11,6 @@ use std::alloc::{AllocError, Global};
 /// The edits that a sync settles.
 #[derive(Drop)]
 pub(crate) enum Wanted {
-    None,
     All,
     /// Those in a directory, or in a file's own number.
     In(u64),
@@ -51,7 +49,6 @@ impl Wanted {
     {
         let about = &edit.about;
         match self {
-            Wanted::None => false,
             Wanted::All => true,
             Wanted::In(directory) => about.is_in(*directory),
             Wanted::Of(inodes) => is_of_any(inodes, about),
@@ -131,13 +128,6 @@ fn last_of(edits: &[Unsettled], number: u64) -> Option<u64>
     last
 }
 
-/// Returns all edits or none.
-fn all_if(is_all: bool) -> Wanted
-    ensures { (edit : Unsettled) → wants result edit ≡ is_all }
-{
-    if is_all { Wanted::All } else { Wanted::None }
-}
-
 /// Returns which edits a sync settles. Fails only if memory runs out.
 pub(crate) fn choose(
     alloc: Global,
@@ -164,14 +154,9 @@ pub(crate) fn choose(
         (Settles::UpToLast, Synced::Directory(directory)) => {
             Ok(Wanted::UpTo(last_of(edits, directory), 0))
         }
-        (
-            Settles::All,
-            Synced::File {
-                is_changed,
-                inode,
-                ..
-            },
-        ) => Ok(all_if(is_changed || last_of(edits, inode).is_some())),
+        (Settles::All, Synced::File { changed, inode, .. }) => {
+            Ok(Wanted::UpTo(last_of(edits, inode), changed))
+        }
         (Settles::All, Synced::Directory(_)) => Ok(Wanted::All),
     }
 }

@@ -44,6 +44,11 @@ pub record AddsUnsettled {R : Type 0} (e : Edit) (a : About) (n : ℕ) (j j' : J
 abbrev pub counted : List Bool → List Unsettled → List Bool
 counted counts edits = map (λ e. get_or counts e.record false) edits
 
+-- the same with some number
+pub record NotesEdit {R : Type 0} (e : Edit) (a : About) (j j' : Journaled R) : Type 0 where
+  pub number : ℕ
+  pub adds : AddsUnsettled e a number j j'
+
 -- the journal is found with these bytes, and this is of each edit that nothing settled whether its record counts
 pub record FindsEdits {R : Type 0} (j : Journaled R) (keeps : Keeps) (edits : List Bool) : Type 0 where
   pub journal : List ℕ

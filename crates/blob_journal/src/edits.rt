@@ -53,7 +53,7 @@ fn settle_marked<R: Rng>(
 
 impl<R: Rng + Drop> Journaled<R> {
     ghost use Rattle.blob_journal.specs.Fixed.{KeepsOpen};
-    ghost use Rattle.blob_journal.specs.Settling.{AddsUnsettled, KeepsJournal, KeepsUnsettled, SettlesEdits, unsettled_of};
+    ghost use Rattle.blob_journal.specs.Settling.{AddsUnsettled, KeepsJournal, KeepsUnsettled, NotesEdit, SettlesEdits, unsettled_of};
     ghost use Rattle.blob_journal.specs.Journals.{store_of};
     ghost use Rattle.blob_journal.specs.Writes.{SameCrashes};
     ghost use Rattle.blob_journal.specs.Keeping.{AddsRecord, AddsTold, Edits, KeepsTable, KeepsTold, SameBindings, SettlesSome, generator_in, names_in, table_in, told_in, with_generator};
@@ -209,6 +209,7 @@ impl<R: Rng + Drop> Journaled<R> {
     /// changed.
     pub fn make(&mut self, edit: Edit, about: About, rate: Probability) -> Result<(), Error>
         ensures made { OnOk result (Edits (edit_of edit) self.old self.new) }
+        ensures noted { OnOk result (NotesEdit (edit_of edit) about self.old self.new) }
         ensures record { OnOk result (AddsRecord (edit_of edit) self.old self.new) }
         ensures refused { OnErr result (SameBindings self.old self.new) }
         ensures told { OnOk result (AddsTold (edit_of edit) self.old self.new) }

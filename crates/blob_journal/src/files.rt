@@ -56,6 +56,7 @@ impl<R: Rng + Drop> Journaled<R> {
         ensures reopened { IfOk result (λ file. ReopensFile self.old inode self.new file) }
         ensures ready { IsFaultless self.old → IfOk result (IsReady self.new) }
         ensures errors { IsFaultless self.old → FailsAtLimits (store_of self.new) result }
+        ensures unsettled { KeepsUnsettled self.old self.new }
     {
         let (blob, _) = open(&mut self.store, FILES, &inode.to_be_bytes())?;
         self.note(&blob);

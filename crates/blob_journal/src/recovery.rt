@@ -1,5 +1,5 @@
 //! The recovery: names from the journal, and a new journal.
-ghost use Rattle.std.specs.Prelude.{◌≡◌, ◌≤◌, ◌+◌, [], codes, IfOk, OnOk, OnErr};
+ghost use Rattle.std.specs.Prelude.{◌≡◌, ◌≤◌, ◌+◌, ◌⊎◌, [], codes, IfOk, OnOk, OnErr};
 ghost use Rattle.std.specs.Int.{w64, to_be_bytes};
 ghost use Rattle.blob_directory.specs.Checkpoints.{FitsJournal};
 ghost use Rattle.blob_directory.specs.Counts.{CountsNames};
@@ -64,7 +64,7 @@ impl<R: Rng + Drop> Journaled<R> {
     ghost use Rattle.blob_journal.specs.Fixed.{KeepsOpen};
     ghost use Rattle.blob_journal.specs.Journals.{FindsNames, GivesNames, store_of};
     ghost use Rattle.blob_journal.specs.Settling.{FindsEdits, KeepsUnsettled, counted, unsettled_of};
-    ghost use Rattle.blob_journal.specs.Keeping.{FindsTold, GivesTold, KeepsTable, KeepsTold, names_in, table_in};
+    ghost use Rattle.blob_journal.specs.Keeping.{FindsTold, GivesTold, KeepsTable, KeepsTold, SameBindings, names_in, table_in};
 
     /// Returns the names that the journal gives and the root reaches, and of each edit that nothing settled, in order, whether
     /// the journal has its record and it counts. Calls still see the names of before. From here on the store draws nothing.
@@ -156,5 +156,29 @@ impl<R: Rng + Drop> Journaled<R> {
         let old_name = old.to_be_bytes();
         let _ = remove(&mut self.store, JOURNALS, &old_name);
         Ok(directories)
+    }
+
+    /// Begins the journal anew if nothing is unsettled: a new one settles the names that calls see, and the old one goes once that is
+    /// durable. Otherwise the journal stays. Files stay as they are. From here on the store draws nothing.
+    ///
+    /// # Errors
+    ///
+    /// Those of `renew`. The old journal is there.
+    pub fn begin_anew(&mut self) -> Result<(), Error>
+        ensures names { SameBindings self.old self.new }
+        ensures told { OnOk result (KeepsTold self.old self.new ⊎ GivesTold self.new) }
+        ensures untold { OnErr result (KeepsTold self.old self.new) }
+        ensures still { KeepsOpen self.old self.new }
+    {
+        if !self.unsettled.is_empty() {
+            return Ok(());
+        }
+        let (tree, _) = self.find_names(Keeps::Any)?;
+        // Always true: each name that calls see is in the journal, and the root reaches it. But no contract says so.
+        if !tree.names.is_same(&self.names) {
+            return Ok(());
+        }
+        self.renew(tree)?;
+        Ok(())
     }
 }

@@ -44,3 +44,14 @@ returns-in-UpToLast-Directory c = λ e there.
       λ h. ⊎_elim (λ x. up_to edits d last e c.last_of-in-UpToLast-Directory.ensures x) (λ y. absurd (omega (arith, ltb-true e.number 0 y))) (or_cases (is_up_to last e.number) (nat_lt e.number 0) h),
       λ u. or_left (is_up_to last e.number) (nat_lt e.number 0) (is_up edits d last e c.last_of-in-UpToLast-Directory.ensures u),
     )
+
+pub returns-in-All-File : goal.returns-in-All-File
+returns-in-All-File c = λ e there.
+    let edits = c.args.edits.now in
+    let inode = c.in-All-File.inode in
+    let changed = c.in-All-File.changed in
+    let last = c.last_of-in-All-File.result in
+    rw (c.in-All-File.is-0, c.in-All-File.is-1) (
+      λ h. ⊎_elim (λ x. inl (up_to edits inode last e c.last_of-in-All-File.ensures x)) (λ y. inr (ltb-true e.number changed y)) (or_cases (is_up_to last e.number) (nat_lt e.number changed) h),
+      λ s. ⊎_elim (λ x. or_left (is_up_to last e.number) (nat_lt e.number changed) (is_up edits inode last e c.last_of-in-All-File.ensures x)) (λ y. or_right (is_up_to last e.number) (nat_lt e.number changed) (lt-ltb e.number changed y)) s,
+    )

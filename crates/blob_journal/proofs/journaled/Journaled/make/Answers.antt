@@ -27,3 +27,8 @@ returns-clause-made g c =
 
 pub returns-clause-still : goal.returns-clause-still
 returns-clause-still g c = keeps_between _ _ _ _ refl refl c.add_edit.ensures.still
+
+pub returns-clause-noted : goal.returns-clause-noted
+returns-clause-noted g c =
+    let noted = c.in_ok-add_edit.ensures.noted in
+    record { number = c.in_ok-add_edit.field-0; adds = record { last = noted.last; is = noted.is; edit = noted.edit; about = noted.about; number = noted.number } }
