@@ -1,6 +1,6 @@
 -- What each call of a list does.
-use Rattle.std.proofs.Common.{◌≡◌, Bool, true, false, List, [], ◌∷◌, ◌++◌, ℕ, Some, ap, inl, inr, is_ok, refl, subst, sym, ⊎_elim, ◌∙◌}
-use Rattle.std.specs.Prelude.{Err, IfOk, Ok, OnErr, OnOk, Result}
+use Rattle.std.proofs.Common.{◌≡◌, Bool, true, false, List, [], ◌∷◌, ◌++◌, ℕ, Some, ap, inl, inr, refl, subst, sym, ⊎_elim, ◌∙◌}
+use Rattle.std.specs.Prelude.{Err, Ok, OnErr, OnOk, Result}
 use Rattle.blob_directory.specs.Names.{Edit, binds, directory_at, entry, exchanges, file, frees, moves, resizes}
 use Rattle.blob_directory.specs.declared.table.Table.{Table}
 use Rattle.blob_directory.specs.Tables.{bound}
@@ -10,20 +10,15 @@ use Rattle.blob_journal.proofs.Growing.{grows_added}
 use Rattle.blob_fs.specs.declared.file_system.Descriptor.{Descriptor}
 use Rattle.blob_fs.specs.declared.file_system.FileSystem.{FileSystem}
 use Rattle.blob_fs.specs.declared.renames.Rename as rename
-use Rattle.blob_fs.specs.declared.run.Call.{Call}
-use Rattle.blob_fs.specs.declared.run.Call.TheVariants.{Create, MakeDirectory, Link, Unlink, RemoveDirectory, Rename, Open, OpenTruncated, Close, Read, Write, Truncate, Sync, SyncData, SyncDirectory, SyncAll, Settle}
-use Rattle.blob_fs.specs.declared.switches.Syncs.TheVariants.{Honest}
-use Rattle.blob_fs.specs.Files.{AddsTold, GrowsTold, KeepsNames, KeepsTold, MakesEdit, MayResize, MayTruncate, SameNames, SettlesSome, fresh_inode, inode_opened, syncs_of, told_of}
-use Rattle.blob_fs.specs.Calls.{ByResult, Does, DoesAll, Leaves, Makes, MakesIf, Renames, Unchanged, Moved, Exchanged, SyncsIf}
+use Rattle.blob_fs.specs.declared.call.NumberCall.{NumberCall}
+use Rattle.blob_fs.specs.declared.call.NumberCall.TheVariants.{Create, MakeDirectory, Link, Unlink, RemoveDirectory, Rename, Open, OpenTruncated, Close, Read, Write, Truncate, Sync, SyncData, SyncDirectory, SyncAll, Settle}
+use Rattle.blob_fs.specs.Files.{AddsTold, GrowsTold, KeepsNames, KeepsTold, MayResize, MayTruncate, SameNames, fresh_inode, inode_opened, told_of}
+use Rattle.blob_fs.specs.Calls.{Does, DoesAll, Leaves, Makes, MakesIf, Renames, Unchanged, Moved, Exchanged}
 use Rattle.blob_fs.specs.Fixed.{KeepsUnreached}
 use Rattle.blob_fs.proofs.Growing.{grows_kept, told_as}
 use Rattle.blob_fs.proofs.Fixed.{some_same}
 
 -- by what a call returned
-
-pub by_result : {T E : Type 0} (P Q : Type 0) (r : Result T E) (ok : Bool) → ok ≡ is_ok r → OnOk r P → OnErr r Q → ByResult ok P Q
-by_result P Q (Ok x) ok is p q = subst (λ (b : Bool). ByResult b P Q) (sym is) p
-by_result P Q (Err e) ok is p q = subst (λ (b : Bool). ByResult b P Q) (sym is) q
 
 pub on_ok : {T E P Q S : Type 0} (r : Result T E) → OnOk r P → OnOk r Q → (P → Q → S) → OnOk r S
 on_ok (Ok x) p q f = f p q
@@ -43,22 +38,6 @@ always_ok (Err e) p = tt
 
 pub was_ok : {T E P S : Type 0} (r : Result T E) (x : T) → r ≡ Ok x → OnOk r P → (P → S) → S
 was_ok {T} {E} {P} {S} r x is p f = f (subst (λ (q : Result T E). OnOk q P) is p)
-
-pub makes_if : {R T E : Type 0} (r : Result T E) (ok : Bool) → ok ≡ is_ok r → (edit : Edit) (fs fs' : FileSystem R)
-    → OnOk r (MakesEdit edit fs fs') → OnErr r (SameNames fs fs') → OnOk r (AddsTold edit fs fs') → OnErr r (KeepsTold fs fs') → MakesIf ok edit fs fs'
-makes_if r ok is edit fs fs' made refused told untold =
-    by_result (Makes edit fs fs') (Leaves fs fs') r ok is (on_ok r told made (λ t m. record { recorded = t; names = m })) (on_err r untold refused (λ t m. record { recorded = t; names = m }))
-
-pub makes_numbered : {R T E : Type 0} (r : Result T E) (ok : Bool) → ok ≡ is_ok r → (edit : T → Edit) (at : Edit) (same : T → Type 0) (fs fs' : FileSystem R)
-    → ((x : T) → same x → edit x ≡ at) → IfOk r same
-    → IfOk r (λ x. MakesEdit (edit x) fs fs') → OnErr r (SameNames fs fs') → IfOk r (λ x. AddsTold (edit x) fs fs') → OnErr r (KeepsTold fs fs') → MakesIf ok at fs fs'
-makes_numbered {T} {E} (Ok x) ok is edit at same fs fs' is_at number made refused told untold =
-    makes_if {T = T} {E = E} (Ok x) ok is at fs fs' (subst (λ (e : Edit). MakesEdit e fs fs') (is_at x number) made) tt (subst (λ (e : Edit). AddsTold e fs fs') (is_at x number) told) tt
-makes_numbered {T} {E} (Err e) ok is edit at same fs fs' is_at number made refused told untold = makes_if {T = T} {E = E} (Err e) ok is at fs fs' tt refused tt untold
-
-pub syncs_if : {R T E : Type 0} (P : Type 0) (r : Result T E) (ok : Bool) → ok ≡ is_ok r → (fs fs' : FileSystem R)
-    → KeepsNames fs fs' → SettlesSome fs fs' → OnOk r (syncs_of fs ≡ Honest → P) → SyncsIf ok P fs fs'
-syncs_if P r ok is fs fs' names some settled = ((names, some), by_result (syncs_of fs ≡ Honest → P) (Unit {0}) r ok is settled (always r tt))
 
 pub either : {T E P Q S : Type 0} (r : Result T E) → OnOk r P → OnErr r Q → (P → S) → (Q → S) → S
 either (Ok x) p q f g = f p
@@ -114,13 +93,13 @@ grows_renames how old new fs fs' (Unchanged to is at other left) = grows_leaves 
 grows_renames how old new fs fs' (Moved differ other free m) = grows_makes (moves old new m.moved) fs fs' m.made
 grows_renames how old new fs fs' (Exchanged differ is m) = grows_makes (exchanges old new m.moved m.was) fs fs' m.made
 
-pub grows_does : {R : Type 0} (call : Call) (ok : Bool) (fs fs' : FileSystem R) → Does call ok fs fs' → GrowsTold fs fs'
-grows_does (Create d name) ok fs fs' m = grows_if ok (binds d name.items (file (fresh_inode fs))) fs fs' m
-grows_does (MakeDirectory d name) ok fs fs' m = grows_if ok (binds d name.items (directory_at (fresh_inode fs))) fs fs' m
-grows_does (Link i d name) ok fs fs' m = grows_if ok (binds d name.items (file i)) fs fs' m
-grows_does (Unlink d name) ok fs fs' m = grows_if ok (frees d name.items) fs fs' m
-grows_does (RemoveDirectory d name) ok fs fs' m = grows_if ok (frees d name.items) fs fs' m
-grows_does (Rename from old to new how) true fs fs' m = grows_renames how (entry from old.items) (entry to new.items) fs fs' m
+pub grows_does : {R : Type 0} (call : NumberCall) (ok : Bool) (fs fs' : FileSystem R) → Does call ok fs fs' → GrowsTold fs fs'
+grows_does (Create d name) ok fs fs' m = grows_if ok (binds d name.now (file (fresh_inode fs))) fs fs' m
+grows_does (MakeDirectory d name) ok fs fs' m = grows_if ok (binds d name.now (directory_at (fresh_inode fs))) fs fs' m
+grows_does (Link i d name) ok fs fs' m = grows_if ok (binds d name.now (file i)) fs fs' m
+grows_does (Unlink d name) ok fs fs' m = grows_if ok (frees d name.now) fs fs' m
+grows_does (RemoveDirectory d name) ok fs fs' m = grows_if ok (frees d name.now) fs fs' m
+grows_does (Rename from old to new how) true fs fs' m = grows_renames how (entry from old.now) (entry to new.now) fs fs' m
 grows_does (Rename from old to new how) false fs fs' m = grows_leaves fs fs' m
 grows_does (Open i) ok fs fs' m = grows_leaves fs fs' m
 grows_does (OpenTruncated i) ok fs fs' m = grows_resize i fs fs' m.1
@@ -135,7 +114,7 @@ grows_does SyncAll ok fs fs' m = m.0.1.grows
 grows_does Settle ok fs fs' m = m.0.1.grows
 
 -- one more call
-pub does_more : {R : Type 0} (calls : List Call) (oks : List Bool) (call : Call) (ok : Bool) (a b c : FileSystem R)
+pub does_more : {R : Type 0} (calls : List NumberCall) (oks : List Bool) (call : NumberCall) (ok : Bool) (a b c : FileSystem R)
     → DoesAll calls oks a b → Does call ok b c → KeepsUnreached call b c → DoesAll (calls ++ call ∷ []) (oks ++ ok ∷ []) a c
 does_more {R} [] [] call ok a b c before done keeps =
     (c, subst (λ (fs : FileSystem R). Does call ok fs c) before done, subst (λ (fs : FileSystem R). KeepsUnreached call fs c) before keeps, refl)

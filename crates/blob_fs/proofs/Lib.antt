@@ -25,3 +25,6 @@ pub mod WritePlaces
 pub mod CrashRows
 pub mod Sizing
 pub mod Errors
+pub mod Performing
+pub mod Numbered
+pub mod Noting

@@ -1,5 +1,5 @@
 -- The files that a crash may find, through changes of names, of edits and of the map of files.
-use Rattle.std.proofs.Common.{◌≡◌, ◌≤◌, ℕ, Bool, true, false, List, [], ◌∷◌, ◌++◌, length, take, cond, ⊎_elim, Option, None, Some, refl, sym, ap, subst, ◌∙◌}
+use Rattle.std.proofs.Common.{◌≡◌, ◌≤◌, ℕ, Bool, true, false, List, [], ◌∷◌, ◌++◌, length, take, cond, ◌⊎◌, inl, inr, ⊎_elim, Option, None, Some, refl, sym, ap, subst, ◌∙◌}
 use Rattle.std.proofs.Math.Logic.{∥∥₁_elim, ∥∥₁_map, ∥∥₁_prop}
 use Rattle.std.specs.BTreeMap.{BTreeMap, Updates, WritesThrough, get, is_at}
 use Rattle.std.specs.Map.{lookup}
@@ -233,6 +233,25 @@ tracked_new given j m gives each present = record {
   found = λ i may. named_there (names_in j) m i may.entry each (sym (gives.names Any may.chosen may.entry) ∙ may.is);
   freed = λ i limit is. absurd (none_some (sym (present i) ∙ is));
 }
+
+-- The journal was begun anew, or it stays; the names are the same.
+
+tracked_names : {R : Type 0} (j j' : Journaled R) (m : BTreeMap ℕ of_fs.File) → SameBindings j j' → KeepsTold j j' → Tracked j m → Tracked j' m
+tracked_names j j' m same told h = ∥∥₁_map h (λ t.
+    subst (λ (l : List Found). IsTracked l (names_in j') m) (sym told) (record { within = λ x to is. sym (same x) ∙ t.within x to is; found = t.found; freed = t.freed }))
+
+tracked_anew : {R : Type 0} (given : WithinGiven) (j : Journaled R) (m : BTreeMap ℕ of_fs.File) → GivesTold j → AllNamed (names_in j) m → IsTracked (told_in j) (names_in j) m
+tracked_anew given j m gives each = record {
+  within = given (told_in j) (names_in j) gives.names;
+  found = λ i may. named_there (names_in j) m i may.entry each (sym (gives.names Any may.chosen may.entry) ∙ may.is);
+  freed = λ i limit is chosen e below named. freed_unnamed (names_in j) m i limit each is e (sym (gives.names Any chosen e) ∙ named);
+}
+
+pub tracked_begun : {R T E : Type 0} (given : WithinGiven) (r : Result T E) (j j' : Journaled R) (m : BTreeMap ℕ of_fs.File) → SameBindings j j' → OnOk r (KeepsTold j j' ⊎ GivesTold j') → OnErr r (KeepsTold j j')
+    → ∥ AllNamed (names_in j') m ∥₁ → Tracked j m → Tracked j' m
+tracked_begun given (Ok x) j j' m same (inl told) untold named h = tracked_names j j' m same told h
+tracked_begun given (Ok x) j j' m same (inr gives) untold named h = ∥∥₁_map named (λ each. tracked_anew given j' m gives each)
+tracked_begun given (Err e) j j' m same told untold named h = tracked_names j j' m same untold h
 
 -- What is known of a file.
 

@@ -16,7 +16,7 @@ use Rattle.blob_journal.proofs.Fixed.{has_from, has_parts, resized_has}
 use Rattle.blob_fs.specs.declared.truncation.Kept.{Kept}
 use Rattle.blob_fs.specs.declared.truncation.Truncation.{Truncation}
 use Rattle.blob_fs.specs.declared.crash.Place.{Place}
-use Rattle.blob_fs.specs.Truncations.{cut_start, is_lost, keeps_at, keeps_later, keeps_write, least_of, lost_of, marks_from, puts_back, truncated, truncated_by, unless_lost}
+use Rattle.blob_fs.specs.Truncations.{cut_start, is_lost, keeps_at, keeps_later, keeps_write, lost_of, marks_from, puts_back, size_after, truncated, truncated_by, unless_lost}
 
 -- The edits that a crash lost.
 
@@ -172,14 +172,14 @@ written_whole x new =
 -- Bytes that truncations leave.
 
 module _ (lost : List ℕ) (at : ℕ) where
-  step_above : (size : ℕ) (t : Truncation) → at < size → at < t.length → at < least_of lost size t
-  step_above size t low long = cond_both (is_lost lost t) size (min size t.length) (λ n. at < n) (λ y. low) (λ n. omega (arith, low, long))
+  step_above : (size : ℕ) (t : Truncation) → at < size → at < t.length → at < size_after lost size t
+  step_above size t low long = cond_both (is_lost lost t) size t.length (λ n. at < n) (λ y. low) (λ n. long)
 
   -- the cut counts from above a position that is below all of these
   pub start_above : (size : ℕ) (ts : List Truncation) → at < size → All (λ t. at < t.length) ts → at < cut_start lost size ts
   start_above size [] low all = low
   start_above size (t ∷ ts) low all =
-      start_above (least_of lost size t) ts (step_above size t low (All-head (λ t. at < t.length) t ts all)) (All-tail (λ t. at < t.length) t ts all)
+      start_above (size_after lost size t) ts (step_above size t low (All-head (λ t. at < t.length) t ts all)) (All-tail (λ t. at < t.length) t ts all)
 
   module _ (kept : Kept) (inode byte : ℕ) (found : List ℕ) where
     once_has : (bytes : List ℕ) (t : Truncation) → at < t.length → has_byte at byte bytes ≡ true → has_byte at byte (truncated_by kept inode found bytes t) ≡ true

@@ -6,9 +6,9 @@ use Rattle.blob_fs.specs.declared.crash.Crash.{Crash}
 use Rattle.blob_fs.specs.declared.file_system.FileSystem.{FileSystem}
 use Rattle.blob_fs.specs.declared.renames.Rename.{Rename}
 use Rattle.blob_fs.specs.declared.renames.Rename.TheVariants.{NoReplace, Exchange}
-use Rattle.blob_fs.specs.declared.run.Call.{Call}
-use Rattle.blob_fs.specs.declared.run.Call.TheVariants.{Create, MakeDirectory, Link, Unlink, RemoveDirectory, Open, OpenTruncated, Close, Read, Write, Truncate, Sync, SyncData, SyncDirectory, SyncAll, Settle}
-use Rattle.blob_fs.specs.declared.run.Call.TheVariants as call
+use Rattle.blob_fs.specs.declared.call.NumberCall.{NumberCall}
+use Rattle.blob_fs.specs.declared.call.NumberCall.TheVariants.{Create, MakeDirectory, Link, Unlink, RemoveDirectory, Open, OpenTruncated, Close, Read, Write, Truncate, Sync, SyncData, SyncDirectory, SyncAll, Settle}
+use Rattle.blob_fs.specs.declared.call.NumberCall.TheVariants as call
 use Rattle.blob_fs.specs.declared.switches.Syncs.TheVariants.{Honest}
 use Rattle.blob_fs.specs.declared.switches.FailedWrite.TheVariants.{ByMode}
 use Rattle.blob_fs.specs.declared.file_system.Descriptor.{Descriptor}
@@ -74,19 +74,19 @@ abbrev pub WritesIf : {R : Type 0} → Bool → Descriptor → ℕ → List ℕ 
 WritesIf ok f offset bytes fs fs' = Leaves fs fs' × ByResult ok (failed_write_of fs ≡ ByMode → RecordsWrite f offset bytes fs fs') (Unit {0})
 
 -- what a call does, by whether it returned Ok
-abbrev pub Does : {R : Type 0} → Call → Bool → FileSystem R → FileSystem R → Type 0
-Does (Create d name) ok fs fs' = MakesIf ok (binds d name.items (file (fresh_inode fs))) fs fs'
-Does (MakeDirectory d name) ok fs fs' = MakesIf ok (binds d name.items (directory_at (fresh_inode fs))) fs fs'
-Does (Link i d name) ok fs fs' = MakesIf ok (binds d name.items (file i)) fs fs'
-Does (Unlink d name) ok fs fs' = MakesIf ok (frees d name.items) fs fs'
-Does (RemoveDirectory d name) ok fs fs' = MakesIf ok (frees d name.items) fs fs'
+abbrev pub Does : {R : Type 0} → NumberCall → Bool → FileSystem R → FileSystem R → Type 0
+Does (Create d name) ok fs fs' = MakesIf ok (binds d name.now (file (fresh_inode fs))) fs fs'
+Does (MakeDirectory d name) ok fs fs' = MakesIf ok (binds d name.now (directory_at (fresh_inode fs))) fs fs'
+Does (Link i d name) ok fs fs' = MakesIf ok (binds d name.now (file i)) fs fs'
+Does (Unlink d name) ok fs fs' = MakesIf ok (frees d name.now) fs fs'
+Does (RemoveDirectory d name) ok fs fs' = MakesIf ok (frees d name.now) fs fs'
 Does (call.Rename from old to new how) ok fs fs' =
-    ByResult ok (RenamesAt how from old.items to new.items fs fs') (Leaves fs fs')
+    ByResult ok (RenamesAt how from old.now to new.now fs fs') (Leaves fs fs')
 Does (Open i) ok fs fs' = Leaves fs fs'
 Does (OpenTruncated i) ok fs fs' = KeepsNames fs fs' × MayResize i fs fs'
 Does (Close f) ok fs fs' = Leaves fs fs'
 Does (Read f offset len) ok fs fs' = Leaves fs fs'
-Does (Write f offset bytes) ok fs fs' = WritesIf ok f offset bytes.items fs fs'
+Does (Write f offset bytes) ok fs fs' = WritesIf ok f offset bytes.now fs fs'
 Does (Truncate f length) ok fs fs' = KeepsNames fs fs' × MayTruncate f fs fs'
 Does (Sync f) ok fs fs' = SyncsIf ok (SyncsFile fs f fs') fs fs'
 Does (SyncData f) ok fs fs' = SyncsIf ok (SyncsFile fs f fs') fs fs'
@@ -95,7 +95,7 @@ Does SyncAll ok fs fs' = SyncsIf ok (SyncsAll fs fs') fs fs'
 Does Settle ok fs fs' = MaySettle fs fs' × ByResult ok (SyncsAll fs fs') (Unit {0})
 
 -- each call of a list in order, by whether it returned Ok
-abbrev pub DoesAll : {R : Type 0} → List Call → List Bool → FileSystem R → FileSystem R → Type 0
+abbrev pub DoesAll : {R : Type 0} → List NumberCall → List Bool → FileSystem R → FileSystem R → Type 0
 DoesAll [] [] fs fs' = fs' ≡ fs
 DoesAll [] (ok ∷ oks) fs fs' = ⊥
 DoesAll (call ∷ calls) [] fs fs' = ⊥
@@ -103,7 +103,7 @@ DoesAll {R} (call ∷ calls) (ok ∷ oks) fs fs' =
     (between : FileSystem R) × Does call ok fs between × KeepsUnreached call fs between × DoesAll calls oks between fs'
 
 -- After these calls this crash found the names by the edits that were recorded until then.
-pub record RunsAndCrashes {R : Type 0} (fs : FileSystem R) (calls : List Call) (oks : List Bool) (crash : Crash) (fs' : FileSystem R) : Type 0 where
+pub record RunsAndCrashes {R : Type 0} (fs : FileSystem R) (calls : List NumberCall) (oks : List Bool) (crash : Crash) (fs' : FileSystem R) : Type 0 where
   pub between : FileSystem R
   pub done : DoesAll calls oks fs between
   pub grows : GrowsTold fs between

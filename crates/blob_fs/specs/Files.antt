@@ -1,19 +1,24 @@
 -- The names of a file system, and what its calls leave of them.
-use Rattle.std.specs.Prelude.{◌≡◌, ◌≤◌, ◌⊎◌, ℕ, List, Bool, Option, None, Some, if◌then◌else◌, option_and_then, option_map, unwrap_or}
+use Rattle.std.specs.Prelude.{◌≡◌, ◌≤◌, ◌⊎◌, ℕ, List, Option, None, Some, if◌then◌else◌, is_some, option_and_then, option_map, unwrap_or}
 use Rattle.std.specs.BTreeMap.{get}
 use Rattle.std.specs.Ordering.{nat_cmp}
 use Rattle.blob_draws.specs.declared.selections.Selections.{Selections}
 use Rattle.blob_fs.specs.declared.file_system.Descriptor.{Descriptor}
 use Rattle.blob_fs.specs.declared.file_system.File.{File}
 use Rattle.blob_fs.specs.declared.file_system.FileSystem.{FileSystem}
+use Rattle.blob_fs.specs.declared.file_system.Options.{Options}
 use Rattle.blob_fs.specs.declared.switches.Syncs.{Syncs}
 use Rattle.blob_directory.specs.declared.profile.Settles.{Settles}
 use Rattle.blob_directory.specs.declared.profile.Settles.TheVariants.{All}
+use Rattle.blob_directory.specs.declared.unsettled.About.{About}
 use Rattle.blob_directory.specs.declared.unsettled.Synced.{Synced}
 use Rattle.blob_directory.specs.declared.unsettled.Synced.TheVariants as synced
 use Rattle.blob_directory.specs.declared.profile.Keeps.{Keeps}
+use Rattle.blob_directory.specs.declared.edit.Kind.{Kind}
+use Rattle.blob_directory.specs.declared.edit.Kind.TheVariants.{Directory}
+use Rattle.blob_directory.specs.declared.edit.Kind.TheVariants as kinds
 use Rattle.blob_directory.specs.declared.table.Table.{Table}
-use Rattle.blob_directory.specs.Names.{Edit, Names, Same, edited, resizes}
+use Rattle.blob_directory.specs.Names.{Edit, Names, Same, edited, entry, resizes}
 use Rattle.blob_directory.specs.Records.{Found}
 use Rattle.blob_directory.specs.Tables.{bound}
 use Rattle.blob_directory.specs.Trees.{Finds}
@@ -23,7 +28,7 @@ use Rattle.blob_fs.specs.Tracked.{freed_in}
 use Rattle.blob_journal.specs.declared.journaled.Journaled.{Journaled}
 use Rattle.blob_journal.specs.Currents.{Represents}
 use Rattle.blob_journal.specs.Journals.{FindsKept as finds_kept, durable_file, FindsNames as finds_names, GivesNames as gives_names, store_of}
-use Rattle.blob_journal.specs.Settling.{KeepsJournal as keeps_journal, SettlesEdits as settles_edits}
+use Rattle.blob_journal.specs.Settling.{KeepsJournal as keeps_journal, NotesEdit as notes_edit, SettlesEdits as settles_edits}
 use Rattle.blob_journal.specs.Keeping.{AddsTold as adds_told, FindsTold as finds_told, GivesTold as gives_told, GrowsTold as grows_told, KeepsTold as keeps_told, SettlesSome as settles_some, generator_in, table_in, told_in, with_generator as with_generator_in}
 
 -- the names, their journal and the store
@@ -110,6 +115,13 @@ SettlesEdits settles kind fs fs' = settles_edits settles kind (journaled_of fs) 
 abbrev pub settles_of : {R : Type 0} → FileSystem R → Settles
 settles_of fs = fs.options.profile.settles
 
+abbrev pub options_of : {R : Type 0} → FileSystem R → Options
+options_of fs = fs.options
+
+-- the same options
+abbrev pub KeepsOptions : {R : Type 0} → FileSystem R → FileSystem R → Type 0
+KeepsOptions fs fs' = options_of fs' ≡ options_of fs
+
 abbrev pub syncs_of : {R : Type 0} → FileSystem R → Syncs
 syncs_of fs = fs.options.syncs
 
@@ -123,10 +135,10 @@ pub record SameFiles {R : Type 0} (fs fs' : FileSystem R) : Type 0 where
 abbrev pub SameOpens : {R : Type 0} → FileSystem R → FileSystem R → Type 0
 SameOpens fs fs' = fs'.opens ≡ fs.opens
 
--- a sync of this file; when it last grew, and whether it has changed, isn't said
+-- a sync of this file; when it last grew, and when it last changed, isn't said
 pub record IsSyncOf (inode : ℕ) (kind : Synced) : Type 0 where
   pub grown : ℕ
-  pub changed : Bool
+  pub changed : ℕ
   pub is : kind ≡ synced.File inode grown changed
 
 -- the inode of an open descriptor
@@ -162,6 +174,22 @@ KeepsTold fs fs' = keeps_told (journaled_of fs) (journaled_of fs')
 abbrev pub AddsTold : {R : Type 0} → Edit → FileSystem R → FileSystem R → Type 0
 AddsTold edit fs fs' = adds_told edit (journaled_of fs) (journaled_of fs')
 
+-- one more edit is unsettled, the last one: it is this edit, and is about this
+abbrev pub NotesEdit : {R : Type 0} → Edit → About → FileSystem R → FileSystem R → Type 0
+NotesEdit edit about fs fs' = notes_edit edit about (journaled_of fs) (journaled_of fs')
+
+-- what an edit of a name of an inode in a directory is about
+abbrev pub about_name : ℕ → ℕ → About
+about_name inode directory = record { inode = inode; other = None; directory = directory; other_directory = None }
+
+-- the inode that a name is bound to; 0 if there is none
+abbrev pub inode_named : {R : Type 0} → FileSystem R → ℕ → List ℕ → ℕ
+inode_named fs directory name = unwrap_or (option_map (λ to. to.inode) (names_of fs (entry directory name))) 0
+
+-- the same of the inode that the name is bound to
+abbrev pub about_named : {R : Type 0} → FileSystem R → ℕ → List ℕ → About
+about_named fs directory name = about_name (inode_named fs directory name) directory
+
 -- edits may have been told, and some settled; no edit has changed, and none is unsettled again
 abbrev pub GrowsTold : {R : Type 0} → FileSystem R → FileSystem R → Type 0
 GrowsTold fs fs' = grows_told (journaled_of fs) (journaled_of fs')
@@ -177,6 +205,12 @@ FindsTold fs fs' = finds_told (journaled_of fs) (keeps_of fs) (names_of fs')
 -- all edits that were told are settled, and they give the names
 abbrev pub GivesTold : {R : Type 0} → FileSystem R → Type 0
 GivesTold fs = gives_told (journaled_of fs)
+
+-- All edits were settled. Then nothing changed, or the journal was begun anew: all that it has is settled, and gives the names.
+pub record Commits {R : Type 0} (fs fs' : FileSystem R) : Type 0 where
+  pub between : FileSystem R
+  pub settled : SyncsAll fs between
+  pub begun : KeepsTold between fs' ⊎ GivesTold fs'
 
 -- nothing was recorded, or the edit of a truncation of this file, which nothing has settled
 abbrev pub MayResize : {R : Type 0} → ℕ → FileSystem R → FileSystem R → Type 0
@@ -197,6 +231,10 @@ shown file = if file.is_gone then None else Some file
 
 abbrev pub file_of : {R : Type 0} → FileSystem R → ℕ → Option File
 file_of fs inode = option_and_then shown (get nat_cmp fs.files inode)
+
+-- what a number is: a directory, a file that isn't gone, or nothing
+abbrev pub kind_in : {R : Type 0} → FileSystem R → ℕ → Option Kind
+kind_in fs inode = if is_some (get nat_cmp fs.directories inode) then Some Directory else option_map (λ file. kinds.File) (file_of fs inode)
 
 -- each file has the same links
 abbrev pub SameLinks : {R : Type 0} → FileSystem R → FileSystem R → Type 0

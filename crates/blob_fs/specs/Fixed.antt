@@ -10,8 +10,8 @@ use Rattle.blob_journal.specs.Fixed.{HasFixed, IsBeside, has_byte}
 use Rattle.blob_fs.specs.declared.file_system.Descriptor.{Descriptor}
 use Rattle.blob_fs.specs.declared.file_system.File.{File}
 use Rattle.blob_fs.specs.declared.file_system.FileSystem.{FileSystem}
-use Rattle.blob_fs.specs.declared.run.Call.{Call}
-use Rattle.blob_fs.specs.declared.run.Call.TheVariants.{OpenTruncated, Truncate, Write}
+use Rattle.blob_fs.specs.declared.call.NumberCall.{NumberCall}
+use Rattle.blob_fs.specs.declared.call.NumberCall.TheVariants.{OpenTruncated, Truncate, Write}
 use Rattle.blob_fs.specs.Bytes.{bytes_read, file_in}
 use Rattle.blob_fs.specs.Files.{durable_of, file_of, fresh_inode, inode_opened, journaled_of, names_of}
 
@@ -73,14 +73,14 @@ ListsFiles fs inodes = (inode : ℕ) (was : File) → file_of fs inode ≡ Some 
 -- A list of calls.
 
 -- a call doesn't reach this byte of this file
-abbrev pub Spares : {R : Type 0} → FileSystem R → Call → ℕ → ℕ → Type 0
-Spares fs (Write f offset bytes) inode at = (inode_opened fs f ≢ Some inode) ⊎ IsBeside offset (length bytes.items) at
+abbrev pub Spares : {R : Type 0} → FileSystem R → NumberCall → ℕ → ℕ → Type 0
+Spares fs (Write f offset bytes) inode at = (inode_opened fs f ≢ Some inode) ⊎ IsBeside offset (length bytes.now) at
 Spares fs (Truncate f length) inode at = (inode_opened fs f ≢ Some inode) ⊎ (at < length)
 Spares fs (OpenTruncated i) inode at = inode ≢ i
 Spares fs call inode at = Unit {0}
 
 -- each fixed byte that a call doesn't reach stays fixed
-abbrev pub KeepsUnreached : {R : Type 0} → Call → FileSystem R → FileSystem R → Type 0
+abbrev pub KeepsUnreached : {R : Type 0} → NumberCall → FileSystem R → FileSystem R → Type 0
 KeepsUnreached call fs fs' = (inode at byte : ℕ) → inode < 2 ^ 64 → Spares fs call inode at → IsFixed fs inode at byte → IsFixed fs' inode at byte
 
 -- A crash.

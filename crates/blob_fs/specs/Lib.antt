@@ -18,5 +18,7 @@ pub use Rattle.blob_directory.specs.Records
 pub use Rattle.blob_directory.specs.Tables
 pub mod Calls
 pub mod Paths
+pub mod Acts
+pub mod Performs
 pub mod Writes
 pub mod Noted

@@ -10,11 +10,15 @@ use Rattle.blob_fs.specs.declared.file_system.File.{File}
 use Rattle.blob_fs.specs.declared.file_system.FileSystem.{FileSystem}
 use Rattle.blob_fs.specs.declared.truncation.Truncation.{Truncation}
 use Rattle.blob_fs.specs.Bytes.{file_in}
-use Rattle.blob_fs.specs.Files.{inode_opened, journaled_of}
+use Rattle.blob_fs.specs.Files.{file_of, inode_opened, journaled_of}
 
 -- the size that calls see: that of the blob, or of the bytes that a failed sync shows in its place
 abbrev pub size_read : File → ℕ
 size_read file = elim file.shown [ None ↦ size_of file.blob.blob | Some bytes ↦ length bytes.items ]
+
+-- that of a number's file, 0 if there is none
+abbrev pub size_in : {R : Type 0} → FileSystem R → ℕ → ℕ
+size_in fs inode = elim (file_of fs inode) [ None ↦ 0 | Some file ↦ size_read file ]
 
 -- a descriptor's file
 pub record IsFile {R : Type 0} (fs : FileSystem R) (file : Descriptor) (inode : ℕ) (was : File) : Type 0 where

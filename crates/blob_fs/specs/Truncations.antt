@@ -1,5 +1,5 @@
 -- The truncations of a file after a crash: which were kept, and what they leave of its bytes.
-use Rattle.std.specs.Prelude.{◌≡◌, ℕ, ◌-◌, ◌<◌, ◌&&◌, ◌||◌, Bool, false, List, [], ◌∷◌, Vec, if◌then◌else◌, length, min, nat_eq, nat_le, slice_index_or}
+use Rattle.std.specs.Prelude.{◌≡◌, ℕ, ◌-◌, ◌<◌, ◌&&◌, ◌||◌, Bool, false, List, [], ◌∷◌, Vec, if◌then◌else◌, length, nat_eq, nat_le, slice_index_or}
 use Rattle.std.specs.Global.{Global}
 use Rattle.std.specs.List.{fold, list_any}
 use Rattle.blob_model.specs.Bytes.{overlay_by, resize}
@@ -78,10 +78,10 @@ unless_lost kept lost inode found bytes t = if is_lost lost t then bytes else tr
 abbrev pub truncated : Kept → List ℕ → ℕ → List Truncation → List ℕ → List ℕ
 truncated kept lost inode truncations found = fold (unless_lost kept lost inode found) found truncations
 
--- the lesser of a size and the length of a truncation that was kept
-abbrev pub least_of : List ℕ → ℕ → Truncation → ℕ
-least_of lost size t = if is_lost lost t then size else min size t.length
+-- the length of a truncation that was kept, or else the size before it
+abbrev pub size_after : List ℕ → ℕ → Truncation → ℕ
+size_after lost size t = if is_lost lost t then size else t.length
 
--- the size from which the cut counts: the least of the synced size and the lengths of kept truncations
+-- the size from which the cut counts: the length of the last truncation that was kept, or else the synced size
 abbrev pub cut_start : List ℕ → ℕ → List Truncation → ℕ
-cut_start lost synced truncations = fold (least_of lost) synced truncations
+cut_start lost synced truncations = fold (size_after lost) synced truncations

@@ -1,6 +1,6 @@
 //! What the calls share: their start, and an edit.
 ghost use Rattle.std.specs.Prelude.{◌≡◌, [], None, Some, OnOk, OnErr, IfOk, option_copied};
-ghost use Rattle.blob_fs.specs.Files.{AddsTold, KeepsJournal, KeepsNames, KeepsTold, MakesEdit, SameFiles, SameNames, file_of, fresh_inode, journaled_of, names_of, told_of};
+ghost use Rattle.blob_fs.specs.Files.{AddsTold, KeepsJournal, KeepsNames, KeepsOptions, KeepsTold, MakesEdit, NotesEdit, SameFiles, SameNames, file_of, fresh_inode, journaled_of, kind_in, names_of, options_of, told_of};
 ghost use Rattle.blob_fs.specs.Fixed.{KeepsFixed};
 ghost use Rattle.blob_fs.specs.Named.{AllNamed};
 ghost use Rattle.blob_journal.specs.Writes.{SameCrashes};
@@ -40,6 +40,7 @@ impl<R: Rng + Drop> FileSystem<R> {
     pub fn new(alloc: Global, rng: R, options: Options) -> Result<FileSystem<R>, FsError>
         ensures names { IfOk result (λ fs. Same (names_of fs) (λ _. None)) }
         ensures told { IfOk result (λ fs. told_of fs ≡ []) }
+        ensures options { IfOk result (λ fs. options_of fs ≡ options) }
     {
         let store = Journaled::new(alloc, rng)?;
         let mut directories = BTreeMap::new(alloc);
@@ -66,12 +67,15 @@ impl<R: Rng + Drop> FileSystem<R> {
     }
 
     /// Returns the options.
-    pub fn options(&self) -> &Options {
+    pub fn options(&self) -> &Options
+        ensures { result.now ≡ options_of self.now }
+    {
         &self.options
     }
 
     /// Replaces the options. A write or an edit that is pending keeps the mode and the rate of its issue.
     pub fn set_options(&mut self, options: Options)
+        ensures set { options_of self.new ≡ options }
         ensures names { KeepsNames self.old self.new }
         ensures told { KeepsTold self.old self.new }
         ensures fixed { KeepsFixed self.old self.new }
@@ -88,6 +92,7 @@ impl<R: Rng + Drop> FileSystem<R> {
         ensures files { SameFiles self.old self.new }
         ensures number { fresh_inode self.new ≡ fresh_inode self.old }
         ensures fixed { KeepsFixed self.old self.new }
+        ensures options { KeepsOptions self.old self.new }
     {
         if self.is_down {
             return Err(FsError::Crashed);
@@ -102,6 +107,7 @@ impl<R: Rng + Drop> FileSystem<R> {
         ensures names { KeepsNames self.old self.new }
         ensures told { KeepsTold self.old self.new }
         ensures fixed { KeepsFixed self.old self.new }
+        ensures options { KeepsOptions self.old self.new }
     {
         self.store.set_config(Config::default());
     }
@@ -134,6 +140,8 @@ impl<R: Rng + Drop> FileSystem<R> {
         ensures untold { OnErr result (KeepsTold self.old self.new) }
         ensures files { SameFiles self.old self.new }
         ensures fixed { KeepsFixed self.old self.new }
+        ensures options { KeepsOptions self.old self.new }
+        ensures noted { OnOk result (NotesEdit (edit_of edit) about self.old self.new) }
     {
         bindings();
         self.gone.reserve(1)?;
@@ -149,7 +157,9 @@ impl<R: Rng + Drop> FileSystem<R> {
     }
 
     /// Returns the kind of an inode, if it is one.
-    pub fn kind_of(&self, inode: u64) -> Option<Kind> {
+    pub fn kind_of(&self, inode: u64) -> Option<Kind>
+        ensures { result ≡ kind_in self.now inode }
+    {
         if self.directories.contains_key(&inode) {
             Some(Kind::Directory)
         } else if self.file(inode).is_some() {

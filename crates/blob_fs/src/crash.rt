@@ -1,9 +1,10 @@
 //! The crash, and the recovery after it.
 ghost use Rattle.std.specs.Prelude.{◌≡◌, ℕ, IfOk, OnErr, OnOk, unwrap_or};
 ghost use Rattle.blob_fs.specs.Bytes.{FindsBytes, FindsEdits, FindsKnown, HasNoOrphan};
+ghost use Rattle.blob_fs.specs.Draws.{DrawsCrash};
 ghost use Rattle.blob_fs.specs.Errors.{IsLimited, IsExhaustedError, OnlyMemoryRefuses};
 ghost use Rattle.blob_fs.specs.Fixed.{FindsFixed, FixesFound};
-ghost use Rattle.blob_fs.specs.Files.{FindsKept, FindsTold, GivesNames, GivesTold, IsRecovered, KeepsNames, KeepsTold, SameNames};
+ghost use Rattle.blob_fs.specs.Files.{FindsKept, FindsTold, GivesNames, GivesTold, IsRecovered, KeepsNames, KeepsOptions, KeepsTold, SameNames};
 ghost use Rattle.blob_fs.specs.Places.{FindsPlaces};
 
 use crate::error::FsError;
@@ -72,6 +73,7 @@ impl<R: Rng + Drop> FileSystem<R> {
     /// all 2^64 - 1 numbers of blobs. If the layer's crash failed, nothing has changed. If the recovery did, all other calls return
     /// `Crashed` until a crash returns Ok, which applies truncations by the writes that this one kept.
     pub fn crash(&mut self) -> Result<Crash, FsError>
+        ensures drawn { IfOk result (λ crash. DrawsCrash R.stream self.old crash.rows) }
         ensures found { IfOk result (λ crash. FindsKept self.old crash.rows self.new) }
         ensures gives { OnOk result (GivesNames self.new) }
         ensures recovered { OnOk result (IsRecovered self.new) }
@@ -88,6 +90,7 @@ impl<R: Rng + Drop> FileSystem<R> {
         ensures fixes { OnOk result (FixesFound self.old self.new) }
         ensures errors { OnlyMemoryRefuses self.new result }
         ensures places { IfOk result (λ crash. FindsPlaces self.old crash.rows crash.places.items) }
+        ensures options { KeepsOptions self.old self.new }
     {
         found();
         blobs::<R>();

@@ -1,6 +1,6 @@
 //! A sync that fails and drops what was unsynced: what reads return after it.
 ghost use Rattle.std.specs.Prelude.{◌≡◌};
-ghost use Rattle.blob_fs.specs.Files.{KeepsNames, KeepsTold, SameLinks, SameOpens, journaled_of};
+ghost use Rattle.blob_fs.specs.Files.{KeepsNames, KeepsOptions, KeepsTold, SameLinks, SameOpens, journaled_of};
 ghost use Rattle.blob_fs.specs.Fixed.{KeepsFixed, KeepsSeen};
 ghost use Rattle.blob_fs.specs.Named.{links_of};
 ghost use Rattle.blob_fs.specs.Noted.{ShowsSize};
@@ -118,6 +118,7 @@ impl<R: Rng + Drop> FileSystem<R> {
         ensures names { KeepsNames self.old self.new }
         ensures told { KeepsTold self.old self.new }
         ensures fixed { KeepsFixed self.old self.new }
+        ensures options { KeepsOptions self.old self.new }
     {
         self.store.set_config(Config::default());
         let Some(file) = self.files.get_mut(&inode) else {
@@ -140,6 +141,7 @@ impl<R: Rng + Drop> FileSystem<R> {
         ensures told { KeepsTold self.old self.new }
         ensures fixed { KeepsFixed self.old self.new }
         ensures seen { KeepsSeen self.old self.new }
+        ensures options { KeepsOptions self.old self.new }
     {
         let Some(file) = self.files.get_mut(&inode) else {
             return;

@@ -55,8 +55,8 @@ pub(crate) struct File {
     pub(crate) found: u64,
     /// The number of the next edit when its size last grew.
     pub(crate) grown: u64,
-    /// It was written or truncated since its last sync.
-    pub(crate) is_changed: bool,
+    /// The number of the next edit when it was last written.
+    pub(crate) changed: u64,
     /// An open truncated it.
     pub(crate) is_truncated: bool,
     /// What reads return in place of the blob's bytes, after a sync that failed and dropped some.

@@ -1,14 +1,14 @@
 //! Open files: their bytes and sizes.
-ghost use Rattle.std.specs.Prelude.{◌≡◌, [], false, length, IfOk, None, Some, OnOk};
+ghost use Rattle.std.specs.Prelude.{◌≡◌, [], false, length, IfOk, IsSome, None, Some, OnOk};
 ghost use Rattle.blob_fs.specs.declared.switches.FailedWrite.TheVariants.{ByMode};
 ghost use Rattle.blob_fs.specs.Writes.{RecordsWrite, failed_write_of};
 ghost use Rattle.blob_fs.specs.Fixed.{KeepsFixed, KeepsFixedBut, KeepsSpared};
-ghost use Rattle.blob_fs.specs.Noted.{HasSize, size_read};
+ghost use Rattle.blob_fs.specs.Noted.{HasSize, size_in, size_read};
 ghost use Rattle.blob_fs.specs.Named.{links_of};
 ghost use Rattle.blob_fs.specs.Open.{SameContent};
 ghost use Rattle.blob_fs.specs.Tracked.{freed_of};
 ghost use Rattle.blob_journal.specs.Fixed.{IsBeside};
-ghost use Rattle.blob_fs.specs.Files.{KeepsNames, KeepsTold, MayResize, SameFiles, SameLinks, SameOpens, fresh_inode, inode_opened, journaled_of};
+ghost use Rattle.blob_fs.specs.Files.{KeepsNames, KeepsOptions, KeepsTold, MayResize, SameFiles, SameLinks, SameOpens, fresh_inode, inode_opened, journaled_of};
 
 use crate::error::FsError;
 use crate::file_system::{Descriptor, File, FileSystem};
@@ -36,7 +36,7 @@ impl File {
             synced: 0,
             found: 0,
             grown: 0,
-            is_changed: false,
+            changed: 0,
             is_truncated: false,
             truncations: Vec::new(alloc),
             shown: None,
@@ -45,7 +45,7 @@ impl File {
         }
     }
 
-    /// Shows a write if it returned Ok. If the size has grown, it did so before this edit. Returns the size. There is capacity for it.
+    /// Shows a write before this edit, if it returned Ok. Returns the size. There is capacity for it.
     fn end_write(&mut self, is_ok: bool, offset: u64, bytes: &[u8], before: u64, edit: u64) -> u64
         ensures content { SameContent self.old self.new }
         ensures links { links_of self.new ≡ links_of self.old }
@@ -58,6 +58,7 @@ impl File {
         if now > before {
             self.grown = edit;
         }
+        self.changed = edit;
         now
     }
 
@@ -84,6 +85,8 @@ impl<R: Rng + Drop> FileSystem<R> {
         ensures names { KeepsNames self.old self.new }
         ensures told { KeepsTold self.old self.new }
         ensures fixed { KeepsFixed self.old self.new }
+        ensures options { KeepsOptions self.old self.new }
+        ensures store { journaled_of self.new ≡ journaled_of self.old }
     {
         if self.directories.contains_key(&inode) {
             return Err(FsError::IsDirectory);
@@ -109,6 +112,8 @@ impl<R: Rng + Drop> FileSystem<R> {
         ensures names { KeepsNames self.old self.new }
         ensures told { KeepsTold self.old self.new }
         ensures fixed { KeepsFixed self.old self.new }
+        ensures options { KeepsOptions self.old self.new }
+        ensures store { journaled_of self.new ≡ journaled_of self.old }
     {
         if let Some(file) = self.files.get_mut(&inode) {
             let file = file.as_mut();
@@ -121,6 +126,7 @@ impl<R: Rng + Drop> FileSystem<R> {
         ensures names { KeepsNames self.old self.new }
         ensures told { KeepsTold self.old self.new }
         ensures fixed { KeepsFixed self.old self.new }
+        ensures options { KeepsOptions self.old self.new }
     {
         if let Some(file) = self.files.get_mut(&inode) {
             let file = file.as_mut();
@@ -134,6 +140,7 @@ impl<R: Rng + Drop> FileSystem<R> {
         ensures names { KeepsNames self.old self.new }
         ensures told { MayResize inode self.old self.new }
         ensures fixed { KeepsFixedBut inode self.old self.new }
+        ensures options { KeepsOptions self.old self.new }
     {
         self.begin_call()?;
         let file = self.open_inode(inode)?;
@@ -169,6 +176,8 @@ impl<R: Rng + Drop> FileSystem<R> {
         ensures names { KeepsNames self.old self.new }
         ensures told { KeepsTold self.old self.new }
         ensures fixed { KeepsFixed self.old self.new }
+        ensures options { KeepsOptions self.old self.new }
+        ensures open { OnOk result (IsSome (inode_opened self.old file)) }
     {
         self.begin_call()?;
         let inode = self.inode_of(file)?;
@@ -193,6 +202,7 @@ impl<R: Rng + Drop> FileSystem<R> {
         ensures names { KeepsNames self.old self.new }
         ensures told { KeepsTold self.old self.new }
         ensures fixed { KeepsFixed self.old self.new }
+        ensures options { KeepsOptions self.old self.new }
     {
         if self.is_truncated(inode) {
             return self.flush_by_profile(inode);
@@ -205,6 +215,7 @@ impl<R: Rng + Drop> FileSystem<R> {
         ensures names { KeepsNames self.old self.new }
         ensures told { KeepsTold self.old self.new }
         ensures fixed { KeepsFixed self.old self.new }
+        ensures options { KeepsOptions self.old self.new }
     {
         if self.options.profile.flushes {
             return self.flush(inode);
@@ -217,6 +228,7 @@ impl<R: Rng + Drop> FileSystem<R> {
         ensures names { KeepsNames self.old self.new }
         ensures told { KeepsTold self.old self.new }
         ensures fixed { KeepsFixed self.old self.new }
+        ensures options { KeepsOptions self.old self.new }
     {
         if self.options.syncs == Syncs::Lie {
             return Ok(());
@@ -249,7 +261,9 @@ impl<R: Rng + Drop> FileSystem<R> {
     }
 
     /// Returns a file's size in bytes by its inode, 0 for a directory and for a number of none.
-    pub fn size_of(&self, inode: u64) -> u64 {
+    pub fn size_of(&self, inode: u64) -> u64
+        ensures { result ≡ size_in self.now inode }
+    {
         match self.file(inode) {
             None => 0,
             Some(file) => file.size(),
@@ -265,6 +279,8 @@ impl<R: Rng + Drop> FileSystem<R> {
         ensures names { KeepsNames self.old self.new }
         ensures told { KeepsTold self.old self.new }
         ensures fixed { KeepsFixed self.old self.new }
+        ensures options { KeepsOptions self.old self.new }
+        ensures open { OnOk result (IsSome (inode_opened self.old file)) }
     {
         self.begin_call()?;
         let inode = self.inode_of(file)?;
@@ -299,6 +315,7 @@ impl<R: Rng + Drop> FileSystem<R> {
         ensures names { KeepsNames self.old self.new }
         ensures told { KeepsTold self.old self.new }
         ensures fixed { KeepsFixed self.old self.new }
+        ensures options { KeepsOptions self.old self.new }
     {
         self.used = self.used.saturating_sub(size).saturating_add(now);
     }
@@ -314,6 +331,8 @@ impl<R: Rng + Drop> FileSystem<R> {
         ensures told { KeepsTold self.old self.new }
         ensures recorded { OnOk result (failed_write_of self.old ≡ ByMode → RecordsWrite file offset bytes.now self.old self.new) }
         ensures fixed { KeepsSpared file (IsBeside offset (length bytes.now)) self.old self.new }
+        ensures options { KeepsOptions self.old self.new }
+        ensures open { OnOk result (IsSome (inode_opened self.old file)) }
     {
         self.begin_call()?;
         let inode = self.inode_of(file)?;
@@ -321,13 +340,12 @@ impl<R: Rng + Drop> FileSystem<R> {
         let end = offset.saturating_add(bytes.len() as u64);
         self.check_room(size, end)?;
         let how = self.draw_write(inode)?;
-        let grown = self.store.next_edit();
+        let next_edit = self.store.next_edit();
         let Some(found) = self.files.get_mut(&inode) else {
             return Err(FsError::Stale);
         };
         let found = found.as_mut();
         found.reserve_shown(end)?;
-        found.is_changed = true;
         let written = write_blob(
             &mut found.blob,
             &mut self.store,
@@ -336,7 +354,7 @@ impl<R: Rng + Drop> FileSystem<R> {
             offset,
             bytes,
         );
-        let now = found.end_write(written.is_ok(), offset, bytes, size, grown);
+        let now = found.end_write(written.is_ok(), offset, bytes, size, next_edit);
         self.count(size, now);
         match written {
             Ok(()) => Ok(()),

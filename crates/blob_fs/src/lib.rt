@@ -2,8 +2,11 @@
 #![tactic(auto)]
 
 pub mod access;
+pub mod answer;
 mod base;
 mod boxed_file;
+pub mod call;
+pub mod commit;
 pub mod crash;
 mod draws;
 mod drops;
@@ -18,6 +21,7 @@ pub mod paths;
 mod places;
 mod recovery;
 pub mod renames;
+pub mod reply;
 pub mod run;
 pub mod switches;
 pub mod syncs;
@@ -31,10 +35,11 @@ mod writes;
 pub use blob_directory::{
     Binding, Change, Edit, Keeps, Kind, Profile, Settles, edit, profile, table,
 };
+pub use call::Call;
 pub use crash::{Crash, Place};
 pub use error::FsError;
 pub use file_system::{Descriptor, FileSystem, Options, ROOT};
 pub use renames::Rename;
-pub use run::Call;
+pub use reply::Reply;
 pub use switches::{FailedSync, FailedWrite, Syncs};
 pub use whole::TreeEntry;

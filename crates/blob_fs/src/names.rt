@@ -1,6 +1,6 @@
 //! Names by directory: files are created, linked and unlinked, directories are made, removed and listed.
 ghost use Rattle.std.specs.Prelude.{◌≡◌, ◌∷◌, [], None, Some, OnOk, OnErr, IfOk, IsSome, pred};
-ghost use Rattle.blob_fs.specs.Files.{AddsTold, KeepsNames, KeepsTold, MakesEdit, SameNames, file_of, fresh_inode, journaled_of, names_of, told_of};
+ghost use Rattle.blob_fs.specs.Files.{AddsTold, KeepsNames, KeepsOptions, KeepsTold, MakesEdit, NotesEdit, SameNames, about_name, about_named, file_of, fresh_inode, inode_opened, journaled_of, names_of, told_of};
 ghost use Rattle.blob_fs.specs.Bytes.{file_in};
 ghost use Rattle.blob_fs.specs.Fixed.{KeepsFixed, KeepsFixedBut};
 ghost use Rattle.blob_fs.specs.Named.{links_in};
@@ -18,8 +18,10 @@ use blob_directory::unsettled::About;
 use blob_journal::FileBlob;
 use rand_core::Rng;
 
-/// An edit about one inode in one directory.
-fn about(inode: u64, directory: u64) -> About {
+/// Returns what an edit of a name of an inode in a directory is about.
+fn about(inode: u64, directory: u64) -> About
+    ensures { result ≡ about_name inode directory }
+{
     About {
         inode,
         other: None,
@@ -67,10 +69,13 @@ impl<R: Rng + Drop> FileSystem<R> {
     pub fn create_at(&mut self, directory: u64, name: &[u8]) -> Result<Descriptor, FsError>
         ensures made { OnOk result (MakesEdit (binds directory name.now (file (fresh_inode self.old))) self.old self.new) }
         ensures free { OnOk result (names_of self.old (entry directory name.now) ≡ None) }
+        ensures opened { IfOk result (λ f. inode_opened self.new f ≡ Some (fresh_inode self.old)) }
         ensures refused { OnErr result (SameNames self.old self.new) }
         ensures told { OnOk result (AddsTold (binds directory name.now (file (fresh_inode self.old))) self.old self.new) }
         ensures untold { OnErr result (KeepsTold self.old self.new) }
         ensures fixed { KeepsFixed self.old self.new }
+        ensures options { KeepsOptions self.old self.new }
+        ensures noted { OnOk result (NotesEdit (binds directory name.now (file (fresh_inode self.old))) (about_name (fresh_inode self.old) directory) self.old self.new) }
     {
         let inode = self.next_inode;
         self.begin_call()?;
@@ -98,6 +103,8 @@ impl<R: Rng + Drop> FileSystem<R> {
         ensures names { KeepsNames self.old self.new }
         ensures told { KeepsTold self.old self.new }
         ensures fixed { KeepsFixedBut inode self.old self.new }
+        ensures options { KeepsOptions self.old self.new }
+        ensures store { journaled_of self.new ≡ journaled_of self.old }
     {
         let file = File::new(self.alloc, blob);
         let boxed = BoxedFile::new(self.alloc, file)?;
@@ -110,10 +117,13 @@ impl<R: Rng + Drop> FileSystem<R> {
         requires opened { IsOpen (journaled_of self.old) inode blob }
         requires unnamed { ∥ NamedAtMost (names_of self.old) inode 0 ∥₁ }
         requires unfound { MayName (told_of self.old) inode → ⊥ }
+        ensures opened { IfOk result (λ f. inode_opened self.new f ≡ Some inode) }
         ensures links { OnOk result (links_in (file_in self.new inode) ≡ 1) }
         ensures names { KeepsNames self.old self.new }
         ensures told { KeepsTold self.old self.new }
         ensures fixed { KeepsFixedBut inode self.old self.new }
+        ensures options { KeepsOptions self.old self.new }
+        ensures store { OnOk result (journaled_of self.new ≡ journaled_of self.old) }
     {
         self.add_file(inode, blob)?;
         match self.open_inode(inode) {
@@ -138,6 +148,8 @@ impl<R: Rng + Drop> FileSystem<R> {
         ensures told { IfOk result (λ d. AddsTold (binds directory name.now (directory_at d)) self.old self.new) }
         ensures untold { OnErr result (KeepsTold self.old self.new) }
         ensures fixed { KeepsFixed self.old self.new }
+        ensures options { KeepsOptions self.old self.new }
+        ensures noted { IfOk result (λ d. NotesEdit (binds directory name.now (directory_at d)) (about_name d directory) self.old self.new) }
     {
         let inode = self.next_inode;
         self.begin_call()?;
@@ -168,6 +180,8 @@ impl<R: Rng + Drop> FileSystem<R> {
         ensures told { OnOk result (AddsTold (binds directory name.now (file inode)) self.old self.new) }
         ensures untold { OnErr result (KeepsTold self.old self.new) }
         ensures fixed { KeepsFixed self.old self.new }
+        ensures options { KeepsOptions self.old self.new }
+        ensures noted { OnOk result (NotesEdit (binds directory name.now (file inode)) (about_name inode directory) self.old self.new) }
     {
         self.begin_call()?;
         if self.directories.contains_key(&inode) {
@@ -199,6 +213,8 @@ impl<R: Rng + Drop> FileSystem<R> {
         ensures names { KeepsNames self.old self.new }
         ensures told { KeepsTold self.old self.new }
         ensures fixed { KeepsFixed self.old self.new }
+        ensures options { KeepsOptions self.old self.new }
+        ensures store { journaled_of self.new ≡ journaled_of self.old }
     {
         if let Some(file) = self.files.get_mut(&inode) {
             let file = file.as_mut();
@@ -212,6 +228,8 @@ impl<R: Rng + Drop> FileSystem<R> {
         ensures names { KeepsNames self.old self.new }
         ensures told { KeepsTold self.old self.new }
         ensures fixed { KeepsFixed self.old self.new }
+        ensures options { KeepsOptions self.old self.new }
+        ensures store { journaled_of self.new ≡ journaled_of self.old }
     {
         if let Some(file) = self.files.get_mut(&inode) {
             let file = file.as_mut();
@@ -226,6 +244,8 @@ impl<R: Rng + Drop> FileSystem<R> {
         ensures names { KeepsNames self.old self.new }
         ensures told { KeepsTold self.old self.new }
         ensures fixed { KeepsFixed self.old self.new }
+        ensures options { KeepsOptions self.old self.new }
+        ensures store { journaled_of self.new ≡ journaled_of self.old }
     {
         self.drop_name(inode);
         self.let_go(inode);
@@ -242,6 +262,8 @@ impl<R: Rng + Drop> FileSystem<R> {
         ensures told { OnOk result (AddsTold (frees directory name.now) self.old self.new) }
         ensures untold { OnErr result (KeepsTold self.old self.new) }
         ensures fixed { KeepsFixed self.old self.new }
+        ensures options { KeepsOptions self.old self.new }
+        ensures noted { OnOk result (NotesEdit (frees directory name.now) (about_named self.old directory name.now) self.old self.new) }
     {
         self.begin_call()?;
         let entry = self.entry_in(directory, name)?;
@@ -268,6 +290,8 @@ impl<R: Rng + Drop> FileSystem<R> {
         ensures told { OnOk result (AddsTold (frees directory name.now) self.old self.new) }
         ensures untold { OnErr result (KeepsTold self.old self.new) }
         ensures fixed { KeepsFixed self.old self.new }
+        ensures options { KeepsOptions self.old self.new }
+        ensures noted { OnOk result (NotesEdit (frees directory name.now) (about_named self.old directory name.now) self.old self.new) }
     {
         self.begin_call()?;
         let entry = self.entry_in(directory, name)?;

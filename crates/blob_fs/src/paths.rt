@@ -4,7 +4,7 @@ ghost use Rattle.blob_directory.specs.Names.{directory_at, entry};
 ghost use Rattle.blob_directory.specs.Paths.{IsPlace, LeadsTo};
 ghost use Rattle.blob_fs.specs.declared.switches.Syncs.TheVariants.{Honest};
 ghost use Rattle.blob_fs.specs.Calls.{Leaves};
-ghost use Rattle.blob_fs.specs.Files.{KeepsNames, KeepsTold, MayResizeSome, SettlesSome, names_of, syncs_of};
+ghost use Rattle.blob_fs.specs.Files.{KeepsNames, KeepsOptions, KeepsTold, MayResizeSome, SettlesSome, names_of, syncs_of};
 ghost use Rattle.blob_fs.specs.Paths.{CreatesAt, FreesAt, IsBound, LinksAt, Lists, MakesDirectoryAt, RenamesPath, SyncsPath};
 
 use crate::error::FsError;
@@ -75,6 +75,7 @@ impl<R: Rng + Drop> FileSystem<R> {
     pub fn create(&mut self, path: &[u8]) -> Result<Descriptor, FsError>
         ensures made { OnOk result (CreatesAt path.now self.old self.new) }
         ensures refused { OnErr result (Leaves self.old self.new) }
+        ensures options { KeepsOptions self.old self.new }
     {
         let (directory, name) = self.place_of(path)?;
         self.create_at(directory, name)
@@ -84,6 +85,7 @@ impl<R: Rng + Drop> FileSystem<R> {
     pub fn open(&mut self, path: &[u8]) -> Result<Descriptor, FsError>
         ensures names { KeepsNames self.old self.new }
         ensures told { KeepsTold self.old self.new }
+        ensures options { KeepsOptions self.old self.new }
     {
         self.begin_call()?;
         let found = self.find(path)?;
@@ -95,6 +97,7 @@ impl<R: Rng + Drop> FileSystem<R> {
     pub fn open_truncated(&mut self, path: &[u8]) -> Result<Descriptor, FsError>
         ensures names { KeepsNames self.old self.new }
         ensures told { MayResizeSome self.old self.new }
+        ensures options { KeepsOptions self.old self.new }
     {
         self.begin_call()?;
         let found = self.find(path)?;
@@ -105,6 +108,7 @@ impl<R: Rng + Drop> FileSystem<R> {
     pub fn link(&mut self, path: &[u8], to: &[u8]) -> Result<(), FsError>
         ensures made { OnOk result (LinksAt path.now to.now self.old self.new) }
         ensures refused { OnErr result (Leaves self.old self.new) }
+        ensures options { KeepsOptions self.old self.new }
     {
         let found = self.find(path)?;
         let (directory, name) = self.place_of(to)?;
@@ -115,6 +119,7 @@ impl<R: Rng + Drop> FileSystem<R> {
     pub fn unlink(&mut self, path: &[u8]) -> Result<(), FsError>
         ensures made { OnOk result (FreesAt path.now self.old self.new) }
         ensures refused { OnErr result (Leaves self.old self.new) }
+        ensures options { KeepsOptions self.old self.new }
     {
         let (directory, name) = self.place_of(path)?;
         self.unlink_at(directory, name)
@@ -124,6 +129,7 @@ impl<R: Rng + Drop> FileSystem<R> {
     pub fn rename(&mut self, path: &[u8], to: &[u8], how: Rename) -> Result<(), FsError>
         ensures renamed { OnOk result (RenamesPath how path.now to.now self.old self.new) }
         ensures refused { OnErr result (Leaves self.old self.new) }
+        ensures options { KeepsOptions self.old self.new }
     {
         let from = self.place_of(path)?;
         let to = self.place_of(to)?;
@@ -134,6 +140,7 @@ impl<R: Rng + Drop> FileSystem<R> {
     pub fn make_directory(&mut self, path: &[u8]) -> Result<(), FsError>
         ensures made { OnOk result (MakesDirectoryAt path.now self.old self.new) }
         ensures refused { OnErr result (Leaves self.old self.new) }
+        ensures options { KeepsOptions self.old self.new }
     {
         let (directory, name) = self.place_of(path)?;
         self.make_directory_at(directory, name)?;
@@ -144,6 +151,7 @@ impl<R: Rng + Drop> FileSystem<R> {
     pub fn remove_directory(&mut self, path: &[u8]) -> Result<(), FsError>
         ensures made { OnOk result (FreesAt path.now self.old self.new) }
         ensures refused { OnErr result (Leaves self.old self.new) }
+        ensures options { KeepsOptions self.old self.new }
     {
         let (directory, name) = self.place_of(path)?;
         self.remove_directory_at(directory, name)
@@ -162,6 +170,7 @@ impl<R: Rng + Drop> FileSystem<R> {
         ensures names { KeepsNames self.old self.new }
         ensures some { SettlesSome self.old self.new }
         ensures settled { OnOk result (syncs_of self.old ≡ Honest → SyncsPath path.now self.old self.new) }
+        ensures options { KeepsOptions self.old self.new }
     {
         let directory = self.directory_of(path)?;
         self.sync_directory_at(directory)

@@ -12,7 +12,7 @@ ghost use Rattle.blob_fs.specs.Fixed.{AllFixed, AreWhole, FixesFound, IsWhole};
 ghost use Rattle.blob_fs.specs.Open.{AllOpen, MayChange};
 ghost use Rattle.blob_fs.specs.Named.{AllNamed, CountsLinks};
 ghost use Rattle.blob_fs.specs.Tracked.{AllPresent};
-ghost use Rattle.blob_fs.specs.Files.{FindsAgain, FindsNames, FindsTold, GivesNames, GivesTold, KeepsNames, KeepsTold, RepresentsFiles, fresh_inode, journaled_of, keeps_of, table_of};
+ghost use Rattle.blob_fs.specs.Files.{FindsAgain, FindsNames, FindsTold, GivesNames, GivesTold, KeepsNames, KeepsOptions, KeepsTold, RepresentsFiles, fresh_inode, journaled_of, keeps_of, table_of};
 ghost use Rattle.blob_journal.specs.Blobs.{ChangesFile, SameFilesBut};
 ghost use Rattle.blob_journal.specs.Currents.{KeepsFiles};
 ghost use Rattle.blob_journal.specs.Errors.{FailsAtLimits, IsFaultless, IsReady, KeepsReady, TracksSize};
@@ -354,6 +354,7 @@ impl<R: Rng + Drop> FileSystem<R> {
         ensures opened { OnOk result (AllOpen (journaled_of self.new) self.new.files) }
         ensures fixes { OnOk result (FixesFound self.old self.new) }
         ensures errors { StopsAtLimits (journaled_of self.new) result }
+        ensures options { KeepsOptions self.old self.new }
     {
         bindings();
         blobs::<R>();
@@ -387,6 +388,7 @@ impl<R: Rng + Drop> FileSystem<R> {
         ensures whole { OnOk result (AreWhole (journaled_of self.old) files → AreWhole (journaled_of self.new) files) }
         ensures numbers { OnOk result (fresh_inode self.new ≡ fresh_inode self.old) }
         ensures errors { IsFaultless (journaled_of self.old) → StopsAtLimits (journaled_of self.new) result }
+        ensures options { KeepsOptions self.old self.new }
     {
         bindings();
         blobs::<R>();

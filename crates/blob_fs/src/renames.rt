@@ -1,7 +1,7 @@
 //! Renames, in one step.
 ghost use Rattle.std.specs.Prelude.{◌≡◌, ◌≢◌, MatchBool, None, OnOk, OnErr, Some};
 ghost use Rattle.blob_fs.specs.Calls.{Leaves, Renames, RenamesAt};
-ghost use Rattle.blob_fs.specs.Files.{AddsTold, GrowsTold, KeepsNames, KeepsTold, MakesEdit, SameFiles, SameNames, names_of};
+ghost use Rattle.blob_fs.specs.Files.{AddsTold, GrowsTold, KeepsNames, KeepsOptions, KeepsTold, MakesEdit, SameFiles, SameNames, names_of};
 ghost use Rattle.blob_fs.specs.Fixed.{KeepsFixed};
 ghost use Rattle.blob_directory.specs.Names.{exchanges, moves};
 
@@ -85,6 +85,7 @@ impl<R: Rng + Drop> FileSystem<R> {
         ensures grows { GrowsTold self.old self.new }
         ensures untold { OnErr result (KeepsTold self.old self.new) }
         ensures fixed { KeepsFixed self.old self.new }
+        ensures options { KeepsOptions self.old self.new }
     {
         self.begin_call()?;
         let old = self.entry_in(from.0, from.1)?;
@@ -113,6 +114,7 @@ impl<R: Rng + Drop> FileSystem<R> {
         ensures renamed { OnOk result (Renames how from.0.items to.0.items self.old self.new) }
         ensures refused { OnErr result (Leaves self.old self.new) }
         ensures fixed { KeepsFixed self.old self.new }
+        ensures options { KeepsOptions self.old self.new }
     {
         match how {
             Rename::Exchange => Err(FsError::NotFound),
@@ -134,6 +136,7 @@ impl<R: Rng + Drop> FileSystem<R> {
         ensures renamed { OnOk result (Renames how from.0.items to.0.items self.old self.new) }
         ensures refused { OnErr result (Leaves self.old self.new) }
         ensures fixed { KeepsFixed self.old self.new }
+        ensures options { KeepsOptions self.old self.new }
     {
         let (moved, was) = bound;
         match how {
@@ -159,6 +162,7 @@ impl<R: Rng + Drop> FileSystem<R> {
         ensures names { KeepsNames self.old self.new }
         ensures told { KeepsTold self.old self.new }
         ensures fixed { KeepsFixed self.old self.new }
+        ensures options { KeepsOptions self.old self.new }
     {
         if let Some(above) = self.directories.get_mut(&binding.inode) {
             *above = directory;
@@ -178,6 +182,7 @@ impl<R: Rng + Drop> FileSystem<R> {
         ensures untold { OnErr result (KeepsTold self.old self.new) }
         ensures files { SameFiles self.old self.new }
         ensures fixed { KeepsFixed self.old self.new }
+        ensures options { KeepsOptions self.old self.new }
     {
         let about = About {
             inode: moved.inode,
@@ -205,6 +210,7 @@ impl<R: Rng + Drop> FileSystem<R> {
         ensures told { OnOk result (AddsTold (moves from.0.items to.0.items moved) self.old self.new) }
         ensures untold { OnErr result (KeepsTold self.old self.new) }
         ensures fixed { KeepsFixed self.old self.new }
+        ensures options { KeepsOptions self.old self.new }
     {
         self.check_replaces(was, moved)?;
         self.flush_by_profile(moved.inode)?;
@@ -233,6 +239,7 @@ impl<R: Rng + Drop> FileSystem<R> {
         ensures told { OnOk result (AddsTold (exchanges from.0.items to.0.items moved was) self.old self.new) }
         ensures untold { OnErr result (KeepsTold self.old self.new) }
         ensures fixed { KeepsFixed self.old self.new }
+        ensures options { KeepsOptions self.old self.new }
     {
         if was.kind == Kind::Directory {
             self.check_not_below(was.inode, from.1)?;

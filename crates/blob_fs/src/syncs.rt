@@ -2,7 +2,7 @@
 ghost use Rattle.std.specs.Prelude.{◌≡◌, ◌<◌, IfOk, OnOk};
 ghost use Rattle.blob_fs.specs.declared.switches.Syncs.TheVariants.{Honest};
 ghost use Rattle.blob_fs.specs.Fixed.{FixesAll, FixesFile, FixesInode, KeepsFixed, KeepsSeen, ListsFiles};
-ghost use Rattle.blob_fs.specs.Files.{IsSyncOf, KeepsJournal, KeepsNames, KeepsTold, SettlesEdits, SettlesSome, SyncsAll, SyncsDirectory, SyncsFile, fresh_inode, journaled_of, syncs_of};
+ghost use Rattle.blob_fs.specs.Files.{IsSyncOf, KeepsJournal, KeepsNames, KeepsOptions, KeepsTold, SettlesEdits, SettlesSome, SyncsAll, SyncsDirectory, SyncsFile, fresh_inode, journaled_of, syncs_of};
 
 use crate::error::FsError;
 use crate::file_system::{Descriptor, FileSystem};
@@ -20,6 +20,7 @@ impl<R: Rng + Drop> FileSystem<R> {
         ensures some { SettlesSome self.old self.new }
         ensures settled { OnOk result (SettlesEdits settles synced self.old self.new) }
         ensures fixed { KeepsFixed self.old self.new }
+        ensures options { KeepsOptions self.old self.new }
     {
         settling::<R>();
         bindings();
@@ -42,25 +43,23 @@ impl<R: Rng + Drop> FileSystem<R> {
         Ok(Synced::File {
             inode,
             grown: file.as_ref().grown,
-            is_changed: file.as_ref().is_changed,
+            changed: file.as_ref().changed,
         })
     }
 
-    /// Returns what a sync of a file's data is, by what the file is before it, and whether the file stays changed.
-    fn data_sync_of(&self, inode: u64) -> Result<(Synced, bool), FsError>
-        ensures { IfOk result (λ r. IsSyncOf inode r.0) }
+    /// Returns what a sync of a file's data is, by what the file is before it: of its writes only those count that made it longer.
+    fn data_sync_of(&self, inode: u64) -> Result<Synced, FsError>
+        ensures { IfOk result (λ kind. IsSyncOf inode kind) }
     {
         let Some(file) = self.files.get(&inode) else {
             return Err(FsError::Stale);
         };
         let file = file.as_ref();
-        let is_resized = file.synced != file.blob.size();
-        let synced = Synced::File {
+        Ok(Synced::File {
             inode,
             grown: file.grown,
-            is_changed: is_resized,
-        };
-        Ok((synced, file.is_changed && !is_resized))
+            changed: file.grown,
+        })
     }
 
     /// Syncs an inode's bytes. Returns what is needed to choose the edits that this settles.
@@ -72,6 +71,7 @@ impl<R: Rng + Drop> FileSystem<R> {
         ensures fixed { KeepsFixed self.old self.new }
         ensures fixes { OnOk result (FixesInode inode self.old self.new) }
         ensures seen { OnOk result (KeepsSeen self.old self.new) }
+        ensures options { KeepsOptions self.old self.new }
     {
         let synced = self.sync_of(inode)?;
         let Some(file) = self.files.get_mut(&inode) else {
@@ -82,7 +82,6 @@ impl<R: Rng + Drop> FileSystem<R> {
             return Err(self.fail_sync(inode, error));
         }
         file.synced = file.blob.size();
-        file.is_changed = false;
         file.is_truncated = false;
         file.truncations.clear();
         Ok(synced)
@@ -93,6 +92,7 @@ impl<R: Rng + Drop> FileSystem<R> {
         ensures names { KeepsNames self.old self.new }
         ensures told { KeepsTold self.old self.new }
         ensures fixed { KeepsFixed self.old self.new }
+        ensures options { KeepsOptions self.old self.new }
     {
         if self.options.failed_sync == FailedSync::Drops && matches!(error, Error::Injected) {
             if let Err(error) = self.drop_unsynced(inode) {
@@ -100,19 +100,6 @@ impl<R: Rng + Drop> FileSystem<R> {
             }
         }
         FsError::Store(error)
-    }
-
-    /// Says whether a file has changed since its last sync.
-    fn set_changed(&mut self, inode: u64, is_changed: bool)
-        ensures store { journaled_of self.new ≡ journaled_of self.old }
-        ensures names { KeepsNames self.old self.new }
-        ensures told { KeepsTold self.old self.new }
-        ensures fixed { KeepsFixed self.old self.new }
-    {
-        if let Some(file) = self.files.get_mut(&inode) {
-            let file = file.as_mut();
-            file.is_changed = is_changed;
-        }
     }
 
     /// Makes a file's bytes and size durable, and settles the edits that the profile says.
@@ -128,6 +115,7 @@ impl<R: Rng + Drop> FileSystem<R> {
         ensures settled { OnOk result (syncs_of self.old ≡ Honest → SyncsFile self.old file self.new) }
         ensures fixed { KeepsFixed self.old self.new }
         ensures fixes { OnOk result (syncs_of self.old ≡ Honest → FixesFile self.old file self.new) }
+        ensures options { KeepsOptions self.old self.new }
     {
         settling::<R>();
         self.begin_call()?;
@@ -137,17 +125,12 @@ impl<R: Rng + Drop> FileSystem<R> {
         }
         let settles = self.options.profile.settles;
         let synced = self.sync_bytes(inode)?;
-        match self.settle_by(settles, synced) {
-            Ok(()) => Ok(()),
-            Err(error) => {
-                self.set_changed(inode, true);
-                Err(error)
-            }
-        }
+        self.settle_by(settles, synced)?;
+        Ok(())
     }
 
-    /// Makes a file's bytes and size durable. Settles the edits of a `sync` if the file's size changed since its last
-    /// sync or one of its names did.
+    /// Makes a file's bytes and size durable. Settles the edits of a `sync`, but with `Settles::All` not those between the file's
+    /// growth and its last overwrite.
     ///
     /// # Errors
     ///
@@ -159,6 +142,7 @@ impl<R: Rng + Drop> FileSystem<R> {
         ensures settled { OnOk result (syncs_of self.old ≡ Honest → SyncsFile self.old file self.new) }
         ensures fixed { KeepsFixed self.old self.new }
         ensures fixes { OnOk result (syncs_of self.old ≡ Honest → FixesFile self.old file self.new) }
+        ensures options { KeepsOptions self.old self.new }
     {
         settling::<R>();
         self.begin_call()?;
@@ -166,19 +150,11 @@ impl<R: Rng + Drop> FileSystem<R> {
         if self.options.syncs == Syncs::Lie {
             return Ok(());
         }
-        let (synced, stays_changed) = self.data_sync_of(inode)?;
+        let synced = self.data_sync_of(inode)?;
         let settles = self.options.profile.settles;
         self.sync_bytes(inode)?;
-        match self.settle_by(settles, synced) {
-            Ok(()) => {
-                self.set_changed(inode, stays_changed);
-                Ok(())
-            }
-            Err(error) => {
-                self.set_changed(inode, true);
-                Err(error)
-            }
-        }
+        self.settle_by(settles, synced)?;
+        Ok(())
     }
 
     /// Settles the edits of a directory's names, and more if the profile says so. Makes no draw.
@@ -192,6 +168,7 @@ impl<R: Rng + Drop> FileSystem<R> {
         ensures some { SettlesSome self.old self.new }
         ensures settled { OnOk result (syncs_of self.old ≡ Honest → SyncsDirectory self.old directory self.new) }
         ensures fixed { KeepsFixed self.old self.new }
+        ensures options { KeepsOptions self.old self.new }
     {
         settling::<R>();
         self.begin_call()?;
@@ -209,11 +186,12 @@ impl<R: Rng + Drop> FileSystem<R> {
     }
 
     /// Settles all edits.
-    fn settle_names(&mut self) -> Result<(), FsError>
+    pub(crate) fn settle_names(&mut self) -> Result<(), FsError>
         ensures names { KeepsNames self.old self.new }
         ensures some { SettlesSome self.old self.new }
         ensures settled { OnOk result (SyncsAll self.old self.new) }
         ensures fixed { KeepsFixed self.old self.new }
+        ensures options { KeepsOptions self.old self.new }
     {
         self.settle_by(Settles::All, Synced::Directory(0))
     }
@@ -230,6 +208,7 @@ impl<R: Rng + Drop> FileSystem<R> {
         ensures settled { OnOk result (syncs_of self.old ≡ Honest → SyncsAll self.old self.new) }
         ensures fixed { KeepsFixed self.old self.new }
         ensures fixes { OnOk result (syncs_of self.old ≡ Honest → FixesAll self.old self.new) }
+        ensures options { KeepsOptions self.old self.new }
     {
         settling::<R>();
         self.begin_call()?;
@@ -270,6 +249,7 @@ impl<R: Rng + Drop> FileSystem<R> {
         ensures settled { OnOk result (SyncsAll self.old self.new) }
         ensures fixed { KeepsFixed self.old self.new }
         ensures fixes { OnOk result (FixesAll self.old self.new) }
+        ensures options { KeepsOptions self.old self.new }
     {
         settling::<R>();
         self.begin_call()?;

@@ -3,7 +3,7 @@ ghost use Rattle.std.specs.Prelude.{◌≡◌, ◌<◌, OnOk};
 ghost use Rattle.blob_fs.specs.Fixed.{KeepsFixed, KeepsSpared};
 ghost use Rattle.blob_fs.specs.Named.{links_of};
 ghost use Rattle.blob_fs.specs.Noted.{HasSize, NotesTruncation, ShowsSize};
-ghost use Rattle.blob_fs.specs.Files.{KeepsNames, KeepsTold, MayTruncate};
+ghost use Rattle.blob_fs.specs.Files.{KeepsNames, KeepsOptions, KeepsTold, MayTruncate};
 ghost use Rattle.blob_fs.specs.Tracked.{freed_of};
 
 use crate::error::FsError;
@@ -21,7 +21,6 @@ impl File {
         ensures links { links_of self.new ≡ links_of self.old }
         ensures gone { freed_of self.new ≡ freed_of self.old }
     {
-        self.is_changed = true;
         self.grown = edit;
         self.show_size(length);
         self.size()
@@ -43,6 +42,7 @@ impl<R: Rng + Drop> FileSystem<R> {
         ensures noted { OnOk result (NotesTruncation file length self.old self.new) }
         ensures size { OnOk result (HasSize self.new file length) }
         ensures fixed { KeepsSpared file (λ at. at < length) self.old self.new }
+        ensures options { KeepsOptions self.old self.new }
     {
         bindings();
         self.begin_call()?;
@@ -82,6 +82,7 @@ impl<R: Rng + Drop> FileSystem<R> {
         ensures names { KeepsNames self.old self.new }
         ensures told { KeepsTold self.old self.new }
         ensures fixed { KeepsFixed self.old self.new }
+        ensures options { KeepsOptions self.old self.new }
     {
         if let Some(found) = self.files.get_mut(&inode) {
             let found = found.as_mut();
@@ -94,6 +95,7 @@ impl<R: Rng + Drop> FileSystem<R> {
         ensures names { KeepsNames self.old self.new }
         ensures told { MayTruncate file self.old self.new }
         ensures fixed { KeepsSpared file (λ at. at < 0) self.old self.new }
+        ensures options { KeepsOptions self.old self.new }
     {
         self.truncate(file, 0)?;
         let inode = self.inode_of(file)?;

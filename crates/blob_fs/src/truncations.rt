@@ -165,14 +165,14 @@ pub(crate) fn are_same(one: &[u8], other: &[u8]) -> bool
     one == other
 }
 
-/// Returns the size from which the cut of a file counts.
+/// Returns the size from which the cut of a file counts: the length of the last truncation that wasn't lost, or else the synced size.
 pub(crate) fn cut_start(loss: &Loss, synced: u64, truncations: &[Truncation]) -> u64
     ensures { result ≡ start_of loss.now.lost.items synced truncations.now }
 {
     let mut start = synced;
     for truncation in truncations {
         if !is_lost(&loss.lost, truncation) {
-            start = start.min(truncation.length);
+            start = truncation.length;
         }
     }
     start

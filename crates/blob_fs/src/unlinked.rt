@@ -1,7 +1,7 @@
 //! Files that no name and no descriptor refers to.
 ghost use Rattle.std.specs.Prelude.{◌≡◌, take, true};
 ghost use Rattle.blob_directory.specs.Counts.{NamedAtMost};
-ghost use Rattle.blob_fs.specs.Files.{IsGoneBy, KeepsJournal, KeepsNames, KeepsTold, names_of, told_of};
+ghost use Rattle.blob_fs.specs.Files.{IsGoneBy, KeepsJournal, KeepsNames, KeepsOptions, KeepsTold, journaled_of, names_of, told_of};
 ghost use Rattle.blob_fs.specs.Fixed.{KeepsFixed};
 ghost use Rattle.blob_journal.specs.Bindings.{MayName};
 ghost use Rattle.blob_directory.specs.Settled.{AreSettled};
@@ -25,6 +25,8 @@ impl<R: Rng + Drop> FileSystem<R> {
         ensures names { KeepsNames self.old self.new }
         ensures told { KeepsTold self.old self.new }
         ensures fixed { KeepsFixed self.old self.new }
+        ensures options { KeepsOptions self.old self.new }
+        ensures store { journaled_of self.new ≡ journaled_of self.old }
     {
         bindings();
         let edits = self.store.told_edits();
@@ -62,6 +64,7 @@ impl<R: Rng + Drop> FileSystem<R> {
         ensures told { KeepsTold self.old self.new }
         ensures journal { KeepsJournal self.old self.new }
         ensures fixed { KeepsFixed self.old self.new }
+        ensures options { KeepsOptions self.old self.new }
     {
         bindings();
         if self.is_gone_by(inode, settled) {
@@ -75,6 +78,7 @@ impl<R: Rng + Drop> FileSystem<R> {
         ensures told { KeepsTold self.old self.new }
         ensures journal { KeepsJournal self.old self.new }
         ensures fixed { KeepsFixed self.old self.new }
+        ensures options { KeepsOptions self.old self.new }
     {
         settling::<R>();
         let settled = self.store.settled_edits();
@@ -99,6 +103,7 @@ impl<R: Rng + Drop> FileSystem<R> {
         ensures told { KeepsTold self.old self.new }
         ensures journal { KeepsJournal self.old self.new }
         ensures fixed { KeepsFixed self.old self.new }
+        ensures options { KeepsOptions self.old self.new }
     {
         settling::<R>();
         self.store.set_config(Config::default());

@@ -1,6 +1,6 @@
 //! All files and directories at once, for a reader that looks at the outcome of a test.
 ghost use Rattle.blob_fs.specs.Fixed.{KeepsFixed};
-ghost use Rattle.blob_fs.specs.Files.{KeepsNames, KeepsTold};
+ghost use Rattle.blob_fs.specs.Files.{KeepsNames, KeepsOptions, KeepsTold};
 
 use crate::error::FsError;
 use crate::file_system::{FileSystem, ROOT};
@@ -52,6 +52,7 @@ impl<R: Rng + Drop> FileSystem<R> {
         ensures names { KeepsNames self.old self.new }
         ensures told { KeepsTold self.old self.new }
         ensures fixed { KeepsFixed self.old self.new }
+        ensures options { KeepsOptions self.old self.new }
     {
         self.begin_call()?;
         self.draw_nothing();
@@ -80,6 +81,7 @@ impl<R: Rng + Drop> FileSystem<R> {
     pub fn tree(&mut self) -> Result<Vec<TreeEntry>, FsError>
         ensures names { KeepsNames self.old self.new }
         ensures told { KeepsTold self.old self.new }
+        ensures options { KeepsOptions self.old self.new }
     {
         let mut found = Vec::new(self.alloc);
         let mut left = Vec::new(self.alloc);

@@ -1,4 +1,4 @@
-use Rattle.std.proofs.Common.{◌<◌, arith}
+use Rattle.std.proofs.Common.{◌<◌, arith, refl}
 use Rattle.blob_fs.proofs.Fixed.{opened_store}
 use Rattle.std.proofs.Common.{ap, sym, ◌∙◌}
 use Rattle.blob_directory.specs.declared.table.Table.{Table}
@@ -19,6 +19,9 @@ use Rattle.blob_fs.proofs.Growing.{told_as}
 use Rattle.blob_fs.specs.Files.{told_of}
 use Rattle.blob_directory.specs.Names.{file}
 use Rattle.std.proofs.Common.{◌∷◌, [], List, None, Some, ap, ℕ, ◌∙◌}
+use Rattle.blob_journal.specs.Settling.{unsettled_of}
+use Rattle.blob_journal.specs.declared.journaled.Journaled.{Journaled}
+use Rattle.blob_fs.proofs.Noting.{noted_between}
 use Rattle.blob_fs.proofs.file_system.FileSystem.create_at.Goals as goal
 
 pub returns-in_err-descriptor-clause-refused : goal.returns-in_err-descriptor-clause-refused
@@ -104,3 +107,8 @@ remove_file-requires g c =
 pub returns-clause-told : goal.returns-clause-told
 returns-clause-told g c = told_as (told_of c.args.self.now) (told_of c.open_new.new.self) (told_of c.make.new.self) _ _
     (c.one-edit.ensures ∙ ap (λ (x : List ℕ). (x, Some (file c.args.self.now.next_inode)) ∷ []) c.in_ok-entry.ensures) (c.open_new.ensures.told ∙ c.open_file.ensures.told ∙ c.begin_call.ensures.told) c.in_default.ensures.told
+
+pub returns-clause-noted : goal.returns-clause-noted
+returns-clause-noted g c = noted_between c.args.self.now.store c.open_new.new.self.store c.make.new.self.store c.make.new.self.store _ _ _ _
+    (c.one-edit.ensures ∙ ap (λ (x : List ℕ). (x, Some (file c.args.self.now.next_inode)) ∷ []) c.in_ok-entry.ensures) c.about.ensures
+    (ap (λ (j : Journaled g.row.R.Denot). unsettled_of j) c.in_ok-descriptor.ensures.store ∙ c.open_file.ensures.unsettled ∙ c.in_ok-begin_call.ensures.journal.unsettled) c.in_default.ensures.noted refl

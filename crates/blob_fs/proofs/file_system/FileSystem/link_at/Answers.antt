@@ -6,6 +6,9 @@ use Rattle.blob_fs.proofs.Growing.{told_as}
 use Rattle.blob_fs.specs.Files.{told_of}
 use Rattle.blob_directory.specs.Names.{file}
 use Rattle.std.proofs.Common.{◌∷◌, [], List, Some, ap, ℕ, ◌∙◌}
+use Rattle.blob_journal.specs.Settling.{unsettled_of}
+use Rattle.blob_journal.specs.declared.journaled.Journaled.{Journaled}
+use Rattle.blob_fs.proofs.Noting.{noted_between}
 use Rattle.blob_fs.proofs.file_system.FileSystem.link_at.Goals as goal
 
 pub set_links-requires : goal.set_links-requires
@@ -46,3 +49,8 @@ returns-clause-fixed g c = λ inode at byte below f.
 pub returns-clause-told : goal.returns-clause-told
 returns-clause-told g c = told_as (told_of c.args.self.now) (told_of c.set_links.new.self) (told_of c.make.new.self) _ _
     (c.one-edit.ensures ∙ ap (λ (x : List ℕ). (x, Some (file c.args.inode)) ∷ []) c.in_ok-entry.ensures) (c.set_links.ensures.told ∙ c.begin_call.ensures.told) c.in_default.ensures.told
+
+pub returns-clause-noted : goal.returns-clause-noted
+returns-clause-noted g c = noted_between c.args.self.now.store c.set_links.new.self.store c.make.new.self.store c.make.new.self.store _ _ _ _
+    (c.one-edit.ensures ∙ ap (λ (x : List ℕ). (x, Some (file c.args.inode)) ∷ []) c.in_ok-entry.ensures) c.about.ensures
+    (ap (λ (j : Journaled g.row.R.Denot). unsettled_of j) c.set_links.ensures.store ∙ c.in_ok-begin_call.ensures.journal.unsettled) c.in_default.ensures.noted refl

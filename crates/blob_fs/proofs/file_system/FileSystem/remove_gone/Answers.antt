@@ -9,6 +9,7 @@ loop-i-init g c = record {
   names = refl;
   journal = record { place = refl; durable = refl; pending = refl; files = λ r. r; unsettled = refl; told = refl };
   told = refl;
+  options = refl;
   fixed = λ inode at byte below h. h;
 }
 
@@ -17,6 +18,7 @@ loop-i-preserved g c = record {
   names = c.remove_settled.ensures.names ∙ c.loop-i.invariant.names;
   journal = c.settling.ensures.twice c.args.self.now.store c.loop-i.self.store c.remove_settled.new.self.store c.loop-i.invariant.journal c.remove_settled.ensures.journal;
   told = c.remove_settled.ensures.told ∙ c.loop-i.invariant.told;
+  options = c.remove_settled.ensures.options ∙ c.loop-i.invariant.options;
   fixed = fixed_twice c.args.self.now c.loop-i.self c.remove_settled.new.self c.loop-i.invariant.fixed c.remove_settled.ensures.fixed;
 }
 

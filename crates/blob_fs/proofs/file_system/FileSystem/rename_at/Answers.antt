@@ -35,6 +35,7 @@ returns-in-None g c =
       grows = either r renamed refused (λ x. grows_renames c.args.how _ _ fs two x) (λ l. grows_leaves fs two l);
       untold = on_err r refused refused (λ l _. l.recorded);
       fixed = λ inode at byte below f. c.rename_free.ensures.fixed inode at byte below (c.begin_call.ensures.fixed inode at byte below f);
+      options = c.rename_free.ensures.options ∙ c.begin_call.ensures.options;
     }
 
 pub returns-in-Some : goal.returns-in-Some
@@ -53,4 +54,5 @@ returns-in-Some g c =
       grows = either r renamed refused (λ x. grows_renames c.args.how _ _ fs two x) (λ l. grows_leaves fs two l);
       untold = on_err r refused refused (λ l _. l.recorded);
       fixed = λ inode at byte below f. c.rename_taken.ensures.fixed inode at byte below (c.begin_call.ensures.fixed inode at byte below f);
+      options = c.rename_taken.ensures.options ∙ c.begin_call.ensures.options;
     }

@@ -1,9 +1,10 @@
+use Rattle.std.proofs.Common.{refl}
 use Rattle.blob_fs.proofs.Calls.{on_err, on_ok}
 use Rattle.blob_fs.proofs.Renaming.{free_other, keeps, nothing, renames_moved, replaces}
 use Rattle.blob_fs.proofs.file_system.FileSystem.rename_free.Goals as goal
 
 pub returns-in-Exchange : goal.returns-in-Exchange
-returns-in-Exchange g c = record { renamed = tt; refused = nothing c.args.self.now; fixed = λ inode at byte below f. f }
+returns-in-Exchange g c = record { renamed = tt; refused = nothing c.args.self.now; fixed = λ inode at byte below f. f; options = refl }
 
 pub returns-in-Replace : goal.returns-in-Replace
 returns-in-Replace g c = record {
@@ -11,6 +12,7 @@ returns-in-Replace g c = record {
       renames_moved c.args.how _ _ c.args.moved c.args.self.now c.move_name.new.self c.requires.bound (free_other _ c.args.moved c.requires.free) (replaces c.args.how c.in-Replace.is) (λ _. c.requires.free) t m);
   refused = on_err c.move_name.result c.move_name.ensures.untold c.move_name.ensures.refused (λ t n. record { recorded = t; names = n });
   fixed = c.move_name.ensures.fixed;
+  options = c.move_name.ensures.options;
 }
 
 pub returns-in-NoReplace : goal.returns-in-NoReplace
@@ -21,4 +23,5 @@ returns-in-NoReplace g c =
           renames_moved c.args.how _ _ c.args.moved c.args.self.now c.move_name-in-NoReplace.new.self c.requires.bound (free_other _ c.args.moved c.requires.free) (keeps c.args.how c.in-NoReplace.is) (λ _. c.requires.free) t m);
       refused = on_err c.move_name-in-NoReplace.result r.untold r.refused (λ t n. record { recorded = t; names = n });
       fixed = r.fixed;
+      options = r.options;
     }

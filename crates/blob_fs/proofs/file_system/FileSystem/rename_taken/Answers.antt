@@ -1,15 +1,17 @@
+use Rattle.std.proofs.Common.{refl}
 use Rattle.blob_fs.proofs.Calls.{on_err, on_ok}
 use Rattle.blob_fs.proofs.Renaming.{may_exchange, may_replace, nothing, renames_exchanged, renames_moved, renames_same, replaces, taken_other}
 use Rattle.blob_fs.proofs.file_system.FileSystem.rename_taken.Goals as goal
 
 pub returns-in-NoReplace : goal.returns-in-NoReplace
-returns-in-NoReplace g c = record { renamed = tt; refused = nothing c.args.self.now; fixed = λ inode at byte below f. f }
+returns-in-NoReplace g c = record { renamed = tt; refused = nothing c.args.self.now; fixed = λ inode at byte below f. f; options = refl }
 
 pub returns-then-is_same : goal.returns-then-is_same
 returns-then-is_same g c = record {
   renamed = renames_same c.args.how _ _ c.args.bound.0 c.args.bound.1 c.args.self.now c.requires.bound c.requires.taken c.if-is_same.ensures (may_replace c.args.how c.in-Replace.is);
   refused = tt;
   fixed = λ inode at byte below f. f;
+  options = refl;
 }
 
 pub returns-else-is_same : goal.returns-else-is_same
@@ -19,6 +21,7 @@ returns-else-is_same g c = record {
       (taken_other _ c.args.bound.1 c.args.bound.0 c.requires.taken c.if-is_same.ensures) (replaces c.args.how c.in-Replace.is) (λ keeps. absurd (may_replace c.args.how c.in-Replace.is keeps)) t m);
   refused = on_err c.replace.result c.replace.ensures.untold c.replace.ensures.refused (λ t n. record { recorded = t; names = n });
   fixed = c.replace.ensures.fixed;
+  options = c.replace.ensures.options;
 }
 
 pub returns-then-is_same-2 : goal.returns-then-is_same-2
@@ -26,6 +29,7 @@ returns-then-is_same-2 g c = record {
   renamed = renames_same c.args.how _ _ c.args.bound.0 c.args.bound.1 c.args.self.now c.requires.bound c.requires.taken c.if-is_same-2.ensures (may_exchange c.args.how c.in-Exchange.is);
   refused = tt;
   fixed = λ inode at byte below f. f;
+  options = refl;
 }
 
 pub returns-else-is_same-2 : goal.returns-else-is_same-2
@@ -34,4 +38,5 @@ returns-else-is_same-2 g c = record {
       renames_exchanged c.args.how _ _ c.args.bound.0 c.args.bound.1 c.args.self.now c.exchange.new.self c.requires.bound c.requires.taken c.if-is_same-2.ensures c.in-Exchange.is t m);
   refused = on_err c.exchange.result c.exchange.ensures.untold c.exchange.ensures.refused (λ t n. record { recorded = t; names = n });
   fixed = c.exchange.ensures.fixed;
+  options = c.exchange.ensures.options;
 }

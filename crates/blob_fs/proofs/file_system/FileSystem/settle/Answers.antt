@@ -16,6 +16,7 @@ loop-inode-init g c = record {
   names = c.set_config.ensures.names ∙ c.begin_call.ensures.names;
   journal = c.settling.ensures.twice c.args.self.now.store c.begin_call.new.self.store c.set_config.new.self c.in_ok-begin_call.ensures.journal c.set_config.ensures.journal;
   told = c.set_config.ensures.journal.told ∙ c.begin_call.ensures.told;
+  options = c.begin_call.ensures.options;
   fixed =
       let fs = c.args.self.now in
       let one = c.begin_call.new.self in
@@ -40,6 +41,7 @@ loop-inode-preserved g c = record {
   journal = subst (λ (j : Journaled g.row.R.Denot). KeepsJournal c.args.self.now.store j) (sym c.show_blob.ensures.store)
       (c.settling.ensures.twice c.args.self.now.store c.loop-inode.self.store c.sync_bytes.new.self.store c.loop-inode.invariant.journal c.in_ok-sync_bytes.ensures.journal);
   told = c.show_blob.ensures.told ∙ c.sync_bytes.ensures.told ∙ c.loop-inode.invariant.told;
+  options = c.show_blob.ensures.options ∙ c.sync_bytes.ensures.options ∙ c.loop-inode.invariant.options;
   fixed = fixed_twice c.args.self.now c.sync_bytes.new.self c.show_blob.new.self
       (fixed_twice c.args.self.now c.loop-inode.self c.sync_bytes.new.self c.loop-inode.invariant.fixed c.sync_bytes.ensures.fixed) c.show_blob.ensures.fixed;
   seen = seen_twice c.args.self.now c.sync_bytes.new.self c.show_blob.new.self

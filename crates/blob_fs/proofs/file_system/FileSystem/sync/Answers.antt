@@ -7,8 +7,8 @@ use Rattle.blob_fs.proofs.Fixed.{fixed_twice}
 use Rattle.blob_fs.proofs.Syncing.{fixes_after, fixes_before}
 use Rattle.blob_fs.proofs.file_system.FileSystem.sync.Goals as goal
 
-pub returns-in-Ok-clause-settled : goal.returns-in-Ok-clause-settled
-returns-in-Ok-clause-settled g c = λ honest.
+pub returns-clause-settled : goal.returns-clause-settled
+returns-clause-settled g c = λ honest.
     let fs = c.args.self.now in
     let one = c.begin_call.new.self in
     let two = c.sync_bytes.new.self in
@@ -21,19 +21,19 @@ returns-in-Ok-clause-settled g c = λ honest.
       kind = c.in_ok-synced.synced;
       is = c.in_ok-synced.ensures.file;
       settled = subst (λ (o : Options). SettlesEdits o.profile.settles c.in_ok-synced.synced fs three) same.options
-          (c.settling.ensures.after one.options.profile.settles c.in_ok-synced.synced fs.store two.store three.store kept c.in-Ok.ensures.settled);
+          (c.settling.ensures.after one.options.profile.settles c.in_ok-synced.synced fs.store two.store three.store kept c.in_ok-settle_by.ensures.settled);
     }
 
-pub returns-in-Ok-clause-fixed : goal.returns-in-Ok-clause-fixed
-returns-in-Ok-clause-fixed g c =
+pub returns-clause-fixed : goal.returns-clause-fixed
+returns-clause-fixed g c =
     let fs = c.args.self.now in
     let one = c.begin_call.new.self in
     let two = c.sync_bytes.new.self in
     let three = c.settle_by.new.self in
     fixed_twice fs two three (fixed_twice fs one two c.begin_call.ensures.fixed c.sync_bytes.ensures.fixed) c.settle_by.ensures.fixed
 
-pub returns-in-Ok-clause-fixes : goal.returns-in-Ok-clause-fixes
-returns-in-Ok-clause-fixes g c = λ honest.
+pub returns-clause-fixes : goal.returns-clause-fixes
+returns-clause-fixes g c = λ honest.
     let fs = c.args.self.now in
     let one = c.begin_call.new.self in
     let two = c.sync_bytes.new.self in
@@ -48,12 +48,10 @@ returns-in-Ok-clause-fixes g c = λ honest.
 pub returns-in_err-synced-clause-fixed : goal.returns-in_err-synced-clause-fixed
 returns-in_err-synced-clause-fixed g c = fixed_twice c.args.self.now c.begin_call.new.self c.sync_bytes.new.self c.begin_call.ensures.fixed c.sync_bytes.ensures.fixed
 
-pub returns-in-Err-clause-fixed : goal.returns-in-Err-clause-fixed
-returns-in-Err-clause-fixed g c =
+pub returns-in_err-settle_by-clause-fixed : goal.returns-in_err-settle_by-clause-fixed
+returns-in_err-settle_by-clause-fixed g c =
     let fs = c.args.self.now in
     let one = c.begin_call.new.self in
     let two = c.sync_bytes.new.self in
     let three = c.settle_by.new.self in
-    let four = c.set_changed.new.self in
-    fixed_twice fs three four
-    (fixed_twice fs two three (fixed_twice fs one two c.begin_call.ensures.fixed c.sync_bytes.ensures.fixed) c.settle_by.ensures.fixed) c.set_changed.ensures.fixed
+    fixed_twice fs two three (fixed_twice fs one two c.begin_call.ensures.fixed c.sync_bytes.ensures.fixed) c.settle_by.ensures.fixed

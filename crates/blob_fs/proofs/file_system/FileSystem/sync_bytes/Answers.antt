@@ -48,7 +48,7 @@ invariant_of-self-2 g c =
     let fs = c.args.self.now in
     let was = c.as_mut-file.result.now in
     let there = ap Some c.as_mut-file.ensures.value ∙ c.in-Some.ensures.value in
-    let new : File = record was { blob = c.sync_file.new.file; synced = c.size-file.result; is_changed = false; is_truncated = false; truncations = c.clear.new.self } in
+    let new : File = record was { blob = c.sync_file.new.file; synced = c.size-file.result; is_truncated = false; truncations = c.clear.new.self } in
     record {
       opened = opened_changed (λ at. Unit) fs.store c.sync_file.new.self fs.files (c.get_mut.follows.lender new) c.args.inode was new (omega arith) there
           (sets_through fs.files (c.get_mut.follows.lender new) c.args.inode was new there (c.get_mut.follows.holds new)) c.sync_file.ensures.still fs.opened;
@@ -63,7 +63,7 @@ returns-clause-fixed g c =
     let fs = c.args.self.now in
     let was = c.as_mut-file.result.now in
     let there = ap Some c.as_mut-file.ensures.value ∙ c.in-Some.ensures.value in
-    let new : File = record was { blob = c.sync_file.new.file; synced = c.size-file.result; is_changed = false; is_truncated = false; truncations = c.clear.new.self } in
+    let new : File = record was { blob = c.sync_file.new.file; synced = c.size-file.result; is_truncated = false; truncations = c.clear.new.self } in
     let more : fs.next_inode ≤ fs.next_inode = omega arith in
     let small : c.args.inode < 2 ^ 64 = omega arith in
     λ inode at byte below h.
@@ -76,7 +76,7 @@ returns-clause-fixes g c =
     let fs = c.args.self.now in
     let was = c.as_mut-file.result.now in
     let there = ap Some c.as_mut-file.ensures.value ∙ c.in-Some.ensures.value in
-    let new : File = record was { blob = c.sync_file.new.file; synced = c.size-file.result; is_changed = false; is_truncated = false; truncations = c.clear.new.self } in
+    let new : File = record was { blob = c.sync_file.new.file; synced = c.size-file.result; is_truncated = false; truncations = c.clear.new.self } in
     fixes_synced fs _ c.args.inode was new c.in_ok-synced.ensures.numbered there
     (sets_through fs.files (c.get_mut.follows.lender new) c.args.inode was new there (c.get_mut.follows.holds new))
     c.in_default-sync_file.ensures.fixes c.size-file.ensures c.clear.ensures.items fs.opened
@@ -86,7 +86,7 @@ returns-clause-seen g c =
     let fs = c.args.self.now in
     let was = c.as_mut-file.result.now in
     let there = ap Some c.as_mut-file.ensures.value ∙ c.in-Some.ensures.value in
-    let new : File = record was { blob = c.sync_file.new.file; synced = c.size-file.result; is_changed = false; is_truncated = false; truncations = c.clear.new.self } in
+    let new : File = record was { blob = c.sync_file.new.file; synced = c.size-file.result; is_truncated = false; truncations = c.clear.new.self } in
     seen_synced fs _ c.args.inode was new there
     (sets_through fs.files (c.get_mut.follows.lender new) c.args.inode was new there (c.get_mut.follows.holds new))
     c.in_default-sync_file.ensures.fixes fs.opened

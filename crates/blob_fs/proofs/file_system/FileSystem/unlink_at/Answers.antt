@@ -1,3 +1,10 @@
+use Rattle.std.proofs.Common.{Option, ap₂}
+use Rattle.std.specs.Prelude.{option_map, unwrap_or}
+use Rattle.blob_directory.specs.declared.edit.Binding.{Binding}
+use Rattle.blob_directory.specs.declared.table.Table.{Table}
+use Rattle.blob_directory.specs.Tables.{bound}
+use Rattle.blob_directory.specs.Names.{entry}
+use Rattle.blob_fs.specs.Files.{about_name}
 use Rattle.std.proofs.Common.{◌≡◌, ◌∷◌, [], ℕ, None, Some, ap, pred, subst, sym, ◌∙◌}
 use Rattle.std.specs.BTreeMap.{BTreeMap, get}
 use Rattle.std.specs.Ordering.{nat_cmp}
@@ -11,6 +18,9 @@ use Rattle.blob_fs.proofs.Named.{edit_is, freed, one_freed}
 use Rattle.blob_fs.proofs.Growing.{told_as}
 use Rattle.blob_fs.specs.Files.{told_of}
 use Rattle.std.proofs.Common.{◌∷◌, [], List, None, ap, ℕ, ◌∙◌}
+use Rattle.blob_journal.specs.Settling.{unsettled_of}
+use Rattle.blob_journal.specs.declared.journaled.Journaled.{Journaled}
+use Rattle.blob_fs.proofs.Noting.{noted_between}
 use Rattle.blob_fs.proofs.file_system.FileSystem.unlink_at.Goals as goal
 
 pub returns-in_err-make-in-File-clause-fixed : goal.returns-in_err-make-in-File-clause-fixed
@@ -42,3 +52,11 @@ drop_link-requires g c =
 pub returns-in_ok-make-in-File-clause-told : goal.returns-in_ok-make-in-File-clause-told
 returns-in_ok-make-in-File-clause-told g c = told_as (told_of c.args.self.now) (told_of c.begin_call.new.self) (told_of c.drop_link.new.self) _ _
     (c.one.ensures ∙ ap (λ (x : List ℕ). (x, None) ∷ []) c.in_ok-entry.ensures) c.begin_call.ensures.told (c.drop_link.ensures.told ∙ c.in_ok-make-in-File.ensures.told)
+
+pub returns-in_ok-make-in-File-clause-noted : goal.returns-in_ok-make-in-File-clause-noted
+returns-in_ok-make-in-File-clause-noted g c =
+    let at : names_of c.args.self.now (entry c.args.directory c.args.name.now) ≡ Some c.in_ok-was.was' =
+    ap₂ (λ (t : Table) (l : List ℕ). bound t l) (sym c.begin_call.ensures.names) (sym c.in_ok-entry.ensures) ∙ ap (names_of c.begin_call.new.self) (sym c.deref.ensures.value) ∙ c.in_ok-was.ensures in
+    noted_between c.args.self.now.store c.begin_call.new.self.store c.make.new.self.store c.drop_link.new.self.store _ _ _ _
+    (c.one.ensures ∙ ap (λ (x : List ℕ). (x, None) ∷ []) c.in_ok-entry.ensures) (c.about.ensures ∙ ap (λ (o : Option Binding). about_name (unwrap_or (option_map (λ to. to.inode) o) 0) c.args.directory) (sym at))
+    c.in_ok-begin_call.ensures.journal.unsettled c.in_ok-make-in-File.ensures.noted (ap (λ (j : Journaled g.row.R.Denot). unsettled_of j) c.drop_link.ensures.store)
