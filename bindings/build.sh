@@ -2,6 +2,9 @@
 # Proves and builds the library for other languages: out/libblobcrash.a for C and Rust, out/libblobcrash.so for Python. Each depends only
 # on the C library, and its bytes only on the sources and the toolchain, which also links. Does nothing if they are current. `./test`
 # calls it with `--over-gate` after a gate that passed.
+#
+# `build.sh --unproved` prints the folder of a library of the current sources: `out`, if the proved one is current, or else that of one
+# which is compiled without a proof, in a minute or two, and kept for all clones. With BLOBCRASH_PROVED it is refused.
 set -eu
 
 top=$(CDPATH='' cd -- "$(dirname -- "$0")/.." && pwd -P)
@@ -14,16 +17,40 @@ are_built() {
     is_built "$out/libblobcrash.a" blob_c && is_built "$out/libblobcrash.so" blob_c && grep -qF "$(soname)" "$out/libblobcrash.so"
 }
 
-! are_built || exit 0
+is_unproved=false
+if [ "${1:-}" = --unproved ]; then
+    is_unproved=true
+    if [ -n "${BLOBCRASH_PROVED:-}" ]; then
+        echo "build.sh: with BLOBCRASH_PROVED no library without a proof is taken" >&2
+        exit 2
+    fi
+fi
+if are_built; then
+    ! $is_unproved || echo "$out"
+    exit 0
+fi
 rt=$(command -v rt) || rt=/opt/rattle/bin/rt
 if [ ! -x "$rt" ]; then
     echo "build.sh: the Rattle toolchain is missing: there is no rt on PATH, and no /opt/rattle/bin/rt" >&2
     exit 127
 fi
+kit=$(CDPATH='' cd -- "$(dirname -- "$(readlink -f "$rt")")/.." && pwd -P)
+
+if $is_unproved; then
+    minutes=$(about_minutes "$(crates_of "$top" blob_c | proof_seconds)")
+    echo "not proved yet: sh bindings/build.sh proves and builds the library, about $minutes minutes" >&2
+    folder=$(cache_folder)/unproved || exit 125
+    until made=$folder/$(unproved_name "$top" blob_c "$kit") && [ -d "$made" ]; do
+        run "$top/tools/unproved" --library "$folder" || exit 1
+    done
+    touch "$made"
+    echo "$made"
+    exit 0
+fi
+
 mkdir -p "$out"
 lock libblobcrash
 ! are_built || exit 0
-kit=$(CDPATH='' cd -- "$(dirname -- "$(readlink -f "$rt")")/.." && pwd -P)
 # The toolchain's allocator, which is linked in.
 heap=$kit/c/liblibc_c.a
 

@@ -150,8 +150,34 @@ sum_of() (
         sed 's/ .*//'
 )
 
-# unproved_name TOP NAME KIT: the name of a program that is compiled from these sources without a proof, by the toolchain KIT.
-unproved_name() { echo "$2.$({ sum_of "$1" "$2" && cat "$3/KIT-ID" 2>/dev/null; } | sha256sum | cut -c 1-64)"; }
+# unproved_name TOP NAME KIT: the name of what is compiled from these sources without a proof, by the toolchain KIT and these tools.
+unproved_name() {
+    echo "$2.$({ sum_of "$1" "$2" && cat "$3/KIT-ID" "$top"/tools/unprov* 2>/dev/null; } | sha256sum | cut -c 1-64)"
+}
+
+# find_archive: sets archive to the path of the library for C: the one that BLOBCRASH_ARCHIVE names, or one of the current sources. With
+# BLOBCRASH_PROVED that is the proved one, which is built first, else the proved one if it is current, or one without a proof.
+find_archive() {
+    archive=${BLOBCRASH_ARCHIVE:-}
+    [ -z "$archive" ] || return 0
+    if [ -n "${BLOBCRASH_PROVED:-}" ]; then
+        run sh "$top/bindings/build.sh" >&2 || return
+        archive=$top/out/libblobcrash.a
+        return
+    fi
+    work=$(mktemp -d) || return
+    run sh "$top/bindings/build.sh" --unproved >"$work/folder" || return
+    archive=$(cat "$work/folder")/libblobcrash.a
+    clean_up
+}
+
+# is_linked FILE ARCHIVE SOURCE ..: whether FILE was linked with the library ARCHIVE, by FILE.archive, and is newer than that and than all
+# files of the sources but those in Python.
+is_linked() {
+    linked=$1
+    shift
+    [ -f "$linked" ] && [ "$(cat "$linked.archive" 2>/dev/null)" = "$1" ] && [ -z "$(find "$@" -type f ! -name '*.py' -newer "$linked" | head -n 1)" ]
+}
 
 # is_built FILE NAME: whether FILE exists and was built from the current sources of the crate NAME. FILE.sum has the checksum of
 # the sources that it was built from. Its modification time is that of the last comparison: the checksum is computed again only if
@@ -187,23 +213,31 @@ place() {
     ls -t "$top/out/kept/${1##*/}".* | sed "1,${kept_most}d" | while read -r old; do rm -f "$old"; done
 }
 
-# What is stopped and removed when the script exits: a process, a folder, a lock.
+# What is stopped and removed when the script exits: a process, a folder, a lock. A process that has just been forked may miss a signal.
 runs=
 work=
 held=
 clean_up() {
-    [ -z "$runs" ] || { kill "$runs" && wait "$runs"; } 2>/dev/null || true
+    if [ "$runs" = new ]; then
+        runs=${!:-}
+        [ "$runs" != "$last" ] || runs=
+    fi
+    [ -z "$runs" ] || while kill "$runs" 2>/dev/null; do sleep 0.1; done
     [ -z "$work" ] || rm -rf "$work"
     [ -z "$held" ] || rmdir "$held"
     work=
     held=
 }
-trap clean_up EXIT
-trap 'exit 125' HUP INT TERM
+# A second signal doesn't end this.
+trap 'trap "" HUP INT TERM; clean_up' EXIT
+trap 'trap "" HUP INT TERM; exit 125' HUP INT TERM
 
 # run COMMAND ..: runs it, and stops it if this script is stopped.
 run() {
     status=0
+    # A signal may come before the new process is known.
+    last=${!:-}
+    runs=new
     "$@" &
     runs=$!
     wait "$runs" || status=$?

@@ -1,7 +1,7 @@
 #!/bin/sh
 # build_cxx.sh NAME HEADER PACKAGE LIBRARY: builds out/NAME/crash of adapters/NAME/*.cc and of this folder, if it is older than a source. It
 # needs compilers for C and C++ with HEADER (Debian: g++, gcc and PACKAGE), and links LIBRARY. BLOBCRASH_ARCHIVE names the library for C;
-# without it bindings/build.sh builds it first. OUT is another folder than out/NAME, CFLAGS and CXXFLAGS are further flags.
+# without it that is the proved one, or one without a proof. OUT is another folder than out/NAME, CFLAGS and CXXFLAGS are further flags.
 set -eu
 
 name=$1
@@ -10,23 +10,18 @@ common=$(CDPATH='' cd -- "$(dirname -- "$0")" && pwd -P)
 top=$(CDPATH='' cd -- "$common/../.." && pwd -P)
 here=$top/adapters/$name
 out=${OUT:-$top/out/$name}
-archive=${BLOBCRASH_ARCHIVE:-}
 
 if ! echo "#include <$2>" | "${CXX:-c++}" -x c++ -E - >/dev/null 2>&1; then
     echo "build_cxx.sh: there is no ${CXX:-c++} with $2 (Debian: g++, $3)" >&2
     exit 127
 fi
-if [ -z "$archive" ]; then
-    sh "$top/bindings/build.sh"
-    archive=$top/out/libblobcrash.a
-fi
-
 # shellcheck source=tools/building.sh
 . "$top/tools/building.sh"
+find_archive
 mkdir -p "$out" "$top/out"
 lock "$name"
 program=$out/crash
-if [ -f "$program" ] && [ -z "$(find "$archive" "$here" "$common" "$top"/bindings/c/blobcrash*.h -type f -newer "$program" | head -n 1)" ]; then
+if is_linked "$program" "$archive" "$here" "$common" "$top"/bindings/c/blobcrash*.h; then
     exit 0
 fi
 work=$(mktemp -d)
@@ -41,3 +36,4 @@ printf '%s\0' "$here"/*.cc "$common"/*.cc | top=$top common=$common work=$work x
 # shellcheck disable=SC2086
 "${CXX:-c++}" ${CXXFLAGS:-} -o "$work/crash" "$work"/*.o "$archive" "$library" -pthread
 mv -f "$work/crash" "$program"
+echo "$archive" >"$program.archive"

@@ -1,7 +1,7 @@
 #!/bin/sh
 # Builds out/mount/blobcrash_mount, which mounts the layer's files, if it is older than a source, and prints its path. It needs a C
-# compiler and libfuse 3 (Debian: gcc, pkg-config, libfuse3-dev). BLOBCRASH_ARCHIVE names the library for C; without it
-# bindings/build.sh builds it first. OUT is another folder than out/mount, CFLAGS are further flags, FUSE_LIBS links another libfuse.
+# compiler and libfuse 3 (Debian: gcc, pkg-config, libfuse3-dev). BLOBCRASH_ARCHIVE names the library for C; without it that is the
+# proved one, or one without a proof. OUT is another folder than out/mount, CFLAGS are further flags, FUSE_LIBS links another libfuse.
 # Exit status: 3 if a tool is missing.
 set -eu
 
@@ -9,7 +9,6 @@ here=$(CDPATH='' cd -- "$(dirname -- "$0")" && pwd -P)
 top=$(CDPATH='' cd -- "$here/../.." && pwd -P)
 out=${OUT:-$top/out/mount}
 compiler=${CC:-cc}
-archive=${BLOBCRASH_ARCHIVE:-}
 program=$out/blobcrash_mount
 
 command -v "$compiler" >/dev/null || { echo "mount: there is no C compiler (Debian: apt-get install gcc libc6-dev)" >&2; exit 3; }
@@ -19,16 +18,9 @@ if ! pkg-config --atleast-version=3.10 fuse3 2>/dev/null; then
 fi
 # shellcheck source=tools/building.sh
 . "$top/tools/building.sh"
-if [ -z "$archive" ]; then
-    [ -f "$top/out/libblobcrash.a" ] || echo "mount: the library is proved and built first, which takes some minutes" >&2
-    run sh "$top/bindings/build.sh" >&2
-    archive=$top/out/libblobcrash.a
-fi
+find_archive
 
-is_current() {
-    [ -f "$program" ] && [ -z "$(find "$archive" "$here" "$here/../common" "$top/bindings/c" -type f ! -name '*.py' -newer "$program" |
-        head -n 1)" ]
-}
+is_current() { is_linked "$program" "$archive" "$here" "$here/../common" "$top/bindings/c"; }
 
 mkdir -p "$out" "$top/out"
 lock mount
@@ -39,5 +31,6 @@ if ! is_current; then
         $(pkg-config --cflags fuse3) -o "$program.new" "$here"/*.c "$here/../common/record.c" "$archive" ${FUSE_LIBS:-$(pkg-config --libs fuse3)} >&2 9>&-
     touch -r "$out/began" "$program.new" # a source may have changed since
     mv -f "$program.new" "$program"
+    echo "$archive" >"$program.archive"
 fi
 echo "$program"

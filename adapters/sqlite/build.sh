@@ -1,7 +1,7 @@
 #!/bin/sh
 # Builds out/sqlite/crash, which crashes SQLite, and out/sqlite/blobcrash.so, the extension, where they are older than a source.
 # They need a C compiler and sqlite3.h (Debian: libsqlite3-dev). BLOBCRASH_ARCHIVE names the library for C; without it
-# bindings/build.sh builds it first. OUT is another folder than out/sqlite, CFLAGS are further flags.
+# that is the proved one, or one without a proof. OUT is another folder than out/sqlite, CFLAGS are further flags.
 set -eu
 
 here=$(CDPATH='' cd -- "$(dirname -- "$0")" && pwd -P)
@@ -9,24 +9,18 @@ top=$(CDPATH='' cd -- "$here/../.." && pwd -P)
 common=$top/adapters/common
 out=${OUT:-$top/out/sqlite}
 compiler=${CC:-cc}
-archive=${BLOBCRASH_ARCHIVE:-}
 
 if ! echo '#include <sqlite3ext.h>' | "$compiler" -E - >/dev/null 2>&1; then
     echo "build.sh: there is no $compiler with sqlite3ext.h (Debian: gcc, libsqlite3-dev)" >&2
     exit 127
 fi
-if [ -z "$archive" ]; then
-    sh "$top/bindings/build.sh"
-    archive=$top/out/libblobcrash.a
-fi
-
-# is_current FILE: whether it is newer than the library and every source.
-is_current() {
-    [ -f "$1" ] && [ -z "$(find "$archive" "$here" "$common" "$top"/bindings/c/blobcrash*.h -type f -newer "$1" | head -n 1)" ]
-}
-
 # shellcheck source=tools/building.sh
 . "$top/tools/building.sh"
+find_archive
+
+# is_current FILE: whether it is newer than the library and every source.
+is_current() { is_linked "$1" "$archive" "$here" "$common" "$top"/bindings/c/blobcrash*.h; }
+
 mkdir -p "$out" "$top/out"
 lock sqlite
 
@@ -38,6 +32,7 @@ compile() {
     "$compiler" -std=c11 -D_XOPEN_SOURCE=700 -O2 -g -Wall -Wextra -Werror "-I$top/bindings/c" "-I$common" "-I$here" "-I$here/crash" \
         ${CFLAGS:-} -o "$file.new" "$here/store.c" "$here/locks.c" "$here/memory.c" "$here/parameters.c" "$here/vfs.c" "$common/disk.c" "$common/record.c" "$@"
     mv -f "$file.new" "$file"
+    echo "$archive" >"$file.archive"
 }
 
 if ! is_current "$out/crash"; then

@@ -23,6 +23,11 @@ def names_of(kit, library):
     return sorted(toolchain_tool(kit, "llvm-nm", "-D", "--defined-only", "-j", library).split())
 
 
+def is_unproved(file):
+    """Returns whether a library, or what is linked with it, was compiled without a proof: tools/unproved adds a symbol to it."""
+    return b"blobcrash_unproved" in file.read_bytes()
+
+
 def glibc_of(kit, *files):
     """Returns the lowest version of glibc that has all symbols which these files take from it."""
     found = [re.search(r"@+GLIBC_([0-9.]+)$", symbol) for file in files for symbol in symbols_of(kit, file)]

@@ -4,6 +4,7 @@ from __future__ import annotations
 
 import ctypes
 import os
+import subprocess
 from typing import Optional
 
 from .errors import LibraryMissing
@@ -13,6 +14,9 @@ _HERE = os.path.dirname(os.path.abspath(__file__))
 TOP = os.path.dirname(os.path.dirname(os.path.dirname(_HERE)))
 # The shared library of an installed package.
 INSIDE = os.path.join(_HERE, "libblobcrash.so")
+
+# The one that the repository built.
+BUILT = os.path.join(TOP, "out", "libblobcrash.so")
 
 # How a call ended. tests/c_numbers.py compares each of these numbers with the C header.
 DONE, ENDLESS, BAD_LINE, NO_MEMORY, NO_ROOM, CLOSED, OTHER_REPLY, UNPRINTED = range(8)
@@ -48,8 +52,17 @@ _functions: Optional[ctypes.CDLL] = None
 
 def library() -> str:
     """Returns the path of the shared library: `$BLOBCRASH_LIBRARY`, the one in this package, or the one that the repository built."""
-    here = INSIDE if os.path.exists(INSIDE) else os.path.join(TOP, "out", "libblobcrash.so")
-    return os.environ.get("BLOBCRASH_LIBRARY", here)
+    return os.environ.get("BLOBCRASH_LIBRARY", INSIDE if os.path.exists(INSIDE) else BUILT)
+
+
+def _current() -> str:
+    """Returns the path of the library to load. In a clone it is one of the current sources: if the proved one isn't, one that is compiled
+    without a proof. With `BLOBCRASH_PROVED` it is the one that was built."""
+    path, build = library(), os.path.join(TOP, "bindings", "build.sh")
+    if path != BUILT or os.environ.get("BLOBCRASH_PROVED") or not os.path.exists(build):
+        return path
+    made = subprocess.run(["sh", build, "--unproved"], stdin=subprocess.DEVNULL, stdout=subprocess.PIPE, text=True, check=False)
+    return path if made.returncode else os.path.join(made.stdout.rstrip("\n"), "libblobcrash.so")
 
 
 def loaded() -> ctypes.CDLL:
@@ -62,7 +75,7 @@ def loaded() -> ctypes.CDLL:
     global _functions
     if _functions is None:
         try:
-            functions = ctypes.CDLL(library())
+            functions = ctypes.CDLL(_current())
         except OSError as error:
             raise LibraryMissing(f"{error}: build it with `sh bindings/build.sh`, or name its file in BLOBCRASH_LIBRARY") from None
         size = ctypes.c_size_t
