@@ -96,7 +96,8 @@ static bool changes(uint32_t kind) {
     case BLOBCRASH_F_CLOSE:
     case BLOBCRASH_F_SIZE:
     case BLOBCRASH_F_INODE_OF:
-    case BLOBCRASH_F_SETTLE: return false;
+    case BLOBCRASH_F_SETTLE:
+    case BLOBCRASH_F_COMMIT: return false;
     default: return true;
     }
 }

@@ -169,6 +169,7 @@ static const struct {
     [BLOBCRASH_F_SYNC_DATA] = {"fdatasync", NUMBER},
     [BLOBCRASH_F_SYNC_ALL] = {"sync", NOTHING},
     [BLOBCRASH_F_SETTLE] = {"settle", NOTHING},
+    [BLOBCRASH_F_COMMIT] = {"commit", NOTHING},
     [BLOBCRASH_F_CRASH] = {"crash", NOTHING},
 };
 

@@ -12,7 +12,11 @@ struct directory {
     bool is_read;
     struct layer_name *names;
     size_t count;
+    struct directory *next;
 };
+
+/* All that are open. The kernel may end a session without closing them. */
+static struct directory *all;
 
 /* How many bytes the names of all open directories have. */
 static uint64_t listed;
@@ -38,6 +42,18 @@ static int read_names(struct directory *open, const struct node *node) {
     return 0;
 }
 
+static void close_directory(struct directory *open) {
+    struct directory **at = &all;
+    while (*at != open) at = &(*at)->next;
+    *at = open->next;
+    drop_names(open);
+    free(open);
+}
+
+void call_directories_end(void) {
+    while (all) close_directory(all);
+}
+
 void call_opendir(fuse_req_t req, fuse_ino_t id, struct fuse_file_info *info) {
     if (!call_begin(req, id, CALL_READS)) return;
     struct directory *open = calloc(1, sizeof *open);
@@ -46,14 +62,15 @@ void call_opendir(fuse_req_t req, fuse_ino_t id, struct fuse_file_info *info) {
         return;
     }
     open->life = power.life;
+    open->next = all;
+    all = open;
     info->fh = (uintptr_t)open;
-    if (fuse_reply_open(req, info)) free(open);
+    if (fuse_reply_open(req, info)) close_directory(open);
 }
 
 void call_releasedir(fuse_req_t req, fuse_ino_t id, struct fuse_file_info *info) {
     (void)id;
-    drop_names(directory_of(info));
-    free(directory_of(info));
+    close_directory(directory_of(info));
     fuse_reply_err(req, 0);
 }
 

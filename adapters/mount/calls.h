@@ -15,7 +15,7 @@ enum call_kind { CALL_READS, CALL_CHANGES, CALL_CHANGES_NAMES };
 
 /*
  * Begins a call on a node. Returns the node, or NULL after a reply: EIO if the power went off during the call or the node is of an
- * older life, or the error of a commit that makes room for a change of names.
+ * older life, or the error of a commit before a change of names.
  */
 struct node *call_begin(fuse_req_t req, fuse_ino_t id, enum call_kind kind);
 /* Returns the kernel's number of a node. */
@@ -47,6 +47,8 @@ void call_rename(fuse_req_t req, fuse_ino_t parent, const char *name, fuse_ino_t
 void call_opendir(fuse_req_t req, fuse_ino_t id, struct fuse_file_info *info);
 void call_readdir(fuse_req_t req, fuse_ino_t id, size_t size, off_t offset, struct fuse_file_info *info);
 void call_releasedir(fuse_req_t req, fuse_ino_t id, struct fuse_file_info *info);
+/* Closes the directories that are still open, at the end. */
+void call_directories_end(void);
 void call_fsyncdir(fuse_req_t req, fuse_ino_t id, int only_data, struct fuse_file_info *info);
 
 /* Bytes: call_files.c. */

@@ -161,6 +161,8 @@ class Run:
         status = self.command("check")
         if status != 0:
             raise Broken(f"--check without a crash: {status}{self.tail()}")
+        if not calls:
+            raise Broken("--start and --work change nothing, so that there is no call after which the power could go off")
         return calls
 
     def judge(self, calls):
@@ -168,7 +170,7 @@ class Run:
         if not self.options.no_record:
             self.mount.ask(f"record {self.folder}/record")
         self.prepare()
-        self.mount.ask(f"crash-after {self.random.randint(1, max(calls, 1))}")
+        self.mount.ask(f"crash-after {self.random.randint(1, calls)}")
         for fault in self.options.fault:
             self.mount.ask(fault)
         if self.command("start") == 0:

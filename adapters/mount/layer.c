@@ -161,7 +161,7 @@ int layer_read(uint64_t descriptor, uint64_t offset, void *into, size_t capacity
     return error_of(ran.status);
 }
 
-int layer_commit(void) { return run(BLOBCRASH_F_SETTLE, 0, 0, NULL); }
+int layer_commit(void) { return run(BLOBCRASH_F_COMMIT, 0, 0, NULL); }
 
 int layer_settle(void) { return run(BLOBCRASH_F_SETTLE, 0, 0, NULL); }
 

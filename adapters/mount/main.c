@@ -193,6 +193,7 @@ int main(int count, char **words) {
     end_paths();
     fuse_remove_signal_handlers(session);
     fuse_session_destroy(session);
+    call_directories_end();
     layer_end();
     free(directory);
     return error ? FAILED : 0;

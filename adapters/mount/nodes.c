@@ -237,6 +237,8 @@ int nodes_make_room_unsynced(uint64_t len) {
 
 int nodes_settle(void) {
     int error = layer_settle();
+    /* So that the journal is short again. */
+    if (!error && node_counts.changes > 0) error = layer_commit();
     if (error) return error;
     for (size_t at = 0; at < table_size; at++)
         for (struct node *node = table[at]; node; node = node->next) mark_synced(node);

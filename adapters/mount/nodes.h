@@ -43,7 +43,7 @@ struct node_counts {
     uint64_t bytes;    /* those that count against the limit of the layer */
     uint64_t files;    /* files and directories that the layer counts */
     uint64_t unsynced; /* bytes written since the last sync of their files */
-    uint64_t removed;  /* those of them whose files are gone, which a crash may find */
+    uint64_t removed;  /* those of removed files that no program has open, which a crash may find */
     uint64_t changes;  /* of names, and truncations, since the last commit or crash */
 };
 
@@ -72,7 +72,7 @@ void node_add(struct node *node, uint64_t inode);
 void node_free(struct node *node);
 /* Closes a file that has no name and isn't open in a program. It doesn't count against the limits any more. */
 void node_rest(struct node *node);
-/* The kernel has forgotten the node so many times. */
+/* Notes that the kernel has forgotten this number of lookups. */
 void node_forget(struct node *node, uint64_t times);
 
 /* Remembers a name of the node. */
@@ -92,11 +92,11 @@ void node_resized(struct node *node, uint64_t size);
 void node_measure(struct node *node);
 /* Syncs its bytes in the layer. */
 int node_sync(struct node *node, bool only_data);
-/* Makes room for one change of names or truncation more: commits if the layer has as many as it may keep. */
+/* Commits if the layer keeps as many changes of names and truncations as it may. */
 int nodes_make_room(void);
 /*
- * Makes room for so many unsynced bytes more, if there is none: commits if files are gone that have some, and then syncs the bytes of all
- * files, as a kernel does that has too much to write back. ENOSPC if they are more than the limit.
+ * Bounds the unsynced bytes before a write of this length: commits if removed files have some, and if that isn't enough, syncs the bytes of
+ * all files, as a kernel does that has too much to write back. ENOSPC if the write alone exceeds the limit.
  */
 int nodes_make_room_unsynced(uint64_t len);
 /* Makes everything durable. */

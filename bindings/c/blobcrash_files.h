@@ -71,7 +71,9 @@ enum blobcrash_file_kind {
     BLOBCRASH_F_SYNC_ALL = 48,
     BLOBCRASH_F_SETTLE = 49,    /* makes all durable, without a draw: the state before a test */
     BLOBCRASH_F_CRASH = 50,     /* returns in `size` for how many writes it drew, in `number` how many edits were unsettled */
-    BLOBCRASH_F_TREE = 51       /* makes no draw. Returns in `size` how many paths the root reaches; blobcrash_files_path copies one */
+    BLOBCRASH_F_TREE = 51,      /* makes no draw. Returns in `size` how many paths the root reaches; blobcrash_files_path copies one */
+    BLOBCRASH_F_COMMIT = 52     /* makes all names and truncations durable, without a draw, as a commit of a journal; the bytes of files stay
+                                   unsynced */
 };
 
 /* A file system, or none. Of all zeros it is closed. Its fields belong to the library. */

@@ -15,8 +15,8 @@
  *     blobcrash_free_paths(&paths);
  *
  * With `paths.power_losses` the power may fail at each explored call that may change what a crash leaves. This call and all later ones
- * aren't made and return BLOBCRASH_POWER_LOSS, until the files have crashed: a crash of files recovers them too. A SETTLE is no such call,
- * and a CLOSE only if an open has truncated a file since the last crash. explore_files.c has examples.
+ * aren't made and return BLOBCRASH_POWER_LOSS, until the files have crashed: a crash of files recovers them too. A SETTLE or a COMMIT is no
+ * such call, and a CLOSE only if an open has truncated a file since the last crash. explore_files.c has examples.
  *
  * `paths.script` gets a line for each explored call, to be read by people: no program makes these calls again.
  */
@@ -63,6 +63,7 @@ static inline bool blobcrash_file_call_changes(const struct blobcrash_paths *pat
     switch (kind) {
     case BLOBCRASH_F_OPEN: case BLOBCRASH_F_LIST: case BLOBCRASH_F_FIND: case BLOBCRASH_F_LIST_AT: case BLOBCRASH_F_FIND_AT:
     case BLOBCRASH_F_OPEN_INODE: case BLOBCRASH_F_SIZE: case BLOBCRASH_F_INODE_OF: case BLOBCRASH_F_SETTLE: case BLOBCRASH_F_TREE:
+    case BLOBCRASH_F_COMMIT:
         return false;
     case BLOBCRASH_F_CLOSE:
         return paths->has_truncated;
@@ -98,11 +99,11 @@ static inline const char *blobcrash_file_word(uint32_t kind) {
     static const char *const at[] = {"create_at", "link_at", "unlink_at", "rename_at", "mkdir_at", "rmdir_at", "listdir_at",
                                      "fsync_directory_at", "find_at", "open_inode", "open_inode_truncated"};
     static const char *const by[] = {"close", "truncate", "size", "fsync", "fdatasync", "inode_of"};
-    static const char *const whole[] = {"sync", "settle", "crash", "tree"};
+    static const char *const whole[] = {"sync", "settle", "crash", "tree", "commit"};
     if (kind <= BLOBCRASH_F_FIND) return words[kind];
     if (kind >= BLOBCRASH_F_CREATE_AT && kind <= BLOBCRASH_F_OPEN_INODE_TRUNCATED) return at[kind - BLOBCRASH_F_CREATE_AT];
     if (kind >= BLOBCRASH_F_CLOSE && kind <= BLOBCRASH_F_INODE_OF) return by[kind - BLOBCRASH_F_CLOSE];
-    if (kind >= BLOBCRASH_F_SYNC_ALL && kind <= BLOBCRASH_F_TREE) return whole[kind - BLOBCRASH_F_SYNC_ALL];
+    if (kind >= BLOBCRASH_F_SYNC_ALL && kind <= BLOBCRASH_F_COMMIT) return whole[kind - BLOBCRASH_F_SYNC_ALL];
     return "unknown";
 }
 

@@ -118,6 +118,8 @@ static void kinds_by_paths(void) {
     CHECK(is(by(BLOBCRASH_F_SYNC_ALL, 0), 0, 0, 0) && is(by(BLOBCRASH_F_SETTLE, 0), 0, 0, 0) &&
           is(by(BLOBCRASH_F_CRASH, 0), 0, 0, 0));
     CHECK(lists("/", "c,"));
+    CHECK(ends(BLOBCRASH_F_MAKE_DIRECTORY, "/e") == BLOBCRASH_DONE && is(by(BLOBCRASH_F_COMMIT, 0), 0, 0, 0) &&
+          is(by(BLOBCRASH_F_CRASH, 0), 0, 0, 0) && lists("/", "c,e,"));
 }
 
 static void kinds_by_numbers(void) {
@@ -179,7 +181,7 @@ static void refusals(void) {
         {BLOBCRASH_F_RENAME, "/d", "/d/e", 2, BLOBCRASH_F_LOOP}, {BLOBCRASH_F_RENAME, "/d/e", "/d", 2, BLOBCRASH_F_LOOP},
         {BLOBCRASH_F_RENAME, "/a", "/b", 3, BLOBCRASH_BAD_CALL}, {BLOBCRASH_F_RENAME, "/a", "/b", UINT64_MAX, BLOBCRASH_BAD_CALL},
         {11, "/a", "", 0, BLOBCRASH_BAD_CALL}, {15, "/a", "", 0, BLOBCRASH_BAD_CALL}, {27, "a", "", 0, BLOBCRASH_BAD_CALL},
-        {38, "", "", 0, BLOBCRASH_BAD_CALL}, {52, "", "", 0, BLOBCRASH_BAD_CALL}, {UINT32_MAX, "", "", 0, BLOBCRASH_BAD_CALL},
+        {38, "", "", 0, BLOBCRASH_BAD_CALL}, {53, "", "", 0, BLOBCRASH_BAD_CALL}, {UINT32_MAX, "", "", 0, BLOBCRASH_BAD_CALL},
     };
     for (size_t i = 0; i < sizeof rows / sizeof *rows; i++) {
         struct blobcrash_file_reply reply = ask(rows[i].kind, 0, rows[i].path, rows[i].to, rows[i].first, 0);

@@ -32,7 +32,7 @@ _FORMS = {
     **dict.fromkeys(("create_at", "unlink_at", "mkdir_at", "rmdir_at", "find_at"), "number path"),
     **dict.fromkeys(("close", "open_inode", "open_inode_truncated", "listdir_at", "fsyncdir_at", "inode_of"), "number"),
     **dict.fromkeys(("size", "fsync", "fdatasync"), "file"),
-    **dict.fromkeys(("sync", "settle", "crash"), ""),
+    **dict.fromkeys(("sync", "settle", "commit", "crash"), ""),
     "truncate": "file first",
     "read": "file first last",
     "write": "file first bytes",
@@ -45,7 +45,7 @@ _HOW = {"": REPLACES, "noreplace": REFUSES, "exchange": EXCHANGES}
 _SETTINGS = frozenset(("profile", "config", "keep", "space", "failed_sync", "syncs", "failed_write"))
 _ESCAPED = re.compile(rb"\\x([0-9a-fA-F]{2})")
 # The calls that may change what a crash leaves.
-CHANGES = frozenset(_FORMS) - {"listdir", "listdir_at", "find", "find_at", "inode_of", "size", "read", "settle", "crash"}
+CHANGES = frozenset(_FORMS) - {"listdir", "listdir_at", "find", "find_at", "inode_of", "size", "read", "settle", "commit", "crash"}
 
 
 class FileLine(NamedTuple):

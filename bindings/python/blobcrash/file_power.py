@@ -16,7 +16,8 @@ _CHANGES = frozenset((*_OF_NAMES, "truncate", "write", "fsync", "fdatasync", "sy
 class FileSupply(Supply):
     """A layer of files with a power supply. While the power is off each call raises `PowerLoss`, except `configure` and `crash`.
 
-    After an open that truncated, a close may make bytes durable, so it counts as a change too. `settle` doesn't: no program calls it.
+    After an open that truncated, a close may make bytes durable, so it counts as a change too. `settle` and `commit` don't: no
+    program calls them.
     """
 
     # Whether an open has truncated since the last crash.

@@ -226,6 +226,11 @@ class Files:
         """Makes everything durable without a draw: the state before a test. No power is lost here."""
         self._call(FileCall("settle"))
 
+    def commit(self) -> None:
+        """Makes all names and truncations durable without a draw, as a file system's own commit does; the bytes of files stay unsynced.
+        No power is lost here."""
+        self._call(FileCall("commit"))
+
     def crash(self) -> Kept:
         """Loses what isn't durable, except what the draws keep, and recovers. Returns what was kept. All open files are stale."""
         if self._draws_edits and not self._has_draws:

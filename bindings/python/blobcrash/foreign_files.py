@@ -30,6 +30,7 @@ KINDS = {
     "sync": 48,
     "settle": 49,
     "crash": 50,
+    "commit": 52,
 }
 # What a rename does if the new name is taken.
 REPLACES, REFUSES, EXCHANGES = range(3)

@@ -3,7 +3,7 @@ ghost use Rattle.std.specs.Prelude.{◌≡◌, ◌⊎◌, None, IsSome, IfSome};
 ghost use Rattle.blob_fs.specs.Files.{names_of};
 ghost use Rattle.blob_directory.specs.Names.{Same};
 ghost use Rattle.blob_file_sessions.specs.Calls.{TellsFileWords};
-ghost use Rattle.blob_file_sessions.specs.Exports.{AnswersCall, CopiesDurableFrom, CopiesEntryFrom, CopiesPathFrom, InsertsFileWords, MakesSetting, ReadsFiles, Transfers};
+ghost use Rattle.blob_file_sessions.specs.Exports.{AnswersCall, CopiesDurableFrom, CopiesEntryFrom, CopiesPathFrom, InsertsFileWords, MakesSetting, ReadsFiles, ReadsInto, WritesBytes};
 ghost use Rattle.blob_file_sessions.specs.Held.{files_of, fs_of};
 ghost use Rattle.blob_file_sessions.specs.LastParts.{FindsRow, TellsEdit, TellsPlace};
 ghost use Rattle.blob_file_sessions.specs.Replies.{no_reply};
@@ -80,7 +80,7 @@ pub extern "C" fn blobcrash_files_apply(
     path: &[u8],
     to: &[u8],
 ) -> FileReply
-    ensures { AnswersCall files.old files.new result }
+    ensures { AnswersCall files.old asked.now path.now to.now files.new result }
 {
     let Some(mut kept) = files.take(alloc) else {
         return FileReply::stopped(CLOSED);
@@ -99,7 +99,7 @@ pub extern "C" fn blobcrash_files_write(
     offset: u64,
     bytes: &[u8],
 ) -> u32
-    ensures { Transfers files.old files.new result }
+    ensures { WritesBytes files.old descriptor offset bytes.now files.new result }
 {
     let Some(mut kept) = files.take(alloc) else {
         return CLOSED;
@@ -119,7 +119,7 @@ pub extern "C" fn blobcrash_files_read(
     offset: u64,
     into: &mut [u8],
 ) -> Ran
-    ensures { Transfers files.old files.new result.status }
+    ensures { ReadsInto files.old descriptor offset into.old into.new files.new result }
 {
     let Some(mut kept) = files.take(alloc) else {
         return Ran::stopped(CLOSED);

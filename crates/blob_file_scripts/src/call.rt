@@ -87,6 +87,7 @@ fn shape_of(word: &str) -> Option<(u32, Shape)> {
         "truncate" => (kinds::TRUNCATE, Shape::FileLen),
         "sync" => (kinds::SYNC_ALL, Shape::Nothing),
         "settle" => (kinds::SETTLE, Shape::Nothing),
+        "commit" => (kinds::COMMIT, Shape::Nothing),
         "crash" => (kinds::CRASH, Shape::Nothing),
         _ => return None,
     })

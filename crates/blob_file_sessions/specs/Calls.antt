@@ -1,18 +1,44 @@
 -- Calls on files, by the status that they return. If no call was made, nothing has changed.
-use Rattle.std.specs.Prelude.{◌≡◌, ◌⊎◌, ◌++◌, ℕ, List, true, is_some}
+use Rattle.std.specs.Prelude.{◌≡◌, ◌⊎◌, ◌++◌, ℕ, List, true, Some, MatchOption, is_some}
 use Rattle.blob_lab_model.specs.Scripted.{scripted_stream}
 use Rattle.blob_tree.specs.WordsLeft.{EndsAfter}
 use Rattle.blob_fs.specs.Files.{KeepsNames, generator_of}
 use Rattle.blob_statuses.specs.declared.ran.TheConstants.{BAD_CALL, BAD_LINE, DONE, ENDLESS, NO_MEMORY}
 use Rattle.blob_statuses.specs.declared.ran.Ran.{Ran}
+use Rattle.blob_fs.specs.Acts.{Act, Read, Write}
+use Rattle.blob_fs.specs.Performs.{Performs}
 use Rattle.blob_file_sessions.specs.Held.{fs_of}
-use Rattle.blob_file_sessions.specs.Replies.{last_reply, no_reply}
+use Rattle.blob_file_sessions.specs.Kinds.{call_of, descriptor}
+use Rattle.blob_file_sessions.specs.Replies.{file_reply, no_reply}
+use Rattle.blob_file_sessions.specs.declared.call.FileCall.{FileCall}
 use Rattle.blob_file_sessions.specs.declared.call.FileReply.{FileReply}
 use Rattle.blob_file_sessions.specs.declared.kept.KeptFiles.{KeptFiles}
+use Rattle.blob_fs.specs.declared.reply.Reply.{Reply}
 
--- a call by its numbers: no call was made, or these are the numbers of its reply, which is kept
-abbrev pub Answers : KeptFiles → KeptFiles → FileReply → Type 0
-Answers k k' reply = ((reply ≡ no_reply BAD_CALL) × (k' ≡ k)) ⊎ (reply ≡ last_reply k')
+-- a call was made, its reply is kept, and these are the numbers of that
+pub record Makes (k : KeptFiles) (act : Act) (k' : KeptFiles) (numbers : FileReply) : Type 0 where
+  pub reply : Reply
+  pub does : Performs act reply (fs_of k) (fs_of k')
+  pub last : k'.last ≡ Some reply
+  pub is : numbers ≡ file_reply reply
+
+-- a call by its kind, numbers and paths; if there is no such call, none was made
+abbrev pub Answers : KeptFiles → FileCall → List ℕ → List ℕ → KeptFiles → FileReply → Type 0
+Answers k asked path to k' numbers =
+    MatchOption (call_of asked path to) ((numbers ≡ no_reply BAD_CALL) × (k' ≡ k)) (λ act. Makes k act k' numbers)
+
+-- a write through a descriptor's number
+pub record Writes (k : KeptFiles) (n offset : ℕ) (bytes : List ℕ) (k' : KeptFiles) (status : ℕ) : Type 0 where
+  pub numbers : FileReply
+  pub makes : Makes k (Write (descriptor n) offset bytes) k' numbers
+  pub is : status ≡ numbers.status
+
+-- A read of at most `most` bytes through a descriptor's number. It returns how many were read; none if it was refused.
+pub record Reads (k : KeptFiles) (n offset most : ℕ) (k' : KeptFiles) (ran : Ran) : Type 0 where
+  pub numbers : FileReply
+  pub makes : Makes k (Read (descriptor n) offset most) k' numbers
+  pub status : ran.status ≡ numbers.status
+  pub len : ran.len ≡ numbers.size
 
 -- a setting
 pub record Configures (k k' : KeptFiles) (status : ℕ) : Type 0 where

@@ -12,8 +12,8 @@ use Rattle.blob_statuses.specs.declared.ran.Ran.{Ran}
 use Rattle.blob_statuses.specs.declared.ran.TheConstants.{DONE, OTHER_REPLY}
 use Rattle.blob_file_sessions.specs.Replies.{bound_reply, no_reply, place_reply}
 use Rattle.blob_file_sessions.specs.declared.call.FileReply.{FileReply}
-use Rattle.blob_file_sessions.specs.declared.reply.Reply.{Reply}
-use Rattle.blob_file_sessions.specs.declared.reply.Reply.TheVariants as replies
+use Rattle.blob_fs.specs.declared.reply.Reply.{Reply}
+use Rattle.blob_fs.specs.declared.reply.Reply.TheVariants as replies
 
 -- the names, the rows, the edits and the places of a reply; of another reply none
 abbrev pub names_in : Reply → List (Vec ℕ Global × Binding)

@@ -1,6 +1,7 @@
 pub mod Calls
 pub mod Exports
 pub mod Held
+pub mod Kinds
 pub mod LastParts
 pub mod Owned
 pub mod Replies

@@ -14,8 +14,8 @@ use Rattle.blob_statuses.specs.declared.ran.TheConstants.{DONE}
 use Rattle.blob_file_sessions.specs.declared.call.FileReply.{FileReply}
 use Rattle.blob_file_sessions.specs.declared.kept.KeptFiles.{KeptFiles}
 use Rattle.blob_file_sessions.specs.declared.refusals.TheConstants.{EXISTS, NOT_FOUND, NOT_EMPTY, IS_DIRECTORY, NOT_DIRECTORY, NAME_TOO_LONG, INVALID_NAME, TOO_MANY_LINKS, STALE, NO_SPACE, LOOP, CRASHED}
-use Rattle.blob_file_sessions.specs.declared.reply.Reply.{Reply}
-use Rattle.blob_file_sessions.specs.declared.reply.Reply.TheVariants as replies
+use Rattle.blob_fs.specs.declared.reply.Reply.{Reply}
+use Rattle.blob_fs.specs.declared.reply.Reply.TheVariants as replies
 
 -- the status of a refusal; those of the layer keep their numbers
 abbrev pub file_status : FsError → ℕ

@@ -12,8 +12,8 @@ use Rattle.blob_file_sessions.specs.LastParts.{of_last}
 use Rattle.blob_file_sessions.specs.Replies.{bound_reply, file_status, no_reply}
 use Rattle.blob_file_sessions.specs.declared.call.FileReply.{FileReply}
 use Rattle.blob_file_sessions.specs.declared.kept.KeptFiles.{KeptFiles}
-use Rattle.blob_file_sessions.specs.declared.reply.Reply.{Reply}
-use Rattle.blob_file_sessions.specs.declared.reply.Reply.TheVariants as replies
+use Rattle.blob_fs.specs.declared.reply.Reply.{Reply}
+use Rattle.blob_fs.specs.declared.reply.Reply.TheVariants as replies
 
 -- the paths of a reply with their bindings and bytes; of another reply none
 abbrev pub paths_in : Reply → List TreeEntry

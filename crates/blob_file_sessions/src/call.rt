@@ -3,8 +3,7 @@ ghost use Rattle.std.specs.Prelude.{◌≡◌};
 ghost use Rattle.blob_file_sessions.specs.Replies.{bound_reply, file_reply, kind_number, no_reply, numbered, place_reply};
 
 use crate::refusals::status_of;
-use crate::reply::Reply;
-use blob_fs::{Binding, Kind, Place};
+use blob_fs::{Binding, Kind, Place, Reply};
 use blob_sessions::ran::DONE;
 
 /// A call's kind and numbers. A kind ignores the numbers that it doesn't name.

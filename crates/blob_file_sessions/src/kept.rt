@@ -1,21 +1,17 @@
 // A file system with the reply to its last call.
-ghost use Rattle.std.specs.Prelude.{◌≡◌, false, None, IfNone, OnErr};
+ghost use Rattle.std.specs.Prelude.{◌≡◌, false, None, OnErr, length, option_copied};
 ghost use Rattle.blob_fs.specs.Files.{KeepsNames};
 ghost use Rattle.blob_file_sessions.specs.Held.{fs_of};
-ghost use Rattle.blob_file_sessions.specs.Calls.{Answers, Configures, TakesWords, TellsFileWords};
+ghost use Rattle.blob_fs.specs.Acts.{Tree};
+ghost use Rattle.blob_file_sessions.specs.Calls.{Answers, Configures, Makes, Reads, TakesWords, TellsFileWords, Writes};
 ghost use Rattle.blob_file_sessions.specs.Replies.{last_reply};
 
+use crate::by_kind::read_kind;
 use crate::call::{FileCall, FileReply};
-use crate::kinds::{
-    CLOSE, CRASH, CREATE, CREATE_AT, FIND, FIND_AT, INODE_OF, LINK, LINK_AT, LIST, LIST_AT,
-    MAKE_DIRECTORY, MAKE_DIRECTORY_AT, OPEN, OPEN_INODE, OPEN_INODE_TRUNCATED, OPEN_TRUNCATED,
-    REMOVE_DIRECTORY, REMOVE_DIRECTORY_AT, RENAME, RENAME_AT, SETTLE, SIZE, SYNC, SYNC_ALL,
-    SYNC_DATA, SYNC_DIRECTORY, SYNC_DIRECTORY_AT, TREE, TRUNCATE, UNLINK, UNLINK_AT,
-};
 use crate::reader::FileReader;
-use crate::reply::{Reply, crashed, done, found, inode, listed, opened, sized, walked};
 use crate::setting::copied;
-use blob_fs::{Binding, Descriptor, FileSystem, FsError, Rename};
+use blob_fs::reply::{counted, done, walked};
+use blob_fs::{Descriptor, FileSystem, Reply};
 use blob_lab::ScriptedRng;
 use blob_lab::script::RefusedLine;
 use blob_sessions::Ran;
@@ -36,16 +32,6 @@ impl Drop for KeptFiles {
             fs: _,
             last: _,
         } = self;
-    }
-}
-
-/// Returns what a rename does if the new name is taken.
-fn how_of(number: u64) -> Option<Rename> {
-    match number {
-        0 => Some(Rename::Replace),
-        1 => Some(Rename::NoReplace),
-        2 => Some(Rename::Exchange),
-        _ => None,
     }
 }
 
@@ -97,101 +83,14 @@ impl KeptFiles {
     ///
     /// `BAD_CALL` if the kind is unknown, or the number of a rename is above 2: nothing has changed.
     pub fn apply(&mut self, asked: &FileCall, path: &[u8], to: &[u8]) -> FileReply
-        ensures { Answers self.old self.new result }
+        ensures { Answers self.old asked.now path.now to.now self.new result }
     {
-        let made = match asked.kind {
-            0..16 => self.by_path(asked, path, to),
-            16..32 => self.by_directory(asked, path, to),
-            32..48 => self.by_descriptor(asked),
-            _ => self.of_all(asked.kind),
-        };
-        let Some(reply) = made else {
+        let Some(call) = read_kind(asked, path, to) else {
             return FileReply::stopped(BAD_CALL);
         };
+        let reply = self.fs.answer(&call);
         self.last = Some(reply);
         self.last()
-    }
-
-    /// Makes a call by paths.
-    fn by_path(&mut self, asked: &FileCall, path: &[u8], to: &[u8]) -> Option<Reply>
-        ensures { IfNone result (self.new ≡ self.old) }
-    {
-        Some(match asked.kind {
-            CREATE => opened(self.fs.create(path)),
-            OPEN => opened(self.fs.open(path)),
-            OPEN_TRUNCATED => opened(self.fs.open_truncated(path)),
-            LINK => done(self.fs.link(path, to)),
-            UNLINK => done(self.fs.unlink(path)),
-            RENAME => {
-                let how = how_of(asked.first)?;
-                done(self.fs.rename(path, to, how))
-            }
-            MAKE_DIRECTORY => done(self.fs.make_directory(path)),
-            REMOVE_DIRECTORY => done(self.fs.remove_directory(path)),
-            LIST => listed(self.fs.list(path)),
-            SYNC_DIRECTORY => done(self.fs.sync_directory(path)),
-            FIND => found(self.sized(self.fs.find(path))),
-            _ => return None,
-        })
-    }
-
-    /// Returns what a look-up found, with its size.
-    fn sized(&self, found: Result<Binding, FsError>) -> Result<(Binding, u64), FsError> {
-        let binding = found?;
-        Ok((binding, self.fs.size_of(binding.inode)))
-    }
-
-    /// Makes a call by the number of a directory and a name, or of an inode.
-    fn by_directory(&mut self, asked: &FileCall, name: &[u8], to: &[u8]) -> Option<Reply>
-        ensures { IfNone result (self.new ≡ self.old) }
-    {
-        let at = asked.number;
-        Some(match asked.kind {
-            CREATE_AT => opened(self.fs.create_at(at, name)),
-            LINK_AT => done(self.fs.link_at(asked.first, at, name)),
-            UNLINK_AT => done(self.fs.unlink_at(at, name)),
-            RENAME_AT => {
-                let how = how_of(asked.last)?;
-                done(self.fs.rename_at((at, name), (asked.first, to), how))
-            }
-            MAKE_DIRECTORY_AT => inode(self.fs.make_directory_at(at, name)),
-            REMOVE_DIRECTORY_AT => done(self.fs.remove_directory_at(at, name)),
-            LIST_AT => listed(self.fs.list_at(at)),
-            SYNC_DIRECTORY_AT => done(self.fs.sync_directory_at(at)),
-            FIND_AT => found(self.sized(self.fs.look_up(at, name))),
-            OPEN_INODE => opened(self.fs.open_inode(at)),
-            OPEN_INODE_TRUNCATED => opened(self.fs.open_inode_truncated(at)),
-            _ => return None,
-        })
-    }
-
-    /// Makes a call by a descriptor.
-    fn by_descriptor(&mut self, asked: &FileCall) -> Option<Reply>
-        ensures { IfNone result (self.new ≡ self.old) }
-    {
-        let file = Descriptor::numbered(asked.number);
-        Some(match asked.kind {
-            CLOSE => done(self.fs.close(file)),
-            TRUNCATE => done(self.fs.truncate(file, asked.first)),
-            SIZE => sized(self.fs.size(file)),
-            SYNC => done(self.fs.sync(file)),
-            SYNC_DATA => done(self.fs.sync_data(file)),
-            INODE_OF => inode(self.fs.inode_of(file)),
-            _ => return None,
-        })
-    }
-
-    /// Makes a call on the whole file system.
-    fn of_all(&mut self, kind: u32) -> Option<Reply>
-        ensures { IfNone result (self.new ≡ self.old) }
-    {
-        Some(match kind {
-            SYNC_ALL => done(self.fs.sync_all()),
-            SETTLE => done(self.fs.settle()),
-            CRASH => crashed(self.fs.crash()),
-            TREE => walked(self.fs.tree()),
-            _ => return None,
-        })
     }
 
     /// Returns the file system.
@@ -203,14 +102,16 @@ impl KeptFiles {
 
     /// Reads all paths and the bytes of files, without a draw. That is then the last call.
     pub fn tree(&mut self)
-        ensures { KeepsNames (fs_of self.old) (fs_of self.new) }
+        ensures { Makes self.old Tree self.new (last_reply self.new) }
     {
         let entries = self.fs.tree();
         self.last = Some(walked(entries));
     }
 
     /// Returns the reply to the last call, if there was one.
-    pub fn reply(&self) -> Option<&Reply> {
+    pub fn reply(&self) -> Option<&Reply>
+        ensures { option_copied result ≡ self.now.last }
+    {
         self.last.as_ref()
     }
 
@@ -226,8 +127,7 @@ impl KeptFiles {
 
     /// Writes bytes through a descriptor, unsynced. Returns `DONE` or a refusal.
     pub fn write(&mut self, descriptor: u64, offset: u64, bytes: &[u8]) -> u32
-        ensures names { KeepsNames (fs_of self.old) (fs_of self.new) }
-        ensures status { result ≡ (last_reply self.new).status }
+        ensures { Writes self.old descriptor offset bytes.now self.new result }
     {
         let written = self
             .fs
@@ -238,18 +138,14 @@ impl KeptFiles {
 
     /// Reads bytes through a descriptor, as many as there are and as `into` takes. Returns in `len` how many.
     pub fn read(&mut self, descriptor: u64, offset: u64, into: &mut [u8]) -> Ran
-        ensures names { KeepsNames (fs_of self.old) (fs_of self.new) }
-        ensures status { result.status ≡ (last_reply self.new).status }
+        ensures { Reads self.old descriptor offset (length into.old) self.new result }
     {
         let read = self.fs.read(Descriptor::numbered(descriptor), offset, into);
-        let len = match &read {
-            Ok(len) => *len,
-            Err(_) => 0,
-        };
-        self.last = Some(sized(read.map(|len| len as u64)));
+        self.last = Some(counted(read));
+        let numbers = self.last();
         Ran {
-            status: self.last().status,
-            len,
+            status: numbers.status,
+            len: numbers.size as usize,
         }
     }
 

@@ -64,3 +64,5 @@ pub const SETTLE: u32 = 49;
 pub const CRASH: u32 = 50;
 /// Returns in `size` how many paths the root reaches.
 pub const TREE: u32 = 51;
+/// Settles all edits and begins a new journal.
+pub const COMMIT: u32 = 52;

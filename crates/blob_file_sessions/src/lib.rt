@@ -2,6 +2,7 @@
 //! exports these to C.
 #![tactic(auto)]
 
+mod by_kind;
 pub mod call;
 pub mod files;
 pub mod kept;
@@ -11,13 +12,12 @@ pub mod parts;
 pub mod preamble;
 pub mod reader;
 pub mod refusals;
-pub mod reply;
 pub mod setting;
 pub mod tree;
 
+pub use blob_fs::Reply;
 pub use call::{FileCall, FileReply};
 pub use files::Files;
 pub use kept::KeptFiles;
 pub use reader::FileReader;
-pub use reply::Reply;
 pub use setting::FileSetting;

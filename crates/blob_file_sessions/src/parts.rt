@@ -5,7 +5,7 @@ ghost use Rattle.blob_sessions.specs.Parts.{CopiesBytes, first_kept, first_lost,
 
 use crate::call::FileReply;
 use crate::kept::KeptFiles;
-use crate::reply::Reply;
+use blob_fs::Reply;
 use blob_sessions::ran::{DONE, NO_ROOM, OTHER_REPLY};
 use blob_sessions::{KeptRun, Ran};
 

@@ -6,7 +6,7 @@ use crate::call::FileReply;
 use crate::kept::KeptFiles;
 use crate::parts::copied;
 use crate::refusals::status_of;
-use crate::reply::Reply;
+use blob_fs::Reply;
 use blob_sessions::Ran;
 use blob_sessions::ran::{DONE, OTHER_REPLY};
 

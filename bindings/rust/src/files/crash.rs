@@ -73,6 +73,23 @@ impl Files {
         self.lock().by_number(Kind::Settle, 0).map(drop)
     }
 
+    /// Makes all names and truncations durable, and draws nothing, as a file system's own commit does. The bytes of files stay
+    /// unsynced. The power doesn't fail at this call.
+    ///
+    /// ```
+    /// # fn main() -> Result<(), blobcrash::Error> {
+    /// # let files = blobcrash::files::Files::builder().seed(7).open()?;
+    /// files.create_dir("/d")?;
+    /// files.commit()?;
+    /// assert!(files.crash()?.edits.is_empty());
+    /// assert!(files.exists("/d")?);
+    /// # Ok(())
+    /// # }
+    /// ```
+    pub fn commit(&self) -> Result<(), Error> {
+        self.lock().by_number(Kind::Commit, 0).map(drop)
+    }
+
     /// Loses what isn't durable, except what the draws keep, and recovers. Open files are stale, and the power is on.
     ///
     /// Errors: `Memory`. If the recovery ran out of it, all other calls return `Crashed` until a crash is `Ok`.
@@ -104,7 +121,7 @@ impl Files {
     }
 
     /// Turns the power off after `calls` more calls that may change what a crash leaves, whatever they return. These are all but opens of
-    /// existing files without a truncation, reads, look-ups and `settle`. A close counts only if an open has truncated a file since the
+    /// existing files without a truncation, reads, look-ups, `settle` and `commit`. A close counts only if an open has truncated a file since the
     /// last crash.
     ///
     /// From then on every call returns `PowerLoss`, except `configure`, until the files have crashed. Returns `PowerLoss` if the power is

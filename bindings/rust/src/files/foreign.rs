@@ -54,6 +54,7 @@ pub(crate) enum Kind {
     SyncAll = 48,
     Settle = 49,
     Crash = 50,
+    Commit = 52,
 }
 
 /// Why the file of a descriptor can't be used.
@@ -167,6 +168,7 @@ mod tests {
             Kind::SyncAll,
             Kind::Settle,
             Kind::Crash,
+            Kind::Commit,
         ] {
             let name = format!("F_{}", upper(&format!("{kind:?}")));
             assert_eq!(header.get(name.as_str()), Some(&(kind as u32)), "{name}");

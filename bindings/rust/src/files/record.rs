@@ -47,7 +47,7 @@ impl Call<'_> {
     pub(crate) fn effect(&self, has_truncated: bool) -> Effect {
         match self.kind {
             Kind::Open | Kind::List | Kind::Find => Effect::Reads,
-            Kind::Size | Kind::InodeOf | Kind::Settle => Effect::Reads,
+            Kind::Size | Kind::InodeOf | Kind::Settle | Kind::Commit => Effect::Reads,
             Kind::Close if !has_truncated => Effect::Closes,
             Kind::Crash => Effect::Crashes,
             _ => Effect::Changes,
@@ -75,6 +75,7 @@ impl Call<'_> {
             Kind::InodeOf => "inode_of",
             Kind::SyncAll => "sync",
             Kind::Settle => "settle",
+            Kind::Commit => "commit",
             Kind::Crash => "crash",
         }
     }

@@ -9,8 +9,8 @@ use Rattle.blob_sessions.specs.Parts.{no_run, run_from}
 use Rattle.blob_sessions.specs.declared.parts.KeptRun.{KeptRun}
 use Rattle.blob_statuses.specs.declared.ran.TheConstants.{OTHER_REPLY}
 use Rattle.blob_file_sessions.specs.LastParts.{FindsRow, of_last, rows_in}
-use Rattle.blob_file_sessions.specs.declared.reply.Reply.{Reply}
-use Rattle.blob_file_sessions.specs.declared.reply.Reply.TheVariants.{Crashed}
+use Rattle.blob_fs.specs.declared.reply.Reply.{Reply}
+use Rattle.blob_fs.specs.declared.reply.Reply.TheVariants.{Crashed}
 use Rattle.blob_file_sessions.proofs.kept.KeptFiles.kept_run.Goals as goal
 
 finds : (last : Option Reply) (crash : Crash) (row from : ℕ) (run : KeptRun) (found : ℕ × Vec Bool Global) → last ≡ Some (Crashed crash) → slice_get (rows_of crash.rows) row ≡ Some found

@@ -9,8 +9,8 @@ use Rattle.blob_statuses.specs.declared.ran.TheConstants.{OTHER_REPLY}
 use Rattle.blob_file_sessions.specs.LastParts.{CopiesEntry, names_in, of_last}
 use Rattle.blob_file_sessions.specs.Replies.{bound_reply, no_reply}
 use Rattle.blob_file_sessions.specs.declared.call.FileReply.{FileReply}
-use Rattle.blob_file_sessions.specs.declared.reply.Reply.{Reply}
-use Rattle.blob_file_sessions.specs.declared.reply.Reply.TheVariants.{Names}
+use Rattle.blob_fs.specs.declared.reply.Reply.{Reply}
+use Rattle.blob_fs.specs.declared.reply.Reply.TheVariants.{Names}
 use Rattle.blob_file_sessions.proofs.kept.KeptFiles.name.Goals as goal
 
 abbrev Entry : Type 0
