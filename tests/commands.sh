@@ -88,7 +88,7 @@ expect 'crash_page --chart: another text' 2 'not a line of an exploration' "$pag
 zeros=$(head -c 5000 /dev/zero | tr '\0' 0)
 printf 'open p 62\nwrites %s %s0 61\nresize %s0 %s1\n# acknowledged p 62 %s0 61\ncrash\nreopen\n' "$zeros" "$zeros" "$zeros" "$zeros" \
     "$zeros" >"$work/in"
-expect 'judge: five thousand zeros' 2 'no acknowledgement counts' "$judge"
+expect 'judge: five thousand zeros' 0 '' "$judge"
 expect 'shrink: five thousand zeros' 1 "the whole script doesn't fail" "$shrink" "$work/in"
 printf 'open p 62\nresize 0 16777217\n' >"$work/in"
 expect 'crash_page: a long blob' 2 'line 2 makes a blob longer than 16777216 bytes' "$page"

@@ -44,6 +44,8 @@ def run(seed, profile):
                 pass
             if chance.random() < 0.2:
                 files.restart()
+            elif number % 5 == 4:
+                files.commit()
         files.settle()
         files.configure("clear")
         return files.script, list(flat(tree(files)))

@@ -147,6 +147,18 @@ def test_syncs():
             assert files.restart().edits == [] and files.listdir() == ["f", "g", "h"]
 
 
+def test_a_commit():
+    for profile in PROFILES:
+        with Files(profile=profile, settings=LOSES) as files:
+            files.mkdir("/d")
+            put(files, "/f", b"lost")
+            files.commit()
+            files.mkdir("/e")
+            assert get(files, "/f") == b"lost"
+            kept = files.restart()
+            assert kept.edits == [False] and files.listdir() == ["d", "f"] and get(files, "/f") == b"", profile
+
+
 def test_what_a_crash_kept():
     with Files(settings=KEEPS) as files:
         put(files, "/f", b"FFFF")
@@ -274,7 +286,7 @@ def test_power_losses():
         assert files.exists("/f") and file.size() == 0
         file.write(b"1")
         assert raises(PowerLoss, file.write, b"2").is_first
-        for call, *arguments in ((files.mkdir, "/d"), (files.listdir,), (files.exists, "/f"), (files.settle,), (files.open, "/f")):
+        for call, *arguments in ((files.mkdir, "/d"), (files.listdir,), (files.exists, "/f"), (files.settle,), (files.commit,), (files.open, "/f")):
             assert not raises(PowerLoss, call, *arguments).is_first
         raises(ValueError, files.crash_after, 1)
         files.configure("keep 1 1")

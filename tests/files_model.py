@@ -327,6 +327,9 @@ class Model(Names):
             file.shown = None
         self.settle_where(lambda edit: True)
 
+    def commit(self, asked):
+        self.settle_where(lambda edit: True)
+
     def configure(self, asked):
         self.set(asked.path.decode().split())
 

@@ -32,7 +32,7 @@ def random_step(chance):
         return chance.choice(ON_PATH), path
     if kind < 19:
         return chance.choice(ON_TWO), path, other
-    return chance.choice([("sync",), ("fsync_directory", "/")])
+    return chance.choice([("sync",), ("fsync_directory", "/"), ("commit",)])
 
 
 def steps_of(chance, count, files):

@@ -52,7 +52,7 @@ def test_early_ends():
                 client.sendall(sent)
             os.kill(mount.daemon.pid, signal.SIGCONT)
             check(f"a client that sent {sent[:30]!r} and went", refused(mount, "status").startswith("power on"), mount.messages())
-        check("the files are there", comes(lambda: refusal(get, f"{mount.at}/f") == b"bytes"))  # nobody has waited for the crash
+        check("the files are there", comes(lambda: refusal(get, f"{mount.at}/f") == b"bytes"))  # no client has waited for the crash
 
 
 def test_connections():

@@ -90,7 +90,7 @@ class Clients:
 
 
 def send_all(draw, mount, fifo):
-    """Sends random lines to the socket and the fifo, with programs beside them. Returns how many steps were made in time."""
+    """Sends random lines to the socket and the fifo, while programs make calls. Returns how many steps were made in time."""
     clients, until = Clients(draw, os.path.join(mount.folder, "socket")), time.monotonic() + SECONDS
     programs = [program(SURVIVES, mount.at, str(draw.randrange(99)), stderr=subprocess.DEVNULL) for _ in range(2)]
     steps = 0
