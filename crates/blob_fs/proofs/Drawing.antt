@@ -7,11 +7,12 @@ use Rattle.blob_fs.specs.Draws.{OnlyDraws}
 use Rattle.blob_fs.proofs.Fixed.{fixed_twice}
 
 pub crashes_self : {R : Type 0} (j : Journaled R) → SameCrashes j j
-crashes_self j = record { files = λ f. f; same = λ inode file durable h. h; left = λ inode kept. refl }
+crashes_self j = record { stands = λ files f. f; next_write = refl; same = λ inode file durable h. h; left = λ inode kept. refl }
 
 pub crashes_twice : {R : Type 0} (a b c : Journaled R) → SameCrashes a b → SameCrashes b c → SameCrashes a c
 crashes_twice a b c f g = record {
-  files = λ h. g.files (f.files h);
+  stands = λ files h. g.stands files (f.stands files h);
+  next_write = g.next_write ∙ f.next_write;
   same = λ inode file durable h. g.same inode file durable (f.same inode file durable h);
   left = λ inode kept. g.left inode kept ∙ f.left inode kept;
 }

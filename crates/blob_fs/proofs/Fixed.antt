@@ -18,7 +18,7 @@ use Rattle.blob_fs.specs.Bytes.{file_in}
 use Rattle.blob_fs.specs.Files.{fresh_inode, inode_opened, journaled_of}
 use Rattle.blob_fs.specs.Fixed.{IsFixed, IsSyncedAt, KeepsFixed, KeepsFixedBut, KeepsSpared}
 use Rattle.blob_fs.specs.declared.truncation.Truncation.{Truncation}
-use Rattle.blob_fs.specs.Open.{AllOpen, SameContent}
+use Rattle.blob_fs.specs.Open.{AllOpen, KeepsCutsOf, SameContent, SameCuts}
 use Rattle.blob_fs.proofs.Recovering.{key_is, key_self}
 
 pub some_same : {A : Type 0} {x y : A} → Some x ≡ Some y → x ≡ y
@@ -77,6 +77,25 @@ contents_set m n k was now at sets same q x there = ⊎_elim
 -- through `get_mut`
 pub contents_through : (m n : BTreeMap ℕ File) (k : ℕ) (was now : File) → Some was ≡ get nat_cmp m k → WritesThrough nat_cmp (nat_cmp k) m now n → SameContent was now → SameContents m n
 contents_through m n k was now at w same = contents_set m n k was now at (sets_through m n k was now at w) same
+
+-- The same of truncations and synced sizes alone.
+
+pub cuts_of : (m n : BTreeMap ℕ File) → SameContents m n → KeepsCutsOf m n
+cuts_of m n f k now at = let one = f k now at in (one.0, one.1, record { synced = one.2.synced; truncations = one.2.truncations })
+
+pub cuts_same : (m n : BTreeMap ℕ File) → n ≡ m → KeepsCutsOf m n
+cuts_same m n e = cuts_of m n (contents_same m n e)
+
+pub cuts_set : (m n : BTreeMap ℕ File) (k : ℕ) (was now : File) → Some was ≡ get nat_cmp m k → Sets m n k now → SameCuts was now → KeepsCutsOf m n
+cuts_set m n k was now at sets same q x there = ⊎_elim
+    (λ y. let e : k ≡ q = key_is k q y in
+    let is : now ≡ x = some_same (sym (sets q ∙ cond-true (is_eq (nat_cmp k q)) (Some now) (get nat_cmp m q) y) ∙ there) in
+    (was, subst (λ (i : ℕ). get nat_cmp m i ≡ Some was) e (sym at), subst (λ (f : File). SameCuts was f) is same))
+    (λ n'. (x, sym (sets q ∙ cond-false (is_eq (nat_cmp k q)) (Some now) (get nat_cmp m q) n') ∙ there, record { synced = refl; truncations = refl }))
+    (cases_Bool (is_eq (nat_cmp k q)))
+
+pub cuts_from : (l m n : BTreeMap ℕ File) → m ≡ l → KeepsCutsOf m n → KeepsCutsOf l n
+cuts_from l m n e f = subst (λ (x : BTreeMap ℕ File). KeepsCutsOf x n) e f
 
 -- a file was removed
 pub contents_without : (m n : BTreeMap ℕ File) (k : ℕ) → Updates nat_cmp m n k None → SameContents m n

@@ -33,7 +33,7 @@ cases_less : (k n : ℕ) → k < n + 1 → (k < n) ⊎ (k ≡ n)
 cases_less k n h = ⊎_elim inl (λ e. inr (omega arith)) (cases_lt k n)
 
 -- what is at the key that was set
-set_here : (m n : BTreeMap ℕ File) (k : ℕ) (now x : File) → Sets m n k now → get nat_cmp n k ≡ Some x → now ≡ x
+pub set_here : (m n : BTreeMap ℕ File) (k : ℕ) (now x : File) → Sets m n k now → get nat_cmp n k ≡ Some x → now ≡ x
 set_here m n k now x sets there = some_same (sym (sets k ∙ cond-true (is_eq (nat_cmp k k)) (Some now) (get nat_cmp m k) (key_self k)) ∙ there)
 
 -- what is at another key

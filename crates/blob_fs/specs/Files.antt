@@ -27,6 +27,7 @@ use Rattle.blob_fs.specs.Open.{with_open}
 use Rattle.blob_fs.specs.Tracked.{freed_in}
 use Rattle.blob_journal.specs.declared.journaled.Journaled.{Journaled}
 use Rattle.blob_journal.specs.Currents.{Represents}
+use Rattle.blob_journal.specs.Draws.{RecordsEdit as records_edit}
 use Rattle.blob_journal.specs.Journals.{FindsKept as finds_kept, durable_file, FindsNames as finds_names, GivesNames as gives_names, store_of}
 use Rattle.blob_journal.specs.Settling.{KeepsJournal as keeps_journal, NotesEdit as notes_edit, SettlesEdits as settles_edits}
 use Rattle.blob_journal.specs.Keeping.{AddsTold as adds_told, FindsTold as finds_told, GivesTold as gives_told, GrowsTold as grows_told, KeepsTold as keeps_told, SettlesSome as settles_some, generator_in, table_in, told_in, with_generator as with_generator_in}
@@ -174,9 +175,13 @@ KeepsTold fs fs' = keeps_told (journaled_of fs) (journaled_of fs')
 abbrev pub AddsTold : {R : Type 0} → Edit → FileSystem R → FileSystem R → Type 0
 AddsTold edit fs fs' = adds_told edit (journaled_of fs) (journaled_of fs')
 
--- one more edit is unsettled, the last one: it is this edit, and is about this
+-- one more edit is unsettled, the last one: it is this edit, is about this, and a crash keeps it by the rate that is set
 abbrev pub NotesEdit : {R : Type 0} → Edit → About → FileSystem R → FileSystem R → Type 0
-NotesEdit edit about fs fs' = notes_edit edit about (journaled_of fs) (journaled_of fs')
+NotesEdit edit about fs fs' = notes_edit edit about (options_of fs).edit_rate (journaled_of fs) (journaled_of fs')
+
+-- the log of the journal has the entry of this edit's record more
+abbrev pub LogsEdit : {R : Type 0} → Edit → FileSystem R → FileSystem R → Type 0
+LogsEdit edit fs fs' = records_edit edit (options_of fs).edit_rate (journaled_of fs) (journaled_of fs')
 
 -- what an edit of a name of an inode in a directory is about
 abbrev pub about_name : ℕ → ℕ → About

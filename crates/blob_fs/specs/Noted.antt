@@ -10,6 +10,7 @@ use Rattle.blob_fs.specs.declared.file_system.File.{File}
 use Rattle.blob_fs.specs.declared.file_system.FileSystem.{FileSystem}
 use Rattle.blob_fs.specs.declared.truncation.Truncation.{Truncation}
 use Rattle.blob_fs.specs.Bytes.{file_in}
+use Rattle.blob_fs.specs.Open.{KeepsCutsOf}
 use Rattle.blob_fs.specs.Files.{file_of, inode_opened, journaled_of}
 
 -- the size that calls see: that of the blob, or of the bytes that a failed sync shows in its place
@@ -46,6 +47,14 @@ truncations_in (Some file) = file.truncations.items
 
 abbrev pub truncations_of : {R : Type 0} → FileSystem R → ℕ → List Truncation
 truncations_of fs inode = truncations_in (file_in fs inode)
+
+-- Each file keeps its truncations and its size at the last sync: by these a crash cuts it.
+abbrev pub KeepsCuts : {R : Type 0} → FileSystem R → FileSystem R → Type 0
+KeepsCuts fs fs' = KeepsCutsOf fs.files fs'.files
+
+-- after a sync of a file's bytes its size at the last sync is that of its blob, and no truncation is left
+abbrev pub IsUncut : {R : Type 0} → FileSystem R → ℕ → Type 0
+IsUncut fs inode = (now : File) → file_in fs inode ≡ Some now → (now.synced ≡ size_of now.blob.blob) × (now.truncations.items ≡ [])
 
 -- one more, of this length, by an edit that nothing has settled, before the write that the store records next
 pub record Notes {R : Type 0} (inode length : ℕ) (fs fs' : FileSystem R) : Type 0 where

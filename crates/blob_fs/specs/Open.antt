@@ -32,6 +32,15 @@ pub record SameContent (was now : File) : Type 0 where
   pub synced : now.synced ≡ was.synced
   pub truncations : now.truncations.items ≡ was.truncations.items
 
+-- the same size at the last sync, and the same truncations since
+pub record SameCuts (was now : File) : Type 0 where
+  pub synced : now.synced ≡ was.synced
+  pub truncations : now.truncations.items ≡ was.truncations.items
+
+-- so it is of each file of a map, by its number
+abbrev pub KeepsCutsOf : BTreeMap ℕ File → BTreeMap ℕ File → Type 0
+KeepsCutsOf files files' = (inode : ℕ) (now : File) → get nat_cmp files' inode ≡ Some now → (was : File) × (get nat_cmp files inode ≡ Some was) × SameCuts was now
+
 -- a file may have changed; it is still open, and other open files stay as they are
 abbrev pub MayChange : {R : Type 0} → Journaled R → FileBlob → Journaled R → FileBlob → Type 0
 MayChange j file j' file' = ChangesOpen (λ at. ⊥) j file j' file'

@@ -1,8 +1,9 @@
 //! What the calls share: their start, and an edit.
 ghost use Rattle.std.specs.Prelude.{◌≡◌, [], None, Some, OnOk, OnErr, IfOk, option_copied};
-ghost use Rattle.blob_fs.specs.Files.{AddsTold, KeepsJournal, KeepsNames, KeepsOptions, KeepsTold, MakesEdit, NotesEdit, SameFiles, SameNames, file_of, fresh_inode, journaled_of, kind_in, names_of, options_of, told_of};
+ghost use Rattle.blob_fs.specs.Files.{AddsTold, LogsEdit, KeepsJournal, KeepsNames, KeepsOptions, KeepsTold, MakesEdit, NotesEdit, SameFiles, SameNames, file_of, fresh_inode, journaled_of, kind_in, names_of, options_of, told_of};
 ghost use Rattle.blob_fs.specs.Fixed.{KeepsFixed};
 ghost use Rattle.blob_fs.specs.Named.{AllNamed};
+ghost use Rattle.blob_fs.specs.Writes.{faults_of, rates_of};
 ghost use Rattle.blob_journal.specs.Writes.{SameCrashes};
 ghost use Rattle.blob_directory.specs.Names.{Same, edit_of, edited, entry};
 
@@ -19,7 +20,9 @@ use std::alloc::Global;
 use std::collections::BTreeMap;
 
 /// Returns a copy.
-pub(crate) fn copy_of(config: &Config) -> Config {
+pub(crate) fn copy_of(config: &Config) -> Config
+    ensures { result ≡ config.now }
+{
     Config {
         open_rate: config.open_rate,
         read_rate: config.read_rate,
@@ -93,6 +96,7 @@ impl<R: Rng + Drop> FileSystem<R> {
         ensures number { fresh_inode self.new ≡ fresh_inode self.old }
         ensures fixed { KeepsFixed self.old self.new }
         ensures options { KeepsOptions self.old self.new }
+        ensures rates { OnOk result (rates_of self.new ≡ faults_of self.old) }
     {
         if self.is_down {
             return Err(FsError::Crashed);
@@ -142,6 +146,7 @@ impl<R: Rng + Drop> FileSystem<R> {
         ensures fixed { KeepsFixed self.old self.new }
         ensures options { KeepsOptions self.old self.new }
         ensures noted { OnOk result (NotesEdit (edit_of edit) about self.old self.new) }
+        ensures logged { OnOk result (LogsEdit (edit_of edit) self.old self.new) }
     {
         bindings();
         self.gone.reserve(1)?;

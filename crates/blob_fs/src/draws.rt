@@ -1,8 +1,8 @@
 //! Failures of writes and truncations that are drawn before anything is done.
-ghost use Rattle.std.specs.Prelude.{◌≡◌, ◌≤◌, IfOk, false};
+ghost use Rattle.std.specs.Prelude.{◌≡◌, ◌≤◌, IfOk, OnOk, false};
 ghost use Rattle.blob_fs.specs.declared.switches.FailedWrite.TheVariants.{ByMode};
 ghost use Rattle.blob_fs.specs.Draws.{OnlyDraws};
-ghost use Rattle.blob_fs.specs.Writes.{failed_write_of};
+ghost use Rattle.blob_fs.specs.Writes.{KeepsAsSet, failed_write_of};
 
 use crate::error::FsError;
 use crate::file_system::FileSystem;
@@ -96,6 +96,7 @@ impl<R: Rng + Drop> FileSystem<R> {
     pub(crate) fn draw_write(&mut self, inode: u64) -> Result<FailedWrite, FsError>
         ensures how { IfOk result (λ how. failed_write_of self.old ≡ ByMode → how ≡ ByMode) }
         ensures drawn { OnlyDraws self.old self.new }
+        ensures rates { OnOk result (KeepsAsSet self.old → KeepsAsSet self.new) }
     {
         if !self.has_truncations(inode) {
             return Ok(self.options.failed_write);

@@ -3,7 +3,7 @@ ghost use Rattle.std.specs.Prelude.{◌≡◌, [], false, length, IfOk, IsSome, 
 ghost use Rattle.blob_fs.specs.declared.switches.FailedWrite.TheVariants.{ByMode};
 ghost use Rattle.blob_fs.specs.Writes.{RecordsWrite, failed_write_of};
 ghost use Rattle.blob_fs.specs.Fixed.{KeepsFixed, KeepsFixedBut, KeepsSpared};
-ghost use Rattle.blob_fs.specs.Noted.{HasSize, size_in, size_read};
+ghost use Rattle.blob_fs.specs.Noted.{KeepsCuts, HasSize, size_in, size_read};
 ghost use Rattle.blob_fs.specs.Named.{links_of};
 ghost use Rattle.blob_fs.specs.Open.{SameContent};
 ghost use Rattle.blob_fs.specs.Tracked.{freed_of};
@@ -331,6 +331,7 @@ impl<R: Rng + Drop> FileSystem<R> {
         ensures told { KeepsTold self.old self.new }
         ensures recorded { OnOk result (failed_write_of self.old ≡ ByMode → RecordsWrite file offset bytes.now self.old self.new) }
         ensures fixed { KeepsSpared file (IsBeside offset (length bytes.now)) self.old self.new }
+        ensures cuts { KeepsCuts self.old self.new }
         ensures options { KeepsOptions self.old self.new }
         ensures open { OnOk result (IsSome (inode_opened self.old file)) }
     {

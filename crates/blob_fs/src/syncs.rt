@@ -3,6 +3,7 @@ ghost use Rattle.std.specs.Prelude.{◌≡◌, ◌<◌, IfOk, OnOk};
 ghost use Rattle.blob_fs.specs.declared.switches.Syncs.TheVariants.{Honest};
 ghost use Rattle.blob_fs.specs.Fixed.{FixesAll, FixesFile, FixesInode, KeepsFixed, KeepsSeen, ListsFiles};
 ghost use Rattle.blob_fs.specs.Files.{IsSyncOf, KeepsJournal, KeepsNames, KeepsOptions, KeepsTold, SettlesEdits, SettlesSome, SyncsAll, SyncsDirectory, SyncsFile, fresh_inode, journaled_of, syncs_of};
+ghost use Rattle.blob_fs.specs.Noted.{IsUncut};
 
 use crate::error::FsError;
 use crate::file_system::{Descriptor, FileSystem};
@@ -71,6 +72,7 @@ impl<R: Rng + Drop> FileSystem<R> {
         ensures fixed { KeepsFixed self.old self.new }
         ensures fixes { OnOk result (FixesInode inode self.old self.new) }
         ensures seen { OnOk result (KeepsSeen self.old self.new) }
+        ensures uncut { OnOk result (IsUncut self.new inode) }
         ensures options { KeepsOptions self.old self.new }
     {
         let synced = self.sync_of(inode)?;

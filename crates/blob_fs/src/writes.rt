@@ -1,5 +1,6 @@
 //! Writes of a blob, by which bytes of a failed one are written.
-ghost use Rattle.std.specs.Prelude.{◌≡◌, OnOk, length};
+ghost use Rattle.std.specs.Prelude.{◌≡◌, OnOk, Some, length};
+ghost use Rattle.blob_draws.specs.Faults.{retention};
 ghost use Rattle.blob_fs.specs.declared.switches.FailedWrite.TheVariants.{ByMode};
 ghost use Rattle.blob_journal.specs.Fixed.{ChangesOpen, IsBeside};
 ghost use Rattle.blob_journal.specs.Keeping.{KeepsTable, KeepsTold};
@@ -17,7 +18,9 @@ pub(crate) fn with_writes(
     faults: &Config,
     failure_rate: Probability,
     writes: WriteConfig,
-) -> Config {
+) -> Config
+    ensures { retention result.write_rate ≡ retention (Some writes) }
+{
     copy_of(faults).write(WriteConfig {
         failure_rate,
         ..writes

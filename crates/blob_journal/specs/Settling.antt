@@ -4,6 +4,7 @@ use Rattle.std.specs.List.{fold}
 use Rattle.blob_model.specs.Bytes.{overlay}
 use Rattle.blob_model.specs.Directory.{is_current}
 use Rattle.blob_model.specs.Places.{Place}
+use Rattle.blob_model.specs.Rates.{Rate}
 use Rattle.blob_draws.specs.declared.selections.Selections.{Selections}
 use Rattle.blob_memory.specs.Store.{directory, durable, place}
 use Rattle.blob_faulty.specs.Keeps.{OverMemory}
@@ -20,6 +21,7 @@ use Rattle.blob_directory.specs.Records.{record_of}
 use Rattle.blob_directory.specs.Syncs.{Wants, marked}
 use Rattle.blob_journal.specs.declared.journaled.Journaled.{Journaled}
 use Rattle.blob_journal.specs.Currents.{KeepsFiles, LeftAs, Represents, pending_at}
+use Rattle.blob_journal.specs.Draws.{EndsWithEdit}
 use Rattle.blob_journal.specs.Journals.{IsJournal, IsJournalAfter, generation_of, store_of}
 use Rattle.blob_journal.specs.Keeping.{KeepsTold, told_in}
 use Rattle.blob_journal.specs.Told.{is_marked_in, settled_in}
@@ -44,10 +46,11 @@ pub record AddsUnsettled {R : Type 0} (e : Edit) (a : About) (n : ℕ) (j j' : J
 abbrev pub counted : List Bool → List Unsettled → List Bool
 counted counts edits = map (λ e. get_or counts e.record false) edits
 
--- the same with some number
-pub record NotesEdit {R : Type 0} (e : Edit) (a : About) (j j' : Journaled R) : Type 0 where
+-- The same with some number. Its record is the last entry of the journal's log: a crash keeps it whole, by this rate, or loses it.
+pub record NotesEdit {R : Type 0} (e : Edit) (a : About) (rate : Rate) (j j' : Journaled R) : Type 0 where
   pub number : ℕ
   pub adds : AddsUnsettled e a number j j'
+  pub ends : ∥ EndsWithEdit e rate j' ∥₁
 
 -- the journal is found with these bytes, and this is of each edit that nothing settled whether its record counts
 pub record FindsEdits {R : Type 0} (j : Journaled R) (keeps : Keeps) (edits : List Bool) : Type 0 where

@@ -1,11 +1,12 @@
 //! Edits of the names, each in the journal, and the syncs that settle them.
 ghost use Rattle.std.specs.Prelude.{◌≡◌, None, [], IfOk, OnOk, OnErr, length, take};
 ghost use Rattle.blob_memory.specs.Store.{place};
-ghost use Rattle.blob_faulty.specs.Wrapper.{inside, next_write_of};
+ghost use Rattle.blob_faulty.specs.Wrapper.{config_of, inside, next_write_of};
 ghost use Rattle.blob_directory.specs.Names.{Same, edit_of, resizes};
 ghost use Rattle.blob_directory.specs.Settled.{AreSettled};
 ghost use Rattle.blob_directory.specs.Syncs.{of_truncation};
 ghost use Rattle.blob_journal.specs.Currents.{FindsNoMoreBut, SameDirectory};
+ghost use Rattle.blob_journal.specs.Draws.{EndsWithEdit, RecordsEdit};
 ghost use Rattle.blob_journal.specs.Found.{IsKept};
 ghost use Rattle.blob_journal.specs.Keeping.{told_by};
 ghost use Rattle.blob_journal.specs.Settling.{Changes, all_settled};
@@ -109,6 +110,7 @@ impl<R: Rng + Drop> Journaled<R> {
 
     /// Replaces the fault rates of calls on files. What is pending keeps the mode and the rate of its issue.
     pub fn set_config(&mut self, config: Config)
+        ensures set { config_of (store_of self.new) ≡ config }
         ensures names { KeepsTable self.old self.new }
         ensures journal { KeepsJournal self.old self.new }
         ensures crashes { SameCrashes self.old self.new }
@@ -173,6 +175,8 @@ impl<R: Rng + Drop> Journaled<R> {
         ensures refused { OnErr result (KeepsUnsettled self.old self.new) }
         ensures names { KeepsTable self.old self.new }
         ensures record { OnOk result (AddsRecord (edit_of edit) self.old self.new) }
+        ensures logged { OnOk result (RecordsEdit (edit_of edit) rate self.old self.new) }
+        ensures ends { OnOk result (∥ EndsWithEdit (edit_of edit) rate self.new ∥₁) }
         ensures told { OnOk result (AddsTold (edit_of edit) self.old self.new) }
         ensures untold { OnErr result (KeepsTold self.old self.new) }
         ensures still { KeepsOpen self.old self.new }
@@ -209,8 +213,9 @@ impl<R: Rng + Drop> Journaled<R> {
     /// changed.
     pub fn make(&mut self, edit: Edit, about: About, rate: Probability) -> Result<(), Error>
         ensures made { OnOk result (Edits (edit_of edit) self.old self.new) }
-        ensures noted { OnOk result (NotesEdit (edit_of edit) about self.old self.new) }
+        ensures noted { OnOk result (NotesEdit (edit_of edit) about rate self.old self.new) }
         ensures record { OnOk result (AddsRecord (edit_of edit) self.old self.new) }
+        ensures logged { OnOk result (RecordsEdit (edit_of edit) rate self.old self.new) }
         ensures refused { OnErr result (SameBindings self.old self.new) }
         ensures told { OnOk result (AddsTold (edit_of edit) self.old self.new) }
         ensures untold { OnErr result (KeepsTold self.old self.new) }
@@ -236,6 +241,8 @@ impl<R: Rng + Drop> Journaled<R> {
         ensures refused { OnErr result (KeepsUnsettled self.old self.new) }
         ensures names { KeepsTable self.old self.new }
         ensures record { OnOk result (AddsRecord (resizes inode) self.old self.new) }
+        ensures logged { OnOk result (RecordsEdit (resizes inode) rate self.old self.new) }
+        ensures ends { OnOk result (∥ EndsWithEdit (resizes inode) rate self.new ∥₁) }
         ensures told { OnOk result (AddsTold (resizes inode) self.old self.new) }
         ensures untold { OnErr result (KeepsTold self.old self.new) }
         ensures still { KeepsOpen self.old self.new }

@@ -8,7 +8,8 @@ ghost use Rattle.blob_memory.specs.Store.{directory, durable, place};
 ghost use Rattle.blob_faulty.specs.Wrapper.{inner_of, inside};
 ghost use Rattle.blob_journal.specs.Incarnations.{ChangesOnly, KeepsIncarnations, KeepsPartition};
 ghost use Rattle.blob_journal.specs.Currents.{BeginsAs, BeginsNext, FindsNoMore, FindsNoMoreBut, FixesBytes, IsGiven, KeepsCurrent, KeepsFiles, KeepsNext, SameDirectory, SamePending};
-ghost use Rattle.blob_journal.specs.Draws.{DrawsWhole};
+ghost use Rattle.blob_draws.specs.Faults.{retention};
+ghost use Rattle.blob_journal.specs.Draws.{DrawsWhole, LogsEdit, kept_whole};
 ghost use Rattle.blob_journal.specs.Found.{AddsEdit, KeepsRecords, SettlesEdit};
 ghost use Rattle.blob_journal.specs.Keeping.{bytes_in, with_record};
 ghost use Rattle.blob_journal.specs.Limits.{DrawsNothing, FailsAtLimits, KeepsAccepted, OpensQuietly, SameFaults};
@@ -43,7 +44,8 @@ pub(crate) struct Journal {
 /// Returns the configuration of a journal's writes: none fails, and a crash keeps each by this rate, whole. All bytes of a write
 /// are in one sector, since none ends at 2^64 or later.
 fn faults_of(rate: Probability) -> Config
-    ensures { DrawsWhole result }
+    ensures whole { DrawsWhole result }
+    ensures kept { retention result.write_rate ≡ kept_whole rate }
 {
     let mode = SectorSize::new(u64::MAX).map_or(
         PartialWriteMode::Prefix,
@@ -121,6 +123,7 @@ impl Journal {
         ensures left { OnOk result (AddsEdit (edit_of edit.now) store.old self.old store.new self.new) }
         ensures same { OnErr result (KeepsRecords store.old self.old store.new self.new) }
         ensures beside { FindsNoMoreBut (place (inside self.old.blob)) store.old store.new }
+        ensures logged { OnOk result (LogsEdit (edit_of edit.now) rate self.old store.old store.new) }
     {
         leaves::other_blobs::<blob_memory::Storage, R>();
         records();

@@ -22,6 +22,7 @@ use Rattle.std.proofs.Common.{◌∷◌, [], List, None, Some, ap, ℕ, ◌∙�
 use Rattle.blob_journal.specs.Settling.{unsettled_of}
 use Rattle.blob_journal.specs.declared.journaled.Journaled.{Journaled}
 use Rattle.blob_fs.proofs.Noting.{noted_between}
+use Rattle.blob_fs.specs.declared.file_system.Options.{Options}
 use Rattle.blob_fs.proofs.file_system.FileSystem.create_at.Goals as goal
 
 pub returns-in_err-descriptor-clause-refused : goal.returns-in_err-descriptor-clause-refused
@@ -109,6 +110,6 @@ returns-clause-told g c = told_as (told_of c.args.self.now) (told_of c.open_new.
     (c.one-edit.ensures ∙ ap (λ (x : List ℕ). (x, Some (file c.args.self.now.next_inode)) ∷ []) c.in_ok-entry.ensures) (c.open_new.ensures.told ∙ c.open_file.ensures.told ∙ c.begin_call.ensures.told) c.in_default.ensures.told
 
 pub returns-clause-noted : goal.returns-clause-noted
-returns-clause-noted g c = noted_between c.args.self.now.store c.open_new.new.self.store c.make.new.self.store c.make.new.self.store _ _ _ _
-    (c.one-edit.ensures ∙ ap (λ (x : List ℕ). (x, Some (file c.args.self.now.next_inode)) ∷ []) c.in_ok-entry.ensures) c.about.ensures
+returns-clause-noted g c = noted_between c.args.self.now.store c.open_new.new.self.store c.make.new.self.store c.make.new.self.store _ _ _ _ _ _
+    (c.one-edit.ensures ∙ ap (λ (x : List ℕ). (x, Some (file c.args.self.now.next_inode)) ∷ []) c.in_ok-entry.ensures) c.about.ensures (ap (λ (o : Options). o.edit_rate) (c.open_new.ensures.options ∙ c.begin_call.ensures.options))
     (ap (λ (j : Journaled g.row.R.Denot). unsettled_of j) c.in_ok-descriptor.ensures.store ∙ c.open_file.ensures.unsettled ∙ c.in_ok-begin_call.ensures.journal.unsettled) c.in_default.ensures.noted refl

@@ -9,6 +9,7 @@ use Rattle.std.proofs.Common.{◌∷◌, [], List, Some, ap, ℕ, ◌∙◌}
 use Rattle.blob_journal.specs.Settling.{unsettled_of}
 use Rattle.blob_journal.specs.declared.journaled.Journaled.{Journaled}
 use Rattle.blob_fs.proofs.Noting.{noted_between}
+use Rattle.blob_fs.specs.declared.file_system.Options.{Options}
 use Rattle.blob_fs.proofs.file_system.FileSystem.link_at.Goals as goal
 
 pub set_links-requires : goal.set_links-requires
@@ -51,6 +52,6 @@ returns-clause-told g c = told_as (told_of c.args.self.now) (told_of c.set_links
     (c.one-edit.ensures ∙ ap (λ (x : List ℕ). (x, Some (file c.args.inode)) ∷ []) c.in_ok-entry.ensures) (c.set_links.ensures.told ∙ c.begin_call.ensures.told) c.in_default.ensures.told
 
 pub returns-clause-noted : goal.returns-clause-noted
-returns-clause-noted g c = noted_between c.args.self.now.store c.set_links.new.self.store c.make.new.self.store c.make.new.self.store _ _ _ _
-    (c.one-edit.ensures ∙ ap (λ (x : List ℕ). (x, Some (file c.args.inode)) ∷ []) c.in_ok-entry.ensures) c.about.ensures
+returns-clause-noted g c = noted_between c.args.self.now.store c.set_links.new.self.store c.make.new.self.store c.make.new.self.store _ _ _ _ _ _
+    (c.one-edit.ensures ∙ ap (λ (x : List ℕ). (x, Some (file c.args.inode)) ∷ []) c.in_ok-entry.ensures) c.about.ensures (ap (λ (o : Options). o.edit_rate) (c.set_links.ensures.options ∙ c.begin_call.ensures.options))
     (ap (λ (j : Journaled g.row.R.Denot). unsettled_of j) c.set_links.ensures.store ∙ c.in_ok-begin_call.ensures.journal.unsettled) c.in_default.ensures.noted refl

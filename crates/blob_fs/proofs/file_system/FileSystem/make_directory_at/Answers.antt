@@ -6,6 +6,7 @@ use Rattle.blob_fs.specs.Files.{told_of}
 use Rattle.blob_directory.specs.Names.{directory_at}
 use Rattle.std.proofs.Common.{◌∷◌, [], List, Some, ap, ℕ, ◌∙◌}
 use Rattle.blob_fs.proofs.Noting.{noted_between}
+use Rattle.blob_fs.specs.declared.file_system.Options.{Options}
 use Rattle.blob_fs.proofs.file_system.FileSystem.make_directory_at.Goals as goal
 
 pub returns-in_err-insert-clause-fixed : goal.returns-in_err-insert-clause-fixed
@@ -37,6 +38,6 @@ returns-clause-told g c = told_as (told_of c.args.self.now) (told_of c.begin_cal
     (c.one-edit.ensures ∙ ap (λ (x : List ℕ). (x, Some (directory_at c.args.self.now.next_inode)) ∷ []) c.in_ok-entry.ensures) c.begin_call.ensures.told c.in_default.ensures.told
 
 pub returns-clause-noted : goal.returns-clause-noted
-returns-clause-noted g c = noted_between c.args.self.now.store c.begin_call.new.self.store c.make.new.self.store c.make.new.self.store _ _ _ _
-    (c.one-edit.ensures ∙ ap (λ (x : List ℕ). (x, Some (directory_at c.args.self.now.next_inode)) ∷ []) c.in_ok-entry.ensures) c.about.ensures
+returns-clause-noted g c = noted_between c.args.self.now.store c.begin_call.new.self.store c.make.new.self.store c.make.new.self.store _ _ _ _ _ _
+    (c.one-edit.ensures ∙ ap (λ (x : List ℕ). (x, Some (directory_at c.args.self.now.next_inode)) ∷ []) c.in_ok-entry.ensures) c.about.ensures (ap (λ (o : Options). o.edit_rate) c.begin_call.ensures.options)
     c.in_ok-begin_call.ensures.journal.unsettled c.in_default.ensures.noted refl

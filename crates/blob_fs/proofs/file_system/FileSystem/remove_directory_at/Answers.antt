@@ -11,6 +11,7 @@ use Rattle.blob_fs.proofs.Growing.{told_as}
 use Rattle.blob_fs.specs.Files.{told_of}
 use Rattle.std.proofs.Common.{◌∷◌, [], List, None, ap, ℕ, ◌∙◌, refl}
 use Rattle.blob_fs.proofs.Noting.{noted_between}
+use Rattle.blob_fs.specs.declared.file_system.Options.{Options}
 use Rattle.blob_fs.proofs.file_system.FileSystem.remove_directory_at.Goals as goal
 
 pub returns-in_err-make-clause-fixed : goal.returns-in_err-make-clause-fixed
@@ -36,6 +37,6 @@ pub returns-clause-noted : goal.returns-clause-noted
 returns-clause-noted g c =
     let at : names_of c.args.self.now (entry c.args.directory c.args.name.now) ≡ Some c.in_ok-was.was' =
     ap₂ (λ (t : Table) (l : List ℕ). bound t l) (sym c.begin_call.ensures.names) (sym c.in_ok-entry.ensures) ∙ ap (names_of c.begin_call.new.self) (sym c.deref.ensures.value) ∙ c.in_ok-was.ensures in
-    noted_between c.args.self.now.store c.begin_call.new.self.store c.make.new.self.store c.make.new.self.store _ _ _ _
+    noted_between c.args.self.now.store c.begin_call.new.self.store c.make.new.self.store c.make.new.self.store _ _ _ _ _ _
     (c.one.ensures ∙ ap (λ (x : List ℕ). (x, None) ∷ []) c.in_ok-entry.ensures) (c.about.ensures ∙ ap (λ (o : Option Binding). about_name (unwrap_or (option_map (λ to. to.inode) o) 0) c.args.directory) (sym at))
-    c.in_ok-begin_call.ensures.journal.unsettled c.in_ok-make.ensures.noted refl
+    (ap (λ (o : Options). o.edit_rate) c.begin_call.ensures.options) c.in_ok-begin_call.ensures.journal.unsettled c.in_ok-make.ensures.noted refl

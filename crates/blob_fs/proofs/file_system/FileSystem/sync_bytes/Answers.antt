@@ -1,7 +1,9 @@
 use Rattle.std.proofs.Common.{refl, ◌<◌, ◌≤◌, ◌^◌, false, inr, arith, ◌∙◌, Some, sym, ap}
 use Rattle.blob_fs.specs.declared.file_system.File.{File}
+use Rattle.std.proofs.Common.{◌≡◌, [], subst}
+use Rattle.blob_faulty.specs.Wrapper.{size_of}
 use Rattle.blob_fs.proofs.Fixed.{fixed_changed, fixed_twice, opened_changed, opened_none, sets_through}
-use Rattle.blob_fs.proofs.Syncing.{fixes_synced, seen_below, seen_synced, synced_whole}
+use Rattle.blob_fs.proofs.Syncing.{set_here, fixes_synced, seen_below, seen_synced, synced_whole}
 use Rattle.blob_fs.proofs.Named.{at_most_self, links_set, named_after, named_none}
 use Rattle.blob_fs.proofs.Tracked.{freed_set, tracked_after, tracked_none}
 use Rattle.blob_fs.proofs.file_system.FileSystem.sync_bytes.Goals as goal
@@ -90,3 +92,13 @@ returns-clause-seen g c =
     seen_synced fs _ c.args.inode was new there
     (sets_through fs.files (c.get_mut.follows.lender new) c.args.inode was new there (c.get_mut.follows.holds new))
     c.in_default-sync_file.ensures.fixes fs.opened
+
+pub returns-clause-uncut : goal.returns-clause-uncut
+returns-clause-uncut g c = λ now at.
+    let fs = c.args.self.now in
+    let was = c.as_mut-file.result.now in
+    let there = ap Some c.as_mut-file.ensures.value ∙ c.in-Some.ensures.value in
+    let new : File = record was { blob = c.sync_file.new.file; synced = c.size-file.result; is_truncated = false; truncations = c.clear.new.self } in
+    let sets = sets_through fs.files (c.get_mut.follows.lender new) c.args.inode was new there (c.get_mut.follows.holds new) in
+    let is : new ≡ now = set_here fs.files (c.get_mut.follows.lender new) c.args.inode new now sets at in
+    subst (λ (f : File). (f.synced ≡ size_of f.blob.blob) × (f.truncations.items ≡ [])) is (c.size-file.ensures, c.clear.ensures.items)

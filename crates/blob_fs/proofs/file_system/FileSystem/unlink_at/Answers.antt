@@ -21,6 +21,7 @@ use Rattle.std.proofs.Common.{◌∷◌, [], List, None, ap, ℕ, ◌∙◌}
 use Rattle.blob_journal.specs.Settling.{unsettled_of}
 use Rattle.blob_journal.specs.declared.journaled.Journaled.{Journaled}
 use Rattle.blob_fs.proofs.Noting.{noted_between}
+use Rattle.blob_fs.specs.declared.file_system.Options.{Options}
 use Rattle.blob_fs.proofs.file_system.FileSystem.unlink_at.Goals as goal
 
 pub returns-in_err-make-in-File-clause-fixed : goal.returns-in_err-make-in-File-clause-fixed
@@ -57,6 +58,6 @@ pub returns-in_ok-make-in-File-clause-noted : goal.returns-in_ok-make-in-File-cl
 returns-in_ok-make-in-File-clause-noted g c =
     let at : names_of c.args.self.now (entry c.args.directory c.args.name.now) ≡ Some c.in_ok-was.was' =
     ap₂ (λ (t : Table) (l : List ℕ). bound t l) (sym c.begin_call.ensures.names) (sym c.in_ok-entry.ensures) ∙ ap (names_of c.begin_call.new.self) (sym c.deref.ensures.value) ∙ c.in_ok-was.ensures in
-    noted_between c.args.self.now.store c.begin_call.new.self.store c.make.new.self.store c.drop_link.new.self.store _ _ _ _
+    noted_between c.args.self.now.store c.begin_call.new.self.store c.make.new.self.store c.drop_link.new.self.store _ _ _ _ _ _
     (c.one.ensures ∙ ap (λ (x : List ℕ). (x, None) ∷ []) c.in_ok-entry.ensures) (c.about.ensures ∙ ap (λ (o : Option Binding). about_name (unwrap_or (option_map (λ to. to.inode) o) 0) c.args.directory) (sym at))
-    c.in_ok-begin_call.ensures.journal.unsettled c.in_ok-make-in-File.ensures.noted (ap (λ (j : Journaled g.row.R.Denot). unsettled_of j) c.drop_link.ensures.store)
+    (ap (λ (o : Options). o.edit_rate) c.begin_call.ensures.options) c.in_ok-begin_call.ensures.journal.unsettled c.in_ok-make-in-File.ensures.noted c.drop_link.ensures.store

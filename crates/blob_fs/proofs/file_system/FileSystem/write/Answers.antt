@@ -15,9 +15,24 @@ use Rattle.blob_fs.specs.declared.file_system.File.{File}
 use Rattle.blob_fs.specs.declared.file_system.Options.{Options}
 use Rattle.blob_fs.specs.Files.{descriptor_number}
 use Rattle.blob_fs.proofs.Calls.{was_ok}
-use Rattle.blob_fs.proofs.Fixed.{changes_again, contents_same, contents_through, fixed_after, fixed_twice, keeps_spared, opened_changed, opened_none, opened_through, sets_through, still_self, synced_kept}
+use Rattle.blob_fs.specs.Open.{KeepsCutsOf}
+use Rattle.blob_fs.proofs.Fixed.{changes_again, contents_same, contents_through, cuts_from, cuts_of, cuts_same, cuts_set, fixed_after, fixed_twice, keeps_spared, opened_changed, opened_none, opened_through, sets_through, still_self, synced_kept}
 use Rattle.blob_fs.proofs.Named.{links_set, named_after, named_none, named_through, same_at_most}
 use Rattle.blob_fs.proofs.Tracked.{freed_set, tracked_after, tracked_none, tracked_through}
+use Rattle.std.proofs.Common.{◌≡◌, List, Option, ap₂}
+use Rattle.blob_model.specs.Files.{all_logged}
+use Rattle.blob_model.specs.Log.{Entry}
+use Rattle.blob_model.specs.Rates.{Rate}
+use Rattle.blob_model.specs.declared.mode.PartialWriteMode.{PartialWriteMode}
+use Rattle.blob_draws.specs.Changes.{loose}
+use Rattle.blob_draws.specs.Faults.{retention}
+use Rattle.blob_draws.specs.declared.config.Config.{Config}
+use Rattle.blob_memory.specs.Store.{place}
+use Rattle.blob_faulty.specs.Keeps.{IsFor}
+use Rattle.blob_faulty.specs.Wrapper.{inside}
+use Rattle.blob_journal.specs.Journals.{store_of}
+use Rattle.blob_journal.specs.Writes.{entries_of_write as journal_entries}
+use Rattle.blob_fs.specs.Writes.{KeepsAsSet, entries_of_write, faults_of, rates_of}
 use Rattle.blob_fs.proofs.file_system.FileSystem.write.Goals as goal
 
 pub returns-in_err-begin_call-clause-fixed : goal.returns-in_err-begin_call-clause-fixed
@@ -94,30 +109,40 @@ invariant_of-self-2 g c =
 pub returns-in-Ok-clause-recorded : goal.returns-in-Ok-clause-recorded
 returns-in-Ok-clause-recorded g c = λ by_mode.
     let fs = c.args.self.now in
+    let begun = c.begin_call.new.self in
     let one = c.draw_write.new.self in
     let same = c.begin_call.ensures.files in
-    let drawn = c.draw_write.ensures.drawn.files in
+    let drawn = c.draw_write.ensures.drawn in
     let crashes = c.in_ok-begin_call.ensures.crashes in
     let inode = c.in_ok-inode.inode in
     let found : File = c.as_mut-found.result.now in
     let there = ap Some c.as_mut-found.ensures.value ∙ c.in-Some.ensures.value in
     let small : inode < 2 ^ 64 = omega arith in
     let how = c.in_ok-how.ensures.how (ap (λ (o : Options). o.failed_write) same.options ∙ by_mode) in
+    let offset = c.args.offset in
+    let bytes = c.args.bytes.now in
+    let set : KeepsAsSet begun = ap (λ (r : Config). retention r.write_rate) (c.in_ok-begin_call.ensures.rates ∙ sym (ap (λ (o : Options). o.faults) same.options)) in
+    let kept : retention (rates_of one).write_rate ≡ retention (faults_of fs).write_rate = c.in_ok-how.ensures.rates set ∙ ap (λ (o : Options). retention o.faults.write_rate) (drawn.files.options ∙ same.options) in
+    let entries : journal_entries (store_of one.store) offset bytes ≡ entries_of_write fs offset bytes =
+    ap₂ (λ (k : Option (PartialWriteMode × Rate)) (n : ℕ). loose k n offset bytes) kept (drawn.crashes.next_write ∙ crashes.next_write) in
     was_ok c.write_blob-written.result _ c.in-Ok.is c.write_blob-written.ensures.recorded (λ recorded.
     let written = recorded how in
     record {
       inode = inode;
       opened = ap (λ (m : BTreeMap ℕ ℕ). get nat_cmp m (descriptor_number c.args.file)) (sym same.opens) ∙ c.in_ok-inode.ensures;
       old = found;
-      there = ap (λ (m : BTreeMap ℕ File). get nat_cmp m inode) (sym (drawn.files ∙ same.files)) ∙ sym there;
-      entries = written.entries;
-      is = written.is;
+      there = ap (λ (m : BTreeMap ℕ File). get nat_cmp m inode) (sym (drawn.files.files ∙ same.files)) ∙ sym there;
+      logged = λ files for.
+          subst (λ (j : Journaled g.row.R.Denot). IsFor (store_of j) (all_logged files (place (inside found.blob.blob)) (entries_of_write fs offset bytes))) (sym c.count.ensures.store)
+          (subst (λ (l : List Entry). IsFor (store_of c.write_blob-written.new.store) (all_logged files (place (inside found.blob.blob)) l)) entries
+          (subst (λ (b : FileBlob). IsFor (store_of c.write_blob-written.new.store) (all_logged files (place (inside b.blob)) (journal_entries (store_of one.store) offset bytes))) c.reserve_shown.ensures.content.blob
+          (written.logged files (drawn.crashes.stands files (crashes.stands files for)))));
       left = λ kept.
           ap (λ (j : Journaled g.row.R.Denot). crashed_file j kept inode) c.count.ensures.store
           ∙ ∥∥₁_elim one.opened (Coded-set (coded_option (coded_list coded_ℕ)) _ _) (λ each.
           written.left inode kept
           (subst (λ (b : FileBlob). IsCurrent one.store inode b) (sym c.reserve_shown.ensures.content.blob) (each inode found small (sym there)).is.current))
-          ∙ ap (option_map (λ x. replay_log x written.entries (chosen_by (table_of kept)))) (c.draw_write.ensures.drawn.crashes.left inode kept ∙ crashes.left inode kept);
+          ∙ ap₂ (λ (l : List Entry) (x : Option (List ℕ)). option_map (λ y. replay_log y l (chosen_by (table_of kept))) x) entries (drawn.crashes.left inode kept ∙ crashes.left inode kept);
     })
 
 pub returns-in-Ok-clause-fixed : goal.returns-in-Ok-clause-fixed
@@ -153,3 +178,60 @@ returns-in-Err-clause-fixed g c =
     keeps_spared c.args.self.now one c.count.new.self c.args.file spares c.write_blob-written.new.store (c.get_mut.follows.lender new) c.in_ok-inode.inode was new opens (fixed_twice c.args.self.now c.begin_call.new.self one c.begin_call.ensures.fixed c.draw_write.ensures.drawn.fixed)
     c.count.ensures.number c.count.ensures.files.files c.count.ensures.store small there sets changes
     (λ at s. synced_kept at was new (c.end_write-now.ensures.content.synced ∙ c.reserve_shown.ensures.content.synced) (c.end_write-now.ensures.content.truncations ∙ c.reserve_shown.ensures.content.truncations)) one.opened
+
+pub returns-in_err-begin_call-clause-cuts : goal.returns-in_err-begin_call-clause-cuts
+returns-in_err-begin_call-clause-cuts g c = cuts_same c.args.self.now.files c.begin_call.new.self.files c.begin_call.ensures.files.files
+
+pub returns-in_err-inode-clause-cuts : goal.returns-in_err-inode-clause-cuts
+returns-in_err-inode-clause-cuts g c = cuts_same c.args.self.now.files c.begin_call.new.self.files c.begin_call.ensures.files.files
+
+pub returns-in_err-size-clause-cuts : goal.returns-in_err-size-clause-cuts
+returns-in_err-size-clause-cuts g c = cuts_same c.args.self.now.files c.begin_call.new.self.files c.begin_call.ensures.files.files
+
+pub returns-in_err-check_room-clause-cuts : goal.returns-in_err-check_room-clause-cuts
+returns-in_err-check_room-clause-cuts g c = cuts_same c.args.self.now.files c.begin_call.new.self.files c.begin_call.ensures.files.files
+
+pub returns-in_err-how-clause-cuts : goal.returns-in_err-how-clause-cuts
+returns-in_err-how-clause-cuts g c = cuts_same c.args.self.now.files c.draw_write.new.self.files (c.draw_write.ensures.drawn.files.files ∙ c.begin_call.ensures.files.files)
+
+pub returns-in_default-clause-cuts : goal.returns-in_default-clause-cuts
+returns-in_default-clause-cuts g c =
+    let one = c.draw_write.new.self in
+    cuts_from c.args.self.now.files one.files c.get_mut.follows.lender-at-none (c.draw_write.ensures.drawn.files.files ∙ c.begin_call.ensures.files.files)
+    (cuts_same one.files c.get_mut.follows.lender-at-none c.get_mut.follows.holds-at-none)
+
+pub returns-in_err-reserve_shown-clause-cuts : goal.returns-in_err-reserve_shown-clause-cuts
+returns-in_err-reserve_shown-clause-cuts g c =
+    let one = c.draw_write.new.self in
+    let was = c.as_mut-found.result.now in
+    let new : File = c.reserve_shown.new.self in
+    cuts_from c.args.self.now.files one.files (c.get_mut.follows.lender new) (c.draw_write.ensures.drawn.files.files ∙ c.begin_call.ensures.files.files)
+    (cuts_of one.files (c.get_mut.follows.lender new) (contents_through one.files (c.get_mut.follows.lender new) c.in_ok-inode.inode was new (ap Some c.as_mut-found.ensures.value ∙ c.in-Some.ensures.value) (c.get_mut.follows.holds new) c.reserve_shown.ensures.content))
+
+pub returns-in-Ok-clause-cuts : goal.returns-in-Ok-clause-cuts
+returns-in-Ok-clause-cuts g c =
+    let one = c.draw_write.new.self in
+    let was = c.as_mut-found.result.now in
+    let there = ap Some c.as_mut-found.ensures.value ∙ c.in-Some.ensures.value in
+    let new : File = c.end_write-now.new.self in
+    let sets = sets_through one.files (c.get_mut.follows.lender new) c.in_ok-inode.inode was new there (c.get_mut.follows.holds new) in
+    cuts_from c.args.self.now.files one.files c.count.new.self.files (c.draw_write.ensures.drawn.files.files ∙ c.begin_call.ensures.files.files)
+    (subst (λ (m : BTreeMap ℕ File). KeepsCutsOf one.files m) (sym c.count.ensures.files.files)
+    (cuts_set one.files (c.get_mut.follows.lender new) c.in_ok-inode.inode was new there sets (record {
+      synced = c.end_write-now.ensures.content.synced ∙ c.reserve_shown.ensures.content.synced;
+      truncations = c.end_write-now.ensures.content.truncations ∙ c.reserve_shown.ensures.content.truncations;
+    })))
+
+pub returns-in-Err-clause-cuts : goal.returns-in-Err-clause-cuts
+returns-in-Err-clause-cuts g c =
+    let one = c.draw_write.new.self in
+    let was = c.as_mut-found.result.now in
+    let there = ap Some c.as_mut-found.ensures.value ∙ c.in-Some.ensures.value in
+    let new : File = c.end_write-now.new.self in
+    let sets = sets_through one.files (c.get_mut.follows.lender new) c.in_ok-inode.inode was new there (c.get_mut.follows.holds new) in
+    cuts_from c.args.self.now.files one.files c.count.new.self.files (c.draw_write.ensures.drawn.files.files ∙ c.begin_call.ensures.files.files)
+    (subst (λ (m : BTreeMap ℕ File). KeepsCutsOf one.files m) (sym c.count.ensures.files.files)
+    (cuts_set one.files (c.get_mut.follows.lender new) c.in_ok-inode.inode was new there sets (record {
+      synced = c.end_write-now.ensures.content.synced ∙ c.reserve_shown.ensures.content.synced;
+      truncations = c.end_write-now.ensures.content.truncations ∙ c.reserve_shown.ensures.content.truncations;
+    })))

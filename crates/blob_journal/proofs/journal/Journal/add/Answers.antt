@@ -20,12 +20,27 @@ use Rattle.blob_journal.proofs.Records.{as_short, fit_more, longer}
 use Rattle.std.proofs.Common.{◌<◌, ◌≤◌, ◌-◌, ◌^◌, ap₂, arith, vec_len}
 use Rattle.std.proofs.lemmas.List.{length_push}
 use Rattle.blob_memory.specs.declared.storage.Storage as memory
+use Rattle.std.proofs.Common.{Option}
+use Rattle.blob_model.specs.Directory.{Directory}
+use Rattle.blob_model.specs.Files.{all_logged}
+use Rattle.blob_model.specs.Log.{Entry}
+use Rattle.blob_model.specs.Rates.{Rate}
+use Rattle.blob_model.specs.declared.mode.PartialWriteMode.{PartialWriteMode}
+use Rattle.blob_memory.specs.Store.{durable}
+use Rattle.blob_draws.specs.Answers.{allows_write}
+use Rattle.blob_draws.specs.Changes.{loose}
+use Rattle.blob_draws.specs.Faults.{retention}
+use Rattle.blob_directory.specs.Records.{record_of}
+use Rattle.blob_faulty.specs.Keeps.{IsFor}
+use Rattle.blob_faulty.specs.Wrapper.{Stands}
+use Rattle.blob_journal.specs.Draws.{entries_of_record, kept_whole}
+use Rattle.blob_journal.proofs.Writes.{recorded_loose}
 use Rattle.blob_journal.proofs.journal.Journal.add.Goals as goal
 
 pub returns-in_err-write_from-clause-refused : goal.returns-in_err-write_from-clause-refused
 returns-in_err-write_from-clause-refused g c =
     let mid = c.set_config.new.self in
-    let faults : DrawsWhole (config_of mid) = subst DrawsWhole (sym (ap (λ (s : OverMemory g.row.R.Denot). config_of s) c.set_config.ensures.set)) c.faults_of.ensures in
+    let faults : DrawsWhole (config_of mid) = subst DrawsWhole (sym (ap (λ (s : OverMemory g.row.R.Denot). config_of s) c.set_config.ensures.set)) c.faults_of.ensures.whole in
     let plain : is_sync c.default.result ≡ false = first_of (search rules, cc) in
     on_err c.from_residual-in_err-write_from.result _ (c.in_err-write_from.ensures.leaves.live_after refl
     ∙ ap (λ (s : Bool). live_of_write (config_of mid) (g.R.Rng.stream (rng_of mid)) s (live (inside c.args.self.now.blob)) c.args.self.now.end c.deref.result.now (Some (refusal_of c.in_err-write_from.field-0.0))) plain
@@ -40,7 +55,7 @@ returns-in_err-write_from-clause-same g c = on_err c.from_residual-in_err-write_
     let at : Place = place (inside c.args.self.now.blob) in
     let offset = c.args.self.now.end in
     let refusal = refusal_of c.in_err-write_from.field-0.0 in
-    let faults : DrawsWhole (config_of mid) = subst DrawsWhole (sym (ap (λ (s : OverMemory g.row.R.Denot). config_of s) c.set_config.ensures.set)) c.faults_of.ensures in
+    let faults : DrawsWhole (config_of mid) = subst DrawsWhole (sym (ap (λ (s : OverMemory g.row.R.Denot). config_of s) c.set_config.ensures.set)) c.faults_of.ensures.whole in
     let plain : is_sync c.default.result ≡ false = first_of (search rules, cc) in
     let bytes = c.deref.result.now in
     let es = recorded_write (config_of mid) (next_write_of mid) (g.R.Rng.stream (rng_of mid)) (is_sync c.default.result) offset bytes (Some refusal) in
@@ -66,7 +81,7 @@ returns-clause-left g c = λ rs h.
     let new = c.write_from.new.store in
     let w = c.in_ok-write_from.ensures in
     let at : Place = place (inside c.args.self.now.blob) in
-    let faults : DrawsWhole (config_of mid) = subst DrawsWhole (sym (ap (λ (s : OverMemory g.row.R.Denot). config_of s) c.set_config.ensures.set)) c.faults_of.ensures in
+    let faults : DrawsWhole (config_of mid) = subst DrawsWhole (sym (ap (λ (s : OverMemory g.row.R.Denot). config_of s) c.set_config.ensures.set)) c.faults_of.ensures.whole in
     let plain : is_sync c.default.result ≡ false = first_of (search rules, cc) in
     let bytes = c.deref.result.now in
     let n = c.args.self.now.records in
@@ -125,3 +140,29 @@ returns-clause-beside g c = λ given o test other k.
     let inner : inner_of mid ≡ inner_of store = ap (λ (s : OverMemory g.row.R.Denot). inner_of s) set in
     c.other_blobs.ensures.recorded mid c.write_from.new.store at o test es (subst (λ (s : memory.Storage). at.number < (directory s).next) (sym inner) given) other w.directory (w.leaves.recorded refl)
     (no_more_set store mid c.faults_of.result set o test k)
+
+pub returns-clause-logged : goal.returns-clause-logged
+returns-clause-logged g c = λ given files for.
+    let store = c.args.store.now in
+    let mid = c.set_config.new.self in
+    let set = c.set_config.ensures.set in
+    let new = c.write_from.new.store in
+    let w = c.in_ok-write_from.ensures in
+    let at : Place = place (inside c.args.self.now.blob) in
+    let plain : is_sync c.default.result ≡ false = first_of (search rules, cc) in
+    let bytes = c.deref.result.now in
+    let n = c.args.self.now.records in
+    let offset = c.args.self.now.end in
+    let stream = g.R.Rng.stream (rng_of mid) in
+    let edit = edit_of c.args.edit.now in
+    let same : bytes ≡ record_bytes n (record_of edit false) = c.deref.ensures.value ∙ c.in_ok-bytes.ensures in
+    let kept : retention (config_of mid).write_rate ≡ kept_whole c.args.rate = ap (λ (s : OverMemory g.row.R.Denot). retention (config_of s).write_rate) set ∙ c.faults_of.ensures.kept in
+    let next : next_write_of mid ≡ next_write_of store = ap (λ (s : OverMemory g.row.R.Denot). next_write_of s) set in
+    let inner : inner_of mid ≡ inner_of store = ap (λ (s : OverMemory g.row.R.Denot). inner_of s) set in
+    let is : recorded_write (config_of mid) (next_write_of mid) stream (is_sync c.default.result) offset bytes None ≡ entries_of_record c.args.rate edit (next_write_of store) n offset =
+    recorded_loose _ _ _ (config_of mid) (next_write_of mid) stream offset bytes (is_sync c.default.result) plain w.allowed
+    ∙ ap₂ (λ (k : Option (PartialWriteMode × Rate)) (m : ℕ). loose k m offset bytes) kept next
+    ∙ ap (loose (kept_whole c.args.rate) (next_write_of store) offset) same in
+    let more = w.leaves.done refl files (subst (λ (s : memory.Storage). at.number < (directory s).next) (sym inner) given) (c.set_config.ensures.files files for) in
+    subst (λ (es : List Entry). IsFor new (all_logged files at es)) is
+    (subst (λ (d : Directory). Stands (λ (o : Place). o) d (durable (inner_of new)) new (all_logged files at (recorded_write (config_of mid) (next_write_of mid) stream (is_sync c.default.result) offset bytes None))) (sym w.directory) more)

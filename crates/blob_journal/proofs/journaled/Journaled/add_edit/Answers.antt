@@ -21,6 +21,11 @@ use Rattle.blob_faulty.specs.Wrapper.{inside}
 use Rattle.blob_journal.proofs.Blobs.{journal_apart}
 use Rattle.blob_journal.proofs.Fixed.{current_given, incarnations_same, keeps_open}
 use Rattle.blob_journal.proofs.Numbers.{still_numbered}
+use Rattle.std.proofs.Common.{subst}
+use Rattle.blob_model.specs.Files.{all_logged}
+use Rattle.blob_faulty.specs.Keeps.{IsFor}
+use Rattle.blob_faulty.specs.Wrapper.{next_write_of}
+use Rattle.blob_journal.specs.Draws.{entries_of_record}
 use Rattle.blob_journal.proofs.journaled.Journaled.add_edit.Goals as goal
 
 pub invariant_of-self-in-Break-branch-2 : goal.invariant_of-self-in-Break-branch-2
@@ -89,3 +94,26 @@ returns-clause-noted g c =
       about = refl;
       number = refl;
     }
+
+pub returns-clause-logged : goal.returns-clause-logged
+returns-clause-logged g c = λ files for.
+    let self = c.args.self.now in
+    c.in_ok-record.ensures.logged (current_given self.store (place (inside self.journal.blob)) self.current) files for
+
+pub returns-clause-ends : goal.returns-clause-ends
+returns-clause-ends g c =
+    let self = c.args.self.now in
+    let new = c.add.new.store in
+    let edit : Edit = edit_of c.args.edit in
+    let at : Place = place (inside self.journal.blob) in
+    let write = next_write_of self.store in
+    let n = self.journal.records in
+    let offset = self.journal.end in
+    ∥∥₁_map self.kept (λ k. record {
+      files = k.has.found.files;
+      write = write;
+      number = n;
+      offset = offset;
+      stands = subst (λ (o : Place). IsFor new (all_logged k.has.found.files o (entries_of_record c.args.rate edit write n offset))) (sym c.add.ensures.place)
+          (c.in_ok-record.ensures.logged (current_given self.store at self.current) k.has.found.files k.has.found.stands);
+    })

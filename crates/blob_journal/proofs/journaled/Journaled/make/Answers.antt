@@ -1,4 +1,5 @@
 use Rattle.std.proofs.Common.{◌≡◌, ap, refl, subst, sym, ◌∙◌}
+use Rattle.std.proofs.Math.Logic.{∥∥₁_map}
 use Rattle.blob_directory.specs.declared.table.Table.{Table}
 use Rattle.blob_directory.specs.Names.{Edit, edit_of, edited}
 use Rattle.blob_directory.specs.Tables.{HasRoomFor, bound}
@@ -31,4 +32,8 @@ returns-clause-still g c = keeps_between _ _ _ _ refl refl c.add_edit.ensures.st
 pub returns-clause-noted : goal.returns-clause-noted
 returns-clause-noted g c =
     let noted = c.in_ok-add_edit.ensures.noted in
-    record { number = c.in_ok-add_edit.field-0; adds = record { last = noted.last; is = noted.is; edit = noted.edit; about = noted.about; number = noted.number } }
+    record {
+      number = c.in_ok-add_edit.field-0;
+      adds = record { last = noted.last; is = noted.is; edit = noted.edit; about = noted.about; number = noted.number };
+      ends = ∥∥₁_map c.in_ok-add_edit.ensures.ends (λ k. record { files = k.files; write = k.write; number = k.number; offset = k.offset; stands = k.stands });
+    }

@@ -47,7 +47,8 @@ returns-clause-crashes g c =
     let after = c.read_into.new.store in
     let r = c.read_into.ensures in
     record {
-      files = λ h. (h.0, r.leaves.files h.0 h.1);
+      stands = r.leaves.files;
+      next_write = r.leaves.unrecorded.numbers.next_write;
       same = λ inode file bytes is. record {
         current = record {
           number = is.current.number;

@@ -8,7 +8,7 @@ use Rattle.std.proofs.Common.{ap, refl}
 use Rattle.blob_model.specs.Places.{Place}
 use Rattle.blob_memory.specs.Store.{durable, place}
 use Rattle.blob_faulty.specs.Keeps.{OverMemory}
-use Rattle.blob_faulty.specs.Wrapper.{inner_of, inside}
+use Rattle.blob_faulty.specs.Wrapper.{inner_of, inside, next_write_of}
 use Rattle.blob_journal.specs.Currents.{pending_at}
 use Rattle.std.specs.Prelude.{codes}
 use Rattle.blob_model.specs.Draws.{chosen_by}
@@ -51,7 +51,8 @@ pub returns-clause-crashes : goal.returns-clause-crashes
 returns-clause-crashes g c =
     let set = c.set_config.ensures.set in
     record {
-      files = λ r. (r.0, c.set_config.ensures.files r.0 r.1);
+      stands = c.set_config.ensures.files;
+      next_write = ap (λ (s : OverMemory g.row.R.Denot). next_write_of s) set;
       same = λ inode file bytes is. record {
         current = record {
           number = is.current.number;

@@ -11,17 +11,19 @@ use Rattle.blob_model.specs.Draws.{chosen_by}
 use Rattle.blob_model.specs.Durable.{Durable}
 use Rattle.blob_model.specs.Log.{replay_log}
 use Rattle.blob_model.specs.Files.{all_logged}
-use Rattle.blob_faulty.specs.Wrapper.{Stands}
+use Rattle.blob_faulty.specs.Wrapper.{Adds, Stands}
 use Rattle.blob_memory.specs.Store.{durable}
 use Rattle.blob_draws.specs.Rows.{table_of}
 use Rattle.blob_journal.specs.Blobs.{file_name}
-use Rattle.blob_journal.specs.Writes.{IsWrite}
+use Rattle.blob_journal.specs.Writes.{entries_of_write}
+use Rattle.blob_draws.specs.Answers.{allows_write}
+use Rattle.blob_model.specs.Log.{Entry}
 use Rattle.blob_journal.proofs.Limits.{still_accepted}
 use Rattle.blob_journal.proofs.Blobs.{blob_same, by_ok}
 use Rattle.blob_model.specs.Live.{live_written}
 use Rattle.blob_draws.proofs.Sizes.{length-written}
 use Rattle.blob_faulty.specs.HandleLeaves.{size_written}
-use Rattle.blob_journal.proofs.Writes.{by_oks, crashed_by, crashed_in, is_write}
+use Rattle.blob_journal.proofs.Writes.{by_answer, by_oks, crashed_by, crashed_in, recorded_loose}
 use Rattle.blob_journal.proofs.Found.{other_blob, same_next, still_given, still_kept}
 use Rattle.std.proofs.Common.{◌<◌, List, ℕ, ap₂, arith, length, take}
 use Rattle.blob_memory.specs.Store.{live}
@@ -66,11 +68,13 @@ returns-clause-recorded g c =
     let number = next_write_of old in
     let stream = g.R.Rng.stream (rng_of old) in
     let plain : is_sync c.default-options.result ≡ false = first_of (search rules, cc) in
-    let es = recorded_write (config_of old) number stream (is_sync c.default-options.result) c.args.offset c.args.bytes.now None in
-    by_ok c.write_from.result w.plain w.leaves.done (λ durable_same adds. record {
-      entries = es;
-      is = subst (λ (s : Bool). IsWrite c.args.offset c.args.bytes.now (recorded_write (config_of old) number stream s c.args.offset c.args.bytes.now None)) (sym plain)
-          (is_write (config_of old) number stream c.args.offset c.args.bytes.now);
+    let es = entries_of_write old c.args.offset c.args.bytes.now in
+    by_answer c.write_from.result (allows_write _ _ _ (config_of old) number stream c.args.offset c.args.bytes.now (is_sync c.default-options.result)) w.allowed w.plain w.leaves.done (λ durable_same allowed adds.
+    let is : recorded_write (config_of old) number stream (is_sync c.default-options.result) c.args.offset c.args.bytes.now None ≡ es =
+    recorded_loose _ _ _ (config_of old) number stream c.args.offset c.args.bytes.now (is_sync c.default-options.result) plain allowed in
+    let adds : Adds (λ (o : Place). o) (directory (inner_of old)) (durable (inner_of old)) (durable (inner_of new)) old new at es = subst (λ (l : List Entry). Adds (λ (o : Place). o) (directory (inner_of old)) (durable (inner_of old)) (durable (inner_of new)) old new at l) is adds in
+    record {
+      logged = λ files for. subst (λ (d : Directory). Stands (λ (o : Place). o) d (durable (inner_of new)) new (all_logged files at es)) (sym w.directory) (adds files c.in_ok-check.ensures.given for);
       same = λ inode bytes is. record {
         current = record {
           number = is.current.number;
