@@ -1,3 +1,4 @@
+pub mod Below
 mod Drawing
 pub mod Calls
 pub mod Growing

@@ -4,6 +4,7 @@ pub mod PlaceMaps
 pub mod Files
 pub mod Truncations
 pub mod Boxed
+pub mod Below
 pub mod Bytes
 pub mod Open
 pub mod Named

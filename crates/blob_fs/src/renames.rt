@@ -1,5 +1,6 @@
 //! Renames, in one step.
 ghost use Rattle.std.specs.Prelude.{◌≡◌, ◌≢◌, MatchBool, None, OnOk, OnErr, Some};
+ghost use Rattle.blob_fs.specs.Below.{IsNotBelow};
 ghost use Rattle.blob_fs.specs.Calls.{Leaves, Renames, RenamesAt};
 ghost use Rattle.blob_fs.specs.Files.{AddsTold, GrowsTold, KeepsNames, KeepsOptions, KeepsTold, MakesEdit, SameFiles, SameNames, names_of};
 ghost use Rattle.blob_fs.specs.Fixed.{KeepsFixed};
@@ -31,19 +32,22 @@ fn is_same(a: Binding, b: Binding) -> bool
 
 impl<R: Rng + Drop> FileSystem<R> {
     /// Refuses to move a directory to a place below itself.
-    fn check_not_below(&self, inode: u64, directory: u64) -> Result<(), FsError> {
+    fn check_not_below(&self, inode: u64, directory: u64) -> Result<(), FsError>
+        ensures { OnOk result (IsNotBelow self.now inode directory) }
+    {
         let mut at = directory;
-        for _ in 0..=self.directories.len() {
+        // Each directory is met once, since none is below itself.
+        for _ in 0..self.directories.len() {
             if at == inode {
                 return Err(FsError::Loop);
             }
-            match self.directories.get(&at) {
-                None => return Ok(()),
-                Some(above) => at = *above,
+            let Some(above) = self.directories.get(&at) else {
+                return Ok(());
+            };
+            if *above == ROOT {
+                return Ok(());
             }
-            if at == ROOT {
-                break;
-            }
+            at = *above;
         }
         Ok(())
     }
