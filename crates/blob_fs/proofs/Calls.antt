@@ -32,6 +32,11 @@ pub always : {T E P : Type 0} (r : Result T E) → P → OnErr r P
 always (Ok x) p = tt
 always (Err e) p = p
 
+-- the same of three facts
+pub on_oks : {T E A B C D : Type 0} (r : Result T E) → OnOk r A → OnOk r B → OnOk r C → (A → B → C → D) → OnOk r D
+on_oks (Ok x) a b c f = f a b c
+on_oks (Err e) a b c f = tt
+
 pub always_ok : {T E P : Type 0} (r : Result T E) → P → OnOk r P
 always_ok (Ok x) p = p
 always_ok (Err e) p = tt
@@ -88,10 +93,10 @@ grows_resize inode fs fs' may = ⊎_elim (grows_kept (told_of fs) (told_of fs'))
 grows_truncate : {R : Type 0} (f : Descriptor) (fs fs' : FileSystem R) → MayTruncate f fs fs' → GrowsTold fs fs'
 grows_truncate f fs fs' may = ⊎_elim (grows_kept (told_of fs) (told_of fs')) (λ t. grows_added_one (resizes t.0) fs fs' t.2) may
 
-pub grows_renames : {R : Type 0} (how : rename.Rename) (old new : List ℕ) (fs fs' : FileSystem R) → Renames how old new fs fs' → GrowsTold fs fs'
-grows_renames how old new fs fs' (Unchanged to is at other left) = grows_leaves fs fs' left
-grows_renames how old new fs fs' (Moved differ other free m) = grows_makes (moves old new m.moved) fs fs' m.made
-grows_renames how old new fs fs' (Exchanged differ is m) = grows_makes (exchanges old new m.moved m.was) fs fs' m.made
+pub grows_renames : {R : Type 0} (how : rename.Rename) (from to : ℕ) (old new : List ℕ) (fs fs' : FileSystem R) → Renames how from to old new fs fs' → GrowsTold fs fs'
+grows_renames how from to old new fs fs' (Unchanged found is at other left) = grows_leaves fs fs' left
+grows_renames how from to old new fs fs' (Moved differ other free m) = grows_makes (moves old new m.moved) fs fs' m.made
+grows_renames how from to old new fs fs' (Exchanged differ is m) = grows_makes (exchanges old new m.moved m.was) fs fs' m.made
 
 pub grows_does : {R : Type 0} (call : NumberCall) (ok : Bool) (fs fs' : FileSystem R) → Does call ok fs fs' → GrowsTold fs fs'
 grows_does (Create d name) ok fs fs' m = grows_if ok (binds d name.now (file (fresh_inode fs))) fs fs' m
@@ -99,7 +104,7 @@ grows_does (MakeDirectory d name) ok fs fs' m = grows_if ok (binds d name.now (d
 grows_does (Link i d name) ok fs fs' m = grows_if ok (binds d name.now (file i)) fs fs' m
 grows_does (Unlink d name) ok fs fs' m = grows_if ok (frees d name.now) fs fs' m
 grows_does (RemoveDirectory d name) ok fs fs' m = grows_if ok (frees d name.now) fs fs' m
-grows_does (Rename from old to new how) true fs fs' m = grows_renames how (entry from old.now) (entry to new.now) fs fs' m
+grows_does (Rename from old to new how) true fs fs' m = grows_renames how from to (entry from old.now) (entry to new.now) fs fs' m
 grows_does (Rename from old to new how) false fs fs' m = grows_leaves fs fs' m
 grows_does (Open i) ok fs fs' m = grows_leaves fs fs' m
 grows_does (OpenTruncated i) ok fs fs' m = grows_resize i fs fs' m.1

@@ -4,14 +4,18 @@ use Rattle.std.specs.Prelude.{unwrap_or}
 use Rattle.std.proofs.lemmas.Bool.{false≢true}
 use Rattle.blob_directory.specs.declared.edit.Binding.{Binding}
 use Rattle.blob_directory.specs.declared.table.Table.{Table}
+use Rattle.blob_directory.specs.declared.unsettled.About.{About}
 use Rattle.blob_directory.specs.Names.{Edit, Same, edited, exchanges, moves}
 use Rattle.blob_directory.specs.Records.{Found}
 use Rattle.blob_directory.specs.Tables.{bound}
+use Rattle.blob_journal.specs.Settling.{KeepsUnsettled}
 use Rattle.blob_fs.specs.declared.file_system.FileSystem.{FileSystem}
 use Rattle.blob_fs.specs.declared.renames.Rename.{Rename}
 use Rattle.blob_fs.specs.declared.renames.Rename.TheVariants.{Exchange, NoReplace, Replace}
 use Rattle.blob_fs.specs.Calls.{Exchanged, Leaves, Makes, Moved, Renames, Unchanged}
-use Rattle.blob_fs.specs.Files.{AddsTold, KeepsNames, KeepsTold, MakesEdit, names_of, told_of}
+use Rattle.blob_fs.specs.declared.file_system.Options.{Options}
+use Rattle.blob_fs.specs.Files.{AddsTold, KeepsNames, KeepsOptions, KeepsTold, MakesEdit, NotesEdit, about_move, journaled_of, names_of, told_of}
+use Rattle.blob_fs.proofs.Noting.{noted_between}
 
 -- kinds of renames
 
@@ -54,29 +58,33 @@ taken_other o was to taken differ is = differ (ap (λ (x : Option Binding). unwr
 
 -- by what the steps of a rename made
 
-pub renames_moved : {R : Type 0} (how : Rename) (e f : List ℕ) (to : Binding) (fs fs' : FileSystem R) → names_of fs e ≡ Some to → names_of fs f ≢ Some to
-    → how ≢ Exchange → (how ≡ NoReplace → names_of fs f ≡ None) → AddsTold (moves e f to) fs fs' → MakesEdit (moves e f to) fs fs' → Renames how e f fs fs'
-renames_moved how e f to fs fs' is other moves_it free told made =
-    Moved (λ h. other (sym h ∙ is)) moves_it free (record { moved = to; bound = is; made = record { recorded = told; names = made } })
+pub renames_moved : {R : Type 0} (how : Rename) (a b : ℕ) (e f : List ℕ) (to : Binding) (fs fs' : FileSystem R) → names_of fs e ≡ Some to → names_of fs f ≢ Some to
+    → how ≢ Exchange → (how ≡ NoReplace → names_of fs f ≡ None) → AddsTold (moves e f to) fs fs' → MakesEdit (moves e f to) fs fs'
+    → NotesEdit (moves e f to) (about_move to.inode None a b) fs fs' → Renames how a b e f fs fs'
+renames_moved how a b e f to fs fs' is other moves_it free told made noted =
+    Moved (λ h. other (sym h ∙ is)) moves_it free (record { moved = to; bound = is; made = record { recorded = told; names = made }; noted = noted })
 
-pub renames_exchanged : {R : Type 0} (how : Rename) (e f : List ℕ) (to was : Binding) (fs fs' : FileSystem R) → names_of fs e ≡ Some to → names_of fs f ≡ Some was → was ≢ to
-    → how ≡ Exchange → AddsTold (exchanges e f to was) fs fs' → MakesEdit (exchanges e f to was) fs fs' → Renames how e f fs fs'
-renames_exchanged how e f to was fs fs' is there differ exchanges_it told made =
+pub renames_exchanged : {R : Type 0} (how : Rename) (a b : ℕ) (e f : List ℕ) (to was : Binding) (fs fs' : FileSystem R) → names_of fs e ≡ Some to → names_of fs f ≡ Some was → was ≢ to
+    → how ≡ Exchange → AddsTold (exchanges e f to was) fs fs' → MakesEdit (exchanges e f to was) fs fs'
+    → NotesEdit (exchanges e f to was) (about_move to.inode (Some was.inode) a b) fs fs' → Renames how a b e f fs fs'
+renames_exchanged how a b e f to was fs fs' is there differ exchanges_it told made noted =
     Exchanged (λ h. taken_other (names_of fs f) was to there differ (sym h ∙ is)) exchanges_it
-    (record { moved = to; bound = is; was = was; replaced = there; made = record { recorded = told; names = made } })
+    (record { moved = to; bound = is; was = was; replaced = there; made = record { recorded = told; names = made }; noted = noted })
 
 pub nothing : {R : Type 0} (fs : FileSystem R) → Leaves fs fs
 nothing fs = record { recorded = refl; names = λ e. refl }
 
-pub renames_same : {R : Type 0} (how : Rename) (e f : List ℕ) (to was : Binding) (fs : FileSystem R) → names_of fs e ≡ Some to → names_of fs f ≡ Some was → was ≡ to
-    → how ≢ NoReplace → Renames how e f fs fs
-renames_same how e f to was fs is there same replaces_it =
+pub renames_same : {R : Type 0} (how : Rename) (a b : ℕ) (e f : List ℕ) (to was : Binding) (fs : FileSystem R) → names_of fs e ≡ Some to → names_of fs f ≡ Some was → was ≡ to
+    → how ≢ NoReplace → Renames how a b e f fs fs
+renames_same how a b e f to was fs is there same replaces_it =
     Unchanged to is (there ∙ ap (λ (b : Binding). let o : Option Binding = Some b in o) same) replaces_it (nothing fs)
 
 -- after a call that changed nothing
 pub record Before {R : Type 0} (fs one : FileSystem R) : Type 0 where
   pub names : KeepsNames fs one
   pub told : KeepsTold fs one
+  pub unsettled : KeepsUnsettled (journaled_of fs) (journaled_of one)
+  pub options : KeepsOptions fs one
 
 entry_before : {R : Type 0} (fs one : FileSystem R) (e : List ℕ) → Before fs one → names_of fs e ≡ names_of one e
 entry_before fs one e b = ap (λ (t : Table). bound t e) (sym b.names)
@@ -90,13 +98,22 @@ makes_from edit fs one two b m = record {
   names = subst (λ (t : Table). Same (names_of two) (edited (bound t) edit)) b.names m.names;
 }
 
-pub renames_from : {R : Type 0} (how : Rename) (e f : List ℕ) (fs one two : FileSystem R) → Before fs one → Renames how e f one two → Renames how e f fs two
-renames_from how e f fs one two b (Unchanged to is there replaces_it left) =
+notes_from : {R : Type 0} (edit : Edit) (about : About) (fs one two : FileSystem R) → Before fs one → NotesEdit edit about one two → NotesEdit edit about fs two
+notes_from edit about fs one two b n =
+    noted_between (journaled_of fs) (journaled_of one) (journaled_of two) (journaled_of two) edit edit about about _ _ refl refl (ap (λ (o : Options). o.edit_rate) b.options) b.unsettled n refl
+
+pub renames_from : {R : Type 0} (how : Rename) (x y : ℕ) (e f : List ℕ) (fs one two : FileSystem R) → Before fs one → Renames how x y e f one two → Renames how x y e f fs two
+renames_from how x y e f fs one two b (Unchanged to is there replaces_it left) =
     Unchanged to (entry_before fs one e b ∙ is) (entry_before fs one f b ∙ there) replaces_it (leaves_from fs one two b left)
-renames_from how e f fs one two b (Moved differ moves_it free m) =
+renames_from how x y e f fs one two b (Moved differ moves_it free m) =
     Moved (λ h. differ (sym (entry_before fs one e b) ∙ h ∙ entry_before fs one f b)) moves_it (λ n. entry_before fs one f b ∙ free n)
-    (record { moved = m.moved; bound = entry_before fs one e b ∙ m.bound; made = makes_from (moves e f m.moved) fs one two b m.made })
-renames_from how e f fs one two b (Exchanged differ exchanges_it m) =
+    (record {
+      moved = m.moved;
+      bound = entry_before fs one e b ∙ m.bound;
+      made = makes_from (moves e f m.moved) fs one two b m.made;
+      noted = notes_from (moves e f m.moved) (about_move m.moved.inode None x y) fs one two b m.noted;
+    })
+renames_from how x y e f fs one two b (Exchanged differ exchanges_it m) =
     Exchanged (λ h. differ (sym (entry_before fs one e b) ∙ h ∙ entry_before fs one f b)) exchanges_it
     (record {
       moved = m.moved;
@@ -104,7 +121,8 @@ renames_from how e f fs one two b (Exchanged differ exchanges_it m) =
       was = m.was;
       replaced = entry_before fs one f b ∙ m.replaced;
       made = makes_from (exchanges e f m.moved m.was) fs one two b m.made;
+      noted = notes_from (exchanges e f m.moved m.was) (about_move m.moved.inode (Some m.was.inode) x y) fs one two b m.noted;
     })
 
-pub renames_at : {R : Type 0} (how : Rename) (e e' f f' : List ℕ) (fs fs' : FileSystem R) → e ≡ e' → f ≡ f' → Renames how e f fs fs' → Renames how e' f' fs fs'
-renames_at how e e' f f' fs fs' old new r = subst (λ (l : List ℕ). Renames how l f' fs fs') old (subst (λ (l : List ℕ). Renames how e l fs fs') new r)
+pub renames_at : {R : Type 0} (how : Rename) (x y : ℕ) (e e' f f' : List ℕ) (fs fs' : FileSystem R) → e ≡ e' → f ≡ f' → Renames how x y e f fs fs' → Renames how x y e' f' fs fs'
+renames_at how x y e e' f f' fs fs' old new r = subst (λ (l : List ℕ). Renames how x y l f' fs fs') old (subst (λ (l : List ℕ). Renames how x y e l fs fs') new r)

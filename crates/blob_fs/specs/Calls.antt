@@ -16,7 +16,7 @@ use Rattle.blob_fs.specs.Bytes.{FindsBytes, FindsKnown}
 use Rattle.blob_fs.specs.Fixed.{FindsFixed, FixesFound, KeepsUnreached}
 use Rattle.blob_fs.specs.Places.{FindsPlaces}
 use Rattle.blob_fs.specs.Writes.{RecordsWrite, failed_write_of}
-use Rattle.blob_fs.specs.Files.{AddsTold, FindsKept, FindsTold, GrowsTold, KeepsNames, KeepsTold, MakesEdit, MayResize, MayTruncate, SameNames, SettlesSome, SyncsAll, SyncsDirectory, SyncsFile, fresh_inode, names_of, syncs_of}
+use Rattle.blob_fs.specs.Files.{AddsTold, FindsKept, FindsTold, GrowsTold, KeepsNames, KeepsTold, MakesEdit, MayResize, MayTruncate, NotesEdit, SameNames, about_move, SettlesSome, SyncsAll, SyncsDirectory, SyncsFile, fresh_inode, names_of, syncs_of}
 
 -- one more edit is recorded, which nothing has settled, and the names have it
 pub record Makes {R : Type 0} (edit : Edit) (fs fs' : FileSystem R) : Type 0 where
@@ -28,29 +28,31 @@ pub record Leaves {R : Type 0} (fs fs' : FileSystem R) : Type 0 where
   pub recorded : KeepsTold fs fs'
   pub names : SameNames fs fs'
 
--- the edit that moves what the first entry is bound to
-pub record Moves {R : Type 0} (old new : List ℕ) (fs fs' : FileSystem R) : Type 0 where
+-- the edit that moves what the first entry is bound to, from one directory to another
+pub record Moves {R : Type 0} (from to : ℕ) (old new : List ℕ) (fs fs' : FileSystem R) : Type 0 where
   pub moved : Binding
   pub bound : names_of fs old ≡ Some moved
   pub made : Makes (moves old new moved) fs fs'
+  pub noted : NotesEdit (moves old new moved) (about_move moved.inode None from to) fs fs'
 
 -- the edit that exchanges what two entries are bound to
-pub record Exchanges {R : Type 0} (old new : List ℕ) (fs fs' : FileSystem R) : Type 0 where
+pub record Exchanges {R : Type 0} (from to : ℕ) (old new : List ℕ) (fs fs' : FileSystem R) : Type 0 where
   pub moved : Binding
   pub bound : names_of fs old ≡ Some moved
   pub was : Binding
   pub replaced : names_of fs new ≡ Some was
   pub made : Makes (exchanges old new moved was) fs fs'
+  pub noted : NotesEdit (exchanges old new moved was) (about_move moved.inode (Some was.inode) from to) fs fs'
 
 -- A rename that returned Ok: nothing if both entries are bound to the same, else a move or an exchange.
-pub data Renames {R : Type 0} (how : Rename) (old new : List ℕ) (fs fs' : FileSystem R) : Type 0 where
-  Unchanged : (to : Binding) → names_of fs old ≡ Some to → names_of fs new ≡ Some to → how ≢ NoReplace → Leaves fs fs' → Renames how old new fs fs'
-  Moved : names_of fs old ≢ names_of fs new → how ≢ Exchange → (how ≡ NoReplace → names_of fs new ≡ None) → Moves old new fs fs' → Renames how old new fs fs'
-  Exchanged : names_of fs old ≢ names_of fs new → how ≡ Exchange → Exchanges old new fs fs' → Renames how old new fs fs'
+pub data Renames {R : Type 0} (how : Rename) (from to : ℕ) (old new : List ℕ) (fs fs' : FileSystem R) : Type 0 where
+  Unchanged : (found : Binding) → names_of fs old ≡ Some found → names_of fs new ≡ Some found → how ≢ NoReplace → Leaves fs fs' → Renames how from to old new fs fs'
+  Moved : names_of fs old ≢ names_of fs new → how ≢ Exchange → (how ≡ NoReplace → names_of fs new ≡ None) → Moves from to old new fs fs' → Renames how from to old new fs fs'
+  Exchanged : names_of fs old ≢ names_of fs new → how ≡ Exchange → Exchanges from to old new fs fs' → Renames how from to old new fs fs'
 
 -- the same by the names in their directories
 abbrev pub RenamesAt : {R : Type 0} → Rename → ℕ → List ℕ → ℕ → List ℕ → FileSystem R → FileSystem R → Type 0
-RenamesAt how from old to new fs fs' = Renames how (entry from old) (entry to new) fs fs'
+RenamesAt how from old to new fs fs' = Renames how from to (entry from old) (entry to new) fs fs'
 
 -- what holds after a call that returned Ok, and after one that returned an error
 abbrev pub ByResult : Bool → Type 0 → Type 0 → Type 0

@@ -132,6 +132,10 @@ pub record SameFiles {R : Type 0} (fs fs' : FileSystem R) : Type 0 where
   pub opens : fs'.opens ≡ fs.opens
   pub options : fs'.options ≡ fs.options
 
+-- each directory is in the directory that it was in
+abbrev pub SameDirectories : {R : Type 0} → FileSystem R → FileSystem R → Type 0
+SameDirectories fs fs' = fs'.directories ≡ fs.directories
+
 -- the same descriptors are open
 abbrev pub SameOpens : {R : Type 0} → FileSystem R → FileSystem R → Type 0
 SameOpens fs fs' = fs'.opens ≡ fs.opens
@@ -186,6 +190,10 @@ LogsEdit edit fs fs' = records_edit edit (options_of fs).edit_rate (journaled_of
 -- what an edit of a name of an inode in a directory is about
 abbrev pub about_name : ℕ → ℕ → About
 about_name inode directory = record { inode = inode; other = None; directory = directory; other_directory = None }
+
+-- what an edit that moves a name is about; an exchange moves another inode too
+abbrev pub about_move : ℕ → Option ℕ → ℕ → ℕ → About
+about_move inode other from to = record { inode = inode; other = other; directory = from; other_directory = Some to }
 
 -- the inode that a name is bound to; 0 if there is none
 abbrev pub inode_named : {R : Type 0} → FileSystem R → ℕ → List ℕ → ℕ

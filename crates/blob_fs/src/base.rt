@@ -1,6 +1,6 @@
 //! What the calls share: their start, and an edit.
 ghost use Rattle.std.specs.Prelude.{◌≡◌, [], None, Some, OnOk, OnErr, IfOk, option_copied};
-ghost use Rattle.blob_fs.specs.Files.{AddsTold, LogsEdit, KeepsJournal, KeepsNames, KeepsOptions, KeepsTold, MakesEdit, NotesEdit, SameFiles, SameNames, file_of, fresh_inode, journaled_of, kind_in, names_of, options_of, told_of};
+ghost use Rattle.blob_fs.specs.Files.{AddsTold, LogsEdit, KeepsJournal, KeepsNames, KeepsOptions, KeepsTold, MakesEdit, NotesEdit, SameDirectories, SameFiles, SameNames, file_of, fresh_inode, journaled_of, kind_in, names_of, options_of, told_of};
 ghost use Rattle.blob_fs.specs.Fixed.{KeepsFixed};
 ghost use Rattle.blob_fs.specs.Named.{AllNamed};
 ghost use Rattle.blob_fs.specs.Writes.{faults_of, rates_of};
@@ -97,6 +97,7 @@ impl<R: Rng + Drop> FileSystem<R> {
         ensures fixed { KeepsFixed self.old self.new }
         ensures options { KeepsOptions self.old self.new }
         ensures rates { OnOk result (rates_of self.new ≡ faults_of self.old) }
+        ensures directories { SameDirectories self.old self.new }
     {
         if self.is_down {
             return Err(FsError::Crashed);

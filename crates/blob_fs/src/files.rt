@@ -8,6 +8,7 @@ ghost use Rattle.blob_fs.specs.Named.{links_of};
 ghost use Rattle.blob_fs.specs.Open.{SameContent};
 ghost use Rattle.blob_fs.specs.Tracked.{freed_of};
 ghost use Rattle.blob_journal.specs.Fixed.{IsBeside};
+ghost use Rattle.blob_journal.specs.Settling.{KeepsUnsettled};
 ghost use Rattle.blob_fs.specs.Files.{KeepsNames, KeepsOptions, KeepsTold, MayResize, SameFiles, SameLinks, SameOpens, fresh_inode, inode_opened, journaled_of};
 
 use crate::error::FsError;
@@ -213,6 +214,7 @@ impl<R: Rng + Drop> FileSystem<R> {
     /// Makes a file's bytes durable, if the profile flushes. Draws nothing.
     pub(crate) fn flush_by_profile(&mut self, inode: u64) -> Result<(), FsError>
         ensures names { KeepsNames self.old self.new }
+        ensures unsettled { KeepsUnsettled (journaled_of self.old) (journaled_of self.new) }
         ensures told { KeepsTold self.old self.new }
         ensures fixed { KeepsFixed self.old self.new }
         ensures options { KeepsOptions self.old self.new }
@@ -226,6 +228,7 @@ impl<R: Rng + Drop> FileSystem<R> {
     /// Makes a file's bytes durable, and draws nothing.
     fn flush(&mut self, inode: u64) -> Result<(), FsError>
         ensures names { KeepsNames self.old self.new }
+        ensures unsettled { KeepsUnsettled (journaled_of self.old) (journaled_of self.new) }
         ensures told { KeepsTold self.old self.new }
         ensures fixed { KeepsFixed self.old self.new }
         ensures options { KeepsOptions self.old self.new }

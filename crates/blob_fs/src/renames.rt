@@ -1,9 +1,10 @@
 //! Renames, in one step.
 ghost use Rattle.std.specs.Prelude.{◌≡◌, ◌≢◌, MatchBool, None, OnOk, OnErr, Some};
-ghost use Rattle.blob_fs.specs.Below.{IsNotBelow};
+ghost use Rattle.blob_fs.specs.Below.{IsNotBelow, StaysApart};
 ghost use Rattle.blob_fs.specs.Calls.{Leaves, Renames, RenamesAt};
-ghost use Rattle.blob_fs.specs.Files.{AddsTold, GrowsTold, KeepsNames, KeepsOptions, KeepsTold, MakesEdit, SameFiles, SameNames, names_of};
+ghost use Rattle.blob_fs.specs.Files.{AddsTold, GrowsTold, KeepsNames, KeepsOptions, KeepsTold, MakesEdit, NotesEdit, SameFiles, SameNames, about_move, journaled_of, names_of};
 ghost use Rattle.blob_fs.specs.Fixed.{KeepsFixed};
+ghost use Rattle.blob_directory.specs.declared.edit.Kind.TheVariants.{Directory};
 ghost use Rattle.blob_directory.specs.Names.{exchanges, moves};
 
 use crate::error::FsError;
@@ -52,6 +53,16 @@ impl<R: Rng + Drop> FileSystem<R> {
         Ok(())
     }
 
+    /// Refuses to move a directory into a directory below it.
+    fn check_move(&self, moved: Binding, directory: u64) -> Result<(), FsError>
+        ensures { OnOk result (moved.kind ≡ Directory → IsNotBelow self.now moved.inode directory) }
+    {
+        match moved.kind {
+            Kind::File => Ok(()),
+            Kind::Directory => self.check_not_below(moved.inode, directory),
+        }
+    }
+
     /// Refuses a replacement that isn't of a file by a file or of an empty directory by a directory.
     fn check_replaces(&self, was: Binding, by: Binding) -> Result<(), FsError> {
         match (was.kind, by.kind) {
@@ -85,6 +96,7 @@ impl<R: Rng + Drop> FileSystem<R> {
         how: Rename,
     ) -> Result<(), FsError>
         ensures renamed { OnOk result (RenamesAt how from.entry.0 from.entry.1.now to.entry.0 to.entry.1.now self.old self.new) }
+        ensures apart { OnOk result (StaysApart self.old from.entry.0 from.entry.1.now to.entry.0) }
         ensures refused { OnErr result (SameNames self.old self.new) }
         ensures grows { GrowsTold self.old self.new }
         ensures untold { OnErr result (KeepsTold self.old self.new) }
@@ -95,9 +107,7 @@ impl<R: Rng + Drop> FileSystem<R> {
         let old = self.entry_in(from.0, from.1)?;
         let new = self.entry_in(to.0, to.1)?;
         let moved = self.binding_of(&old)?;
-        if moved.kind == Kind::Directory {
-            self.check_not_below(moved.inode, to.0)?;
-        }
+        self.check_move(moved, to.0)?;
         let there = self.store.names().get(&new);
         match there {
             None => self.rename_free((old, from.0), (new, to.0), moved, how),
@@ -115,7 +125,7 @@ impl<R: Rng + Drop> FileSystem<R> {
     ) -> Result<(), FsError>
         requires bound { names_of self.old from.0.items ≡ Some moved }
         requires free { names_of self.old to.0.items ≡ None }
-        ensures renamed { OnOk result (Renames how from.0.items to.0.items self.old self.new) }
+        ensures renamed { OnOk result (Renames how from.1 to.1 from.0.items to.0.items self.old self.new) }
         ensures refused { OnErr result (Leaves self.old self.new) }
         ensures fixed { KeepsFixed self.old self.new }
         ensures options { KeepsOptions self.old self.new }
@@ -137,7 +147,7 @@ impl<R: Rng + Drop> FileSystem<R> {
     ) -> Result<(), FsError>
         requires bound { names_of self.old from.0.items ≡ Some bound.0 }
         requires taken { names_of self.old to.0.items ≡ Some bound.1 }
-        ensures renamed { OnOk result (Renames how from.0.items to.0.items self.old self.new) }
+        ensures renamed { OnOk result (Renames how from.1 to.1 from.0.items to.0.items self.old self.new) }
         ensures refused { OnErr result (Leaves self.old self.new) }
         ensures fixed { KeepsFixed self.old self.new }
         ensures options { KeepsOptions self.old self.new }
@@ -167,6 +177,7 @@ impl<R: Rng + Drop> FileSystem<R> {
         ensures told { KeepsTold self.old self.new }
         ensures fixed { KeepsFixed self.old self.new }
         ensures options { KeepsOptions self.old self.new }
+        ensures store { journaled_of self.new ≡ journaled_of self.old }
     {
         if let Some(above) = self.directories.get_mut(&binding.inode) {
             *above = directory;
@@ -187,6 +198,7 @@ impl<R: Rng + Drop> FileSystem<R> {
         ensures files { SameFiles self.old self.new }
         ensures fixed { KeepsFixed self.old self.new }
         ensures options { KeepsOptions self.old self.new }
+        ensures noted { OnOk result (NotesEdit (moves from.0.items to.0.items moved) (about_move moved.inode None from.1 to.1) self.old self.new) }
     {
         let about = About {
             inode: moved.inode,
@@ -215,6 +227,7 @@ impl<R: Rng + Drop> FileSystem<R> {
         ensures untold { OnErr result (KeepsTold self.old self.new) }
         ensures fixed { KeepsFixed self.old self.new }
         ensures options { KeepsOptions self.old self.new }
+        ensures noted { OnOk result (NotesEdit (moves from.0.items to.0.items moved) (about_move moved.inode None from.1 to.1) self.old self.new) }
     {
         self.check_replaces(was, moved)?;
         self.flush_by_profile(moved.inode)?;
@@ -244,10 +257,10 @@ impl<R: Rng + Drop> FileSystem<R> {
         ensures untold { OnErr result (KeepsTold self.old self.new) }
         ensures fixed { KeepsFixed self.old self.new }
         ensures options { KeepsOptions self.old self.new }
+        ensures apart { OnOk result (was.kind ≡ Directory → IsNotBelow self.old was.inode from.1) }
+        ensures noted { OnOk result (NotesEdit (exchanges from.0.items to.0.items moved was) (about_move moved.inode (Some was.inode) from.1 to.1) self.old self.new) }
     {
-        if was.kind == Kind::Directory {
-            self.check_not_below(was.inode, from.1)?;
-        }
+        self.check_move(was, from.1)?;
         let about = About {
             inode: moved.inode,
             other: Some(was.inode),

@@ -1,5 +1,7 @@
 use Rattle.blob_fs.specs.Files.{names_of}
 use Rattle.blob_fs.proofs.Named.{edit_is, moved_on}
+use Rattle.std.proofs.Common.{refl}
+use Rattle.blob_fs.proofs.Noting.{noted_between}
 use Rattle.blob_fs.proofs.file_system.FileSystem.move_name.Goals as goal
 
 pub returns-clause-fixed : goal.returns-clause-fixed
@@ -11,3 +13,8 @@ make-requires g c =
     record {
       fits = moved_on (names_of fs) _ fs.files _ _ c.args.moved c.requires.bound (edit_is (names_of fs) _ _ c.moving.ensures) fs.named;
     }
+
+pub returns-clause-noted : goal.returns-clause-noted
+returns-clause-noted g c =
+    noted_between c.args.self.now.store c.args.self.now.store c.make.new.self.store c.place.new.self.store _ _ _ _ _ _
+    c.moving.ensures refl refl refl c.in_ok-make.ensures.noted c.place.ensures.store

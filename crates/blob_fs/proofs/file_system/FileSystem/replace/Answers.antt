@@ -14,6 +14,10 @@ use Rattle.blob_fs.proofs.Named.{one_replaced}
 use Rattle.blob_fs.specs.declared.file_system.FileSystem.{FileSystem}
 use Rattle.blob_fs.specs.Fixed.{IsFixed}
 use Rattle.blob_fs.proofs.file_system.FileSystem.replace.Goals.{in-File, in-Directory}
+use Rattle.std.proofs.Common.{refl}
+use Rattle.blob_fs.specs.declared.file_system.Options.{Options}
+use Rattle.blob_fs.specs.Files.{journaled_of}
+use Rattle.blob_fs.proofs.Noting.{noted_between}
 use Rattle.blob_fs.proofs.file_system.FileSystem.replace.Goals as goal
 
 pub returns-in_err-move_name-clause-fixed : goal.returns-in_err-move_name-clause-fixed
@@ -44,3 +48,12 @@ drop_link-requires g c =
       fewer = subst (λ (m : BTreeMap ℕ fs_file.File). ∥ NamedAtMost (names_of three) was.inode (pred (links_in (get nat_cmp m was.inode))) ∥₁) (sym c.move_name.ensures.files.files)
           (one_replaced (names_of two) (names_of three) two.files c.args.from.0.items c.args.to.0.items c.args.moved was.inode taken (λ e. c.requires.differ (is ∙ e)) c.in_ok-move_name.ensures.made two.named);
     }
+
+pub returns-clause-noted : goal.returns-clause-noted
+returns-clause-noted g c =
+    noted_between c.args.self.now.store c.flush_by_profile.new.self.store c.move_name.new.self.store _ _ _ _ _ _ _
+    refl refl (ap (λ (o : Options). o.edit_rate) c.flush_by_profile.ensures.options) c.flush_by_profile.ensures.unsettled c.in_ok-move_name.ensures.noted
+    (elim c.match-was.branch [
+      | in-File w ↦ ap (λ (fs : FileSystem g.row.R.Denot). journaled_of fs) w.self-is ∙ w.drop_link.ensures.store
+      | in-Directory w ↦ ap (λ (fs : FileSystem g.row.R.Denot). journaled_of fs) w.self-is
+    ])
