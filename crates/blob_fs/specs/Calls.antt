@@ -16,7 +16,7 @@ use Rattle.blob_fs.specs.Bytes.{FindsBytes, FindsKnown}
 use Rattle.blob_fs.specs.Fixed.{FindsFixed, FixesFound, KeepsUnreached}
 use Rattle.blob_fs.specs.Places.{FindsPlaces}
 use Rattle.blob_fs.specs.Writes.{RecordsWrite, failed_write_of}
-use Rattle.blob_fs.specs.Files.{AddsTold, FindsKept, FindsTold, GrowsTold, KeepsNames, KeepsTold, MakesEdit, MayResize, MayTruncate, NotesEdit, SameNames, about_move, SettlesSome, SyncsAll, SyncsDirectory, SyncsFile, fresh_inode, names_of, syncs_of}
+use Rattle.blob_fs.specs.Files.{AddsTold, FindsKept, FindsTold, GrowsTold, KeepsNames, KeepsTold, MakesEdit, MayResize, MayTruncate, NotesExchange, NotesMove, SameNames, SettlesSome, SyncsAll, SyncsDirectory, SyncsFile, fresh_inode, names_of, syncs_of}
 
 -- one more edit is recorded, which nothing has settled, and the names have it
 pub record Makes {R : Type 0} (edit : Edit) (fs fs' : FileSystem R) : Type 0 where
@@ -33,7 +33,7 @@ pub record Moves {R : Type 0} (from to : ℕ) (old new : List ℕ) (fs fs' : Fil
   pub moved : Binding
   pub bound : names_of fs old ≡ Some moved
   pub made : Makes (moves old new moved) fs fs'
-  pub noted : NotesEdit (moves old new moved) (about_move moved.inode None from to) fs fs'
+  pub noted : NotesMove from to old new moved fs fs'
 
 -- the edit that exchanges what two entries are bound to
 pub record Exchanges {R : Type 0} (from to : ℕ) (old new : List ℕ) (fs fs' : FileSystem R) : Type 0 where
@@ -42,7 +42,7 @@ pub record Exchanges {R : Type 0} (from to : ℕ) (old new : List ℕ) (fs fs' :
   pub was : Binding
   pub replaced : names_of fs new ≡ Some was
   pub made : Makes (exchanges old new moved was) fs fs'
-  pub noted : NotesEdit (exchanges old new moved was) (about_move moved.inode (Some was.inode) from to) fs fs'
+  pub noted : NotesExchange from to old new moved was fs fs'
 
 -- A rename that returned Ok: nothing if both entries are bound to the same, else a move or an exchange.
 pub data Renames {R : Type 0} (how : Rename) (from to : ℕ) (old new : List ℕ) (fs fs' : FileSystem R) : Type 0 where

@@ -14,11 +14,12 @@ use Rattle.blob_directory.specs.declared.unsettled.About.{About}
 use Rattle.blob_directory.specs.declared.unsettled.Synced.{Synced}
 use Rattle.blob_directory.specs.declared.unsettled.Synced.TheVariants as synced
 use Rattle.blob_directory.specs.declared.profile.Keeps.{Keeps}
+use Rattle.blob_directory.specs.declared.edit.Binding.{Binding}
 use Rattle.blob_directory.specs.declared.edit.Kind.{Kind}
 use Rattle.blob_directory.specs.declared.edit.Kind.TheVariants.{Directory}
 use Rattle.blob_directory.specs.declared.edit.Kind.TheVariants as kinds
 use Rattle.blob_directory.specs.declared.table.Table.{Table}
-use Rattle.blob_directory.specs.Names.{Edit, Names, Same, edited, entry, resizes}
+use Rattle.blob_directory.specs.Names.{Edit, Names, Same, binds, edited, entry, exchanges, frees, moves, resizes}
 use Rattle.blob_directory.specs.Records.{Found}
 use Rattle.blob_directory.specs.Tables.{bound}
 use Rattle.blob_directory.specs.Trees.{Finds}
@@ -202,6 +203,20 @@ inode_named fs directory name = unwrap_or (option_map (λ to. to.inode) (names_o
 -- the same of the inode that the name is bound to
 abbrev pub about_named : {R : Type 0} → FileSystem R → ℕ → List ℕ → About
 about_named fs directory name = about_name (inode_named fs directory name) directory
+
+-- An edit of a name, as it is noted: it binds the name, frees it, or moves it or exchanges it with another one.
+
+abbrev pub NotesBinding : {R : Type 0} → ℕ → List ℕ → Binding → FileSystem R → FileSystem R → Type 0
+NotesBinding directory name to = NotesEdit (binds directory name to) (about_name to.inode directory)
+
+abbrev pub NotesFreeing : {R : Type 0} → ℕ → List ℕ → FileSystem R → FileSystem R → Type 0
+NotesFreeing directory name fs = NotesEdit (frees directory name) (about_named fs directory name) fs
+
+abbrev pub NotesMove : {R : Type 0} → ℕ → ℕ → List ℕ → List ℕ → Binding → FileSystem R → FileSystem R → Type 0
+NotesMove from to old new moved = NotesEdit (moves old new moved) (about_move moved.inode None from to)
+
+abbrev pub NotesExchange : {R : Type 0} → ℕ → ℕ → List ℕ → List ℕ → Binding → Binding → FileSystem R → FileSystem R → Type 0
+NotesExchange from to old new moved was = NotesEdit (exchanges old new moved was) (about_move moved.inode (Some was.inode) from to)
 
 -- edits may have been told, and some settled; no edit has changed, and none is unsettled again
 abbrev pub GrowsTold : {R : Type 0} → FileSystem R → FileSystem R → Type 0

@@ -1,6 +1,6 @@
 //! Names by directory: files are created, linked and unlinked, directories are made, removed and listed.
 ghost use Rattle.std.specs.Prelude.{◌≡◌, ◌∷◌, [], None, Some, OnOk, OnErr, IfOk, IsSome, pred};
-ghost use Rattle.blob_fs.specs.Files.{AddsTold, KeepsNames, KeepsOptions, KeepsTold, MakesEdit, NotesEdit, SameNames, about_name, about_named, file_of, fresh_inode, inode_opened, journaled_of, names_of, told_of};
+ghost use Rattle.blob_fs.specs.Files.{AddsTold, KeepsNames, KeepsOptions, KeepsTold, MakesEdit, NotesBinding, NotesFreeing, SameNames, about_name, file_of, fresh_inode, inode_opened, journaled_of, names_of, told_of};
 ghost use Rattle.blob_fs.specs.Bytes.{file_in};
 ghost use Rattle.blob_fs.specs.Fixed.{KeepsFixed, KeepsFixedBut};
 ghost use Rattle.blob_fs.specs.Named.{links_in};
@@ -75,7 +75,7 @@ impl<R: Rng + Drop> FileSystem<R> {
         ensures untold { OnErr result (KeepsTold self.old self.new) }
         ensures fixed { KeepsFixed self.old self.new }
         ensures options { KeepsOptions self.old self.new }
-        ensures noted { OnOk result (NotesEdit (binds directory name.now (file (fresh_inode self.old))) (about_name (fresh_inode self.old) directory) self.old self.new) }
+        ensures noted { OnOk result (NotesBinding directory name.now (file (fresh_inode self.old)) self.old self.new) }
     {
         let inode = self.next_inode;
         self.begin_call()?;
@@ -149,7 +149,7 @@ impl<R: Rng + Drop> FileSystem<R> {
         ensures untold { OnErr result (KeepsTold self.old self.new) }
         ensures fixed { KeepsFixed self.old self.new }
         ensures options { KeepsOptions self.old self.new }
-        ensures noted { IfOk result (λ d. NotesEdit (binds directory name.now (directory_at d)) (about_name d directory) self.old self.new) }
+        ensures noted { IfOk result (λ d. NotesBinding directory name.now (directory_at d) self.old self.new) }
     {
         let inode = self.next_inode;
         self.begin_call()?;
@@ -181,7 +181,7 @@ impl<R: Rng + Drop> FileSystem<R> {
         ensures untold { OnErr result (KeepsTold self.old self.new) }
         ensures fixed { KeepsFixed self.old self.new }
         ensures options { KeepsOptions self.old self.new }
-        ensures noted { OnOk result (NotesEdit (binds directory name.now (file inode)) (about_name inode directory) self.old self.new) }
+        ensures noted { OnOk result (NotesBinding directory name.now (file inode) self.old self.new) }
     {
         self.begin_call()?;
         if self.directories.contains_key(&inode) {
@@ -263,7 +263,7 @@ impl<R: Rng + Drop> FileSystem<R> {
         ensures untold { OnErr result (KeepsTold self.old self.new) }
         ensures fixed { KeepsFixed self.old self.new }
         ensures options { KeepsOptions self.old self.new }
-        ensures noted { OnOk result (NotesEdit (frees directory name.now) (about_named self.old directory name.now) self.old self.new) }
+        ensures noted { OnOk result (NotesFreeing directory name.now self.old self.new) }
     {
         self.begin_call()?;
         let entry = self.entry_in(directory, name)?;
@@ -291,7 +291,7 @@ impl<R: Rng + Drop> FileSystem<R> {
         ensures untold { OnErr result (KeepsTold self.old self.new) }
         ensures fixed { KeepsFixed self.old self.new }
         ensures options { KeepsOptions self.old self.new }
-        ensures noted { OnOk result (NotesEdit (frees directory name.now) (about_named self.old directory name.now) self.old self.new) }
+        ensures noted { OnOk result (NotesFreeing directory name.now self.old self.new) }
     {
         self.begin_call()?;
         let entry = self.entry_in(directory, name)?;

@@ -2,7 +2,7 @@
 ghost use Rattle.std.specs.Prelude.{◌≡◌, ◌≢◌, MatchBool, None, OnOk, OnErr, Some};
 ghost use Rattle.blob_fs.specs.Below.{IsNotBelow, StaysApart};
 ghost use Rattle.blob_fs.specs.Calls.{Leaves, Renames, RenamesAt};
-ghost use Rattle.blob_fs.specs.Files.{AddsTold, GrowsTold, KeepsNames, KeepsOptions, KeepsTold, MakesEdit, NotesEdit, SameFiles, SameNames, about_move, journaled_of, names_of};
+ghost use Rattle.blob_fs.specs.Files.{AddsTold, GrowsTold, KeepsNames, KeepsOptions, KeepsTold, MakesEdit, NotesExchange, NotesMove, SameFiles, SameNames, journaled_of, names_of};
 ghost use Rattle.blob_fs.specs.Fixed.{KeepsFixed};
 ghost use Rattle.blob_directory.specs.declared.edit.Kind.TheVariants.{Directory};
 ghost use Rattle.blob_directory.specs.Names.{exchanges, moves};
@@ -198,7 +198,7 @@ impl<R: Rng + Drop> FileSystem<R> {
         ensures files { SameFiles self.old self.new }
         ensures fixed { KeepsFixed self.old self.new }
         ensures options { KeepsOptions self.old self.new }
-        ensures noted { OnOk result (NotesEdit (moves from.0.items to.0.items moved) (about_move moved.inode None from.1 to.1) self.old self.new) }
+        ensures noted { OnOk result (NotesMove from.1 to.1 from.0.items to.0.items moved self.old self.new) }
     {
         let about = About {
             inode: moved.inode,
@@ -227,7 +227,7 @@ impl<R: Rng + Drop> FileSystem<R> {
         ensures untold { OnErr result (KeepsTold self.old self.new) }
         ensures fixed { KeepsFixed self.old self.new }
         ensures options { KeepsOptions self.old self.new }
-        ensures noted { OnOk result (NotesEdit (moves from.0.items to.0.items moved) (about_move moved.inode None from.1 to.1) self.old self.new) }
+        ensures noted { OnOk result (NotesMove from.1 to.1 from.0.items to.0.items moved self.old self.new) }
     {
         self.check_replaces(was, moved)?;
         self.flush_by_profile(moved.inode)?;
@@ -258,7 +258,7 @@ impl<R: Rng + Drop> FileSystem<R> {
         ensures fixed { KeepsFixed self.old self.new }
         ensures options { KeepsOptions self.old self.new }
         ensures apart { OnOk result (was.kind ≡ Directory → IsNotBelow self.old was.inode from.1) }
-        ensures noted { OnOk result (NotesEdit (exchanges from.0.items to.0.items moved was) (about_move moved.inode (Some was.inode) from.1 to.1) self.old self.new) }
+        ensures noted { OnOk result (NotesExchange from.1 to.1 from.0.items to.0.items moved was self.old self.new) }
     {
         self.check_move(was, from.1)?;
         let about = About {
