@@ -1,10 +1,10 @@
 -- The lines of calls on files.
-use Rattle.std.specs.Prelude.{ℕ, List, [], ◌∷◌, Option, Some, None, option_map, option_and_then, codes}
+use Rattle.std.specs.Prelude.{ℕ, List, [], ◌∷◌, Option, Some, None, option_map, codes}
 use Rattle.blob_fs.specs.Acts.{Act, Create, Open, OpenTruncated, Unlink, MakeDirectory, RemoveDirectory, ListNames, SyncDirectory, Find, Link, Move, CreateAt, UnlinkAt, MakeDirectoryAt, RemoveDirectoryAt, FindAt, LinkAt, MoveAt, ListAt, SyncDirectoryAt, OpenInode, OpenInodeTruncated, Close, Size, Sync, SyncData, InodeOf, Truncate, Read, Write, SyncAll, Settle, Commit, Crash, Tree, act_of}
 use Rattle.blob_fs.specs.declared.file_system.Descriptor.{Descriptor}
 use Rattle.blob_fs.specs.declared.renames.Rename.{Rename}
 use Rattle.blob_fs.specs.declared.renames.Rename.TheVariants.{Replace, NoReplace, Exchange}
-use Rattle.blob_tokens.specs.Forms.{Form, ◌>>=◌, gives, no_form, form_in_table, token, at_end, hex, digits}
+use Rattle.blob_tokens.specs.Forms.{Form, ◌>>=◌, gives, no_form, form_in_table, token, hex, digits}
 use Rattle.blob_tokens.specs.Tokens.{number_of}
 use Rattle.blob_file_sessions.specs.Kinds.{descriptor}
 use Rattle.blob_file_scripts.specs.PathTokens.{path_of}
@@ -40,6 +40,13 @@ file = token (λ word. named word (number_of word))
 abbrev pub how : Form Rename
 how [] = Some (Replace, [])
 how (word ∷ tokens) = form_in_table ((codes "noreplace", gives NoReplace) ∷ (codes "exchange", gives Exchange) ∷ []) no_form word tokens
+
+-- a directory's number and a name in it
+abbrev pub entry : Form (ℕ × List ℕ)
+entry = do d ← digits; name ← path; gives (d, name)
+
+abbrev pub moves : Form Act
+moves = do from ← entry; to ← entry; taken ← how; gives (MoveAt from.0 from.1 to.0 to.1 taken)
 
 abbrev pub says : Said → Form (Option Said)
 says said = gives (Some said)
@@ -80,13 +87,13 @@ on_files word = form_in_table (
 
 abbrev pub in_directory : List ℕ → Form (Option Said)
 in_directory word = form_in_table (
-    (codes "create_at", do d ← digits; name ← path; makes (CreateAt d name))
-    ∷ (codes "link_at", do inode ← digits; d ← digits; name ← path; makes (LinkAt inode d name))
-    ∷ (codes "unlink_at", do d ← digits; name ← path; makes (UnlinkAt d name))
-    ∷ (codes "rename_at", do from ← digits; old ← path; to ← digits; new ← path; taken ← how; makes (MoveAt from old to new taken))
-    ∷ (codes "mkdir_at", do d ← digits; name ← path; makes (MakeDirectoryAt d name))
-    ∷ (codes "rmdir_at", do d ← digits; name ← path; makes (RemoveDirectoryAt d name))
-    ∷ (codes "find_at", do d ← digits; name ← path; makes (FindAt d name)) ∷ [])
+    (codes "create_at", do e ← entry; makes (CreateAt e.0 e.1))
+    ∷ (codes "link_at", do inode ← digits; e ← entry; makes (LinkAt inode e.0 e.1))
+    ∷ (codes "unlink_at", do e ← entry; makes (UnlinkAt e.0 e.1))
+    ∷ (codes "rename_at", do move ← moves; makes move)
+    ∷ (codes "mkdir_at", do e ← entry; makes (MakeDirectoryAt e.0 e.1))
+    ∷ (codes "rmdir_at", do e ← entry; makes (RemoveDirectoryAt e.0 e.1))
+    ∷ (codes "find_at", do e ← entry; makes (FindAt e.0 e.1)) ∷ [])
     (on_files word) word
 
 abbrev pub call : List ℕ → Form (Option Said)

@@ -1,8 +1,8 @@
 //! The calls of a script of files, and their words.
 ghost use Rattle.std.specs.Prelude.{◌≡◌, ℕ, List, Err, IfOk, None, Some, option_map};
 ghost use Rattle.blob_tokens.specs.Forms.{hex};
-ghost use Rattle.blob_file_scripts.specs.CallLines.{Makes, by_number, call, file, file_act, how, in_directory, file_of, of_all, on_files, path, said_by};
-ghost use Rattle.blob_fs.specs.Acts.{act_of, look_act};
+ghost use Rattle.blob_file_scripts.specs.CallLines.{Makes, by_number, call, entry, file, file_act, how, in_directory, file_of, moves, of_all, on_files, path, said_by};
+ghost use Rattle.blob_fs.specs.Acts.{act_of, look_act, number_act};
 
 use crate::path_text::read_path;
 use blob_fs::call::{Call, LookUp, NumberCall, PathCall};
@@ -194,6 +194,42 @@ fn on_files<'a>(
     }
 }
 
+/// Parses the next tokens as a directory's number and a name in it, into `buffer`.
+fn entry<'a>(
+    alloc: Global,
+    tokens: &mut Tokens,
+    buffer: &'a mut Vec<u8>,
+) -> Result<(u64, &'a [u8]), RefusedLine>
+    ensures ok { IfOk result (λ read. entry tokens.old ≡ Some ((read.0, read.1.now), tokens.new)) }
+    ensures bad { result ≡ Err RefusedLine.BadCall → entry tokens.old ≡ None }
+{
+    let directory = tokens.number()?;
+    let name = path(alloc, tokens, buffer)?;
+    Ok((directory, name))
+}
+
+/// Parses the tokens of a rename by the numbers of directories.
+fn rename_at<'a>(
+    alloc: Global,
+    tokens: &mut Tokens,
+    buffers: (&'a mut Vec<u8>, &'a mut Vec<u8>),
+) -> Result<NumberCall<'a>, RefusedLine>
+    ensures ok { IfOk result (λ read. moves tokens.old ≡ Some (number_act read, tokens.new)) }
+    ensures bad { result ≡ Err RefusedLine.BadCall → moves tokens.old ≡ None }
+{
+    let (first, second) = buffers;
+    let (from, old) = entry(alloc, tokens, first)?;
+    let (to, new) = entry(alloc, tokens, second)?;
+    let how = how(tokens)?;
+    Ok(NumberCall::Rename {
+        from,
+        old,
+        to,
+        new,
+        how,
+    })
+}
+
 /// Parses a call by the number of a directory and a name, or one of the others.
 fn in_directory<'a>(
     alloc: Global,
@@ -207,14 +243,12 @@ fn in_directory<'a>(
     let (first, second) = buffers;
     let call = match word {
         "create_at" => {
-            let directory = tokens.number()?;
-            let name = path(alloc, tokens, first)?;
+            let (directory, name) = entry(alloc, tokens, first)?;
             NumberCall::Create { directory, name }
         }
         "link_at" => {
             let inode = tokens.number()?;
-            let directory = tokens.number()?;
-            let name = path(alloc, tokens, first)?;
+            let (directory, name) = entry(alloc, tokens, first)?;
             NumberCall::Link {
                 inode,
                 directory,
@@ -222,37 +256,20 @@ fn in_directory<'a>(
             }
         }
         "unlink_at" => {
-            let directory = tokens.number()?;
-            let name = path(alloc, tokens, first)?;
+            let (directory, name) = entry(alloc, tokens, first)?;
             NumberCall::Unlink { directory, name }
         }
-        "rename_at" => {
-            let from = tokens.number()?;
-            let old = path(alloc, tokens, first)?;
-            let to = tokens.number()?;
-            let new = path(alloc, tokens, second)?;
-            let how = how(tokens)?;
-            NumberCall::Rename {
-                from,
-                old,
-                to,
-                new,
-                how,
-            }
-        }
+        "rename_at" => rename_at(alloc, tokens, (first, second))?,
         "mkdir_at" => {
-            let directory = tokens.number()?;
-            let name = path(alloc, tokens, first)?;
+            let (directory, name) = entry(alloc, tokens, first)?;
             NumberCall::MakeDirectory { directory, name }
         }
         "rmdir_at" => {
-            let directory = tokens.number()?;
-            let name = path(alloc, tokens, first)?;
+            let (directory, name) = entry(alloc, tokens, first)?;
             NumberCall::RemoveDirectory { directory, name }
         }
         "find_at" => {
-            let directory = tokens.number()?;
-            let name = path(alloc, tokens, first)?;
+            let (directory, name) = entry(alloc, tokens, first)?;
             return Ok(Some(looks(LookUp::Find { directory, name })));
         }
         _ => return on_files(alloc, word, tokens, (first, second)),

@@ -1,5 +1,7 @@
 //! Paths and names as tokens of a line.
-ghost use Rattle.std.specs.Prelude.{◌≡◌, IfSome, IfNone, Err, IfOk, None, Some, ◌<◌};
+ghost use Rattle.std.specs.Prelude.{◌≡◌, ◌++◌, OnOk, string_bytes, IfSome, IfNone, Err, IfOk, None, Some, ◌<◌};
+ghost use Rattle.std.specs.Char.{digit_char};
+ghost use Rattle.blob_file_scripts.specs.ReplyLines.{byte_token, path_token};
 ghost use Rattle.hex.specs.Hex.{hex_digit_value};
 ghost use Rattle.blob_file_scripts.specs.PathTokens.{HasNoEscape, StartsEscaped, is_plain, path_of, unescaped};
 
@@ -31,7 +33,9 @@ fn digit(byte: u8) -> Option<u8>
 }
 
 /// Returns the hex digit of a value below 16.
-fn digit_of(value: u8) -> char {
+fn digit_of(value: u8) -> char
+    ensures { value < 16 → result ≡ digit_char value }
+{
     match value {
         0..10 => (b'0' + value) as char,
         10..16 => (b'a' + (value - 10)) as char,
@@ -89,19 +93,27 @@ pub fn read_path(alloc: Global, token: &str) -> Result<Vec<u8>, RefusedLine>
     unescape(alloc, token.as_bytes())
 }
 
+/// Appends a byte of a path: itself, or `\xNN`.
+fn print_byte(byte: u8, line: &mut String) -> Result<(), AllocError>
+    ensures { OnOk result (string_bytes line.new ≡ string_bytes line.old ++ byte_token byte) }
+{
+    if is_plain(byte) {
+        return line.push(byte as char);
+    }
+    line.push_str("\\x")?;
+    line.push(digit_of(byte / 16))?;
+    line.push(digit_of(byte % 16))
+}
+
 /// Appends a path or a name as a token.
-pub fn print_path(path: &[u8], line: &mut String) -> Result<(), AllocError> {
+pub fn print_path(path: &[u8], line: &mut String) -> Result<(), AllocError>
+    ensures { OnOk result (string_bytes line.new ≡ string_bytes line.old ++ path_token path.now) }
+{
     if path.is_empty() {
         return line.push_str(EMPTY);
     }
     for byte in path {
-        if is_plain(*byte) {
-            line.push(*byte as char)?;
-        } else {
-            line.push_str("\\x")?;
-            line.push(digit_of(*byte / 16))?;
-            line.push(digit_of(*byte % 16))?;
-        }
+        print_byte(*byte, line)?;
     }
     Ok(())
 }

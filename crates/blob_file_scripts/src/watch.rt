@@ -167,16 +167,9 @@ impl Watch {
             Call::ByPath(PathCall::SyncDirectory(_))
             | Call::ByNumber(NumberCall::SyncDirectory(_))
             | Call::ByNumber(NumberCall::SyncAll)
-                if is_done && is_lie =>
-            {
-                text.push_str("made nothing durable: syncs lie\n")
-            }
-            Call::ByPath(PathCall::SyncDirectory(_))
-            | Call::ByNumber(NumberCall::SyncDirectory(_))
-                if is_done =>
-            {
-                self.push_settled(fs, text)
-            }
+                if is_done && is_lie => { text.push_str("made nothing durable: syncs lie\n") }
+            Call::ByPath(PathCall::SyncDirectory(_)) | Call::ByNumber(NumberCall::SyncDirectory(_))
+                if is_done => { self.push_settled(fs, text) }
             Call::ByNumber(NumberCall::SyncAll) | Call::ByNumber(NumberCall::Settle) if is_done => {
                 self.writes.clear();
                 self.edits.clear();
