@@ -62,6 +62,34 @@ same 'no line'
 } >"$work/in"
 same 'hostile names and numbers'
 
+# A remark that is too wide breaks at a space. A word that is wider than a line, here a path of 100 bytes, breaks where the line ends.
+cat >"$work/in" <<'WIDE'
+keep 1 1
+mkdir /a_directory_with_a_name_of_thirty_letters
+create /a_file_with_a_name_of_twenty_eight
+rename /a_file_with_a_name_of_twenty_eight /a_directory_with_a_name_of_thirty_letters/another_file
+mkdir /0123456789012345678901234567890123456789012345678901234567890123456789012345678901234567890123456789
+crash
+WIDE
+cat >"$work/wanted" <<'WIDE'
+ok
+ok
+opened 0
+ok
+ok
+crashed 1111
+# unsettled edits:
+#   line 2: mkdir /a_directory_with_a_name_of_thirty_letters: kept
+#   line 3: create /a_file_with_a_name_of_twenty_eight: kept
+#   line 4: rename /a_file_with_a_name_of_twenty_eight ->
+#     /a_directory_with_a_name_of_thirty_letters/another_file: kept
+#   line 5: mkdir
+#     /0123456789012345678901234567890123456789012345678901234567890123456789012
+#     345678901234567890123456789: kept
+WIDE
+"$files" explain <"$work/in" >"$work/out"
+ok 'a remark that is too wide' diff "$work/wanted" "$work/out"
+
 printf 'create /a\ncrash\n' >"$work/in"
 for words in 'explain more' 'explain --last' 'explain explain' 'explain --help'; do
     # shellcheck disable=SC2086

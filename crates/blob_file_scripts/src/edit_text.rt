@@ -2,10 +2,10 @@
 ghost use Rattle.std.specs.Prelude.{◌≡◌};
 ghost use Rattle.blob_file_scripts.specs.Outcomes.{edit_outcome};
 
-use crate::call::{Call, Named};
+use crate::call::{Line, Named};
 use crate::path_text::print_path;
 use crate::paths::{Paths, parts_of};
-use blob_file_sessions::kinds;
+use blob_fs::call::{Call, NumberCall, PathCall};
 use blob_fs::{Edit, FileSystem};
 use blob_lab::ScriptedRng;
 use std::alloc::AllocError;
@@ -40,32 +40,34 @@ pub(crate) fn outcome_words(outcome: EditOutcome) -> &'static str {
 }
 
 /// Returns the word of a call that changes one name.
-fn word_of(kind: u32) -> &'static str {
-    match kind {
-        kinds::CREATE | kinds::CREATE_AT => "create",
-        kinds::LINK | kinds::LINK_AT => "link",
-        kinds::UNLINK | kinds::UNLINK_AT => "unlink",
-        kinds::MAKE_DIRECTORY | kinds::MAKE_DIRECTORY_AT => "mkdir",
-        kinds::REMOVE_DIRECTORY | kinds::REMOVE_DIRECTORY_AT => "rmdir",
+fn word_of(call: &Call<'_>) -> &'static str {
+    match call {
+        Call::ByPath(PathCall::Create(_)) | Call::ByNumber(NumberCall::Create { .. }) => "create",
+        Call::ByPath(PathCall::Link { .. }) | Call::ByNumber(NumberCall::Link { .. }) => "link",
+        Call::ByPath(PathCall::Unlink(_)) | Call::ByNumber(NumberCall::Unlink { .. }) => "unlink",
+        Call::ByPath(PathCall::MakeDirectory(_))
+        | Call::ByNumber(NumberCall::MakeDirectory { .. }) => "mkdir",
+        Call::ByPath(PathCall::RemoveDirectory(_))
+        | Call::ByNumber(NumberCall::RemoveDirectory { .. }) => "rmdir",
         _ => "change",
     }
 }
 
 /// Appends the call's word, and what a link names.
-fn push_word(call: &Call, text: &mut String) -> Result<(), AllocError> {
-    let Call::Plain { asked, path, .. } = call else {
+fn push_word(line: &Line<'_>, text: &mut String) -> Result<(), AllocError> {
+    let Line::Call(call) = line else {
         return text.push_str("change ");
     };
-    let word = word_of(asked.kind);
+    let word = word_of(call);
     write!(text, "{word} ")?;
-    if asked.kind == kinds::LINK {
-        print_path(path, text)?;
-        text.push_str(" -> ")?;
-    } else if asked.kind == kinds::LINK_AT {
-        let inode = asked.first;
-        write!(text, "inode {inode} -> ")?;
+    match call {
+        Call::ByPath(PathCall::Link { path, .. }) => {
+            print_path(path, text)?;
+            text.push_str(" -> ")
+        }
+        Call::ByNumber(NumberCall::Link { inode, .. }) => write!(text, "inode {inode} -> "),
+        _ => Ok(()),
     }
-    Ok(())
 }
 
 /// Returns the inode of the file that an edit truncates. `None` if it changes a name.
@@ -77,27 +79,24 @@ pub(crate) fn inode_truncated(edit: &Edit) -> Option<u64> {
 }
 
 /// Returns the path by which a call truncates a file, if it has one.
-fn path_truncated(call: &Call) -> Option<&[u8]> {
-    match call {
-        Call::OnFile {
-            file: Named::Path(path),
-            ..
-        } => Some(path),
-        Call::Plain { asked, path, .. } if asked.kind == kinds::OPEN_TRUNCATED => Some(path),
+fn path_truncated<'a>(line: &Line<'a>) -> Option<&'a [u8]> {
+    match line {
+        Line::On(Named::Path(path), _) => Some(path),
+        Line::Call(Call::ByPath(PathCall::OpenTruncated(path))) => Some(path),
         _ => None,
     }
 }
 
 /// Appends the truncation of a file, with the length that the call left: one that failed in part left a longer one.
 fn push_truncation(
-    call: &Call,
+    line: &Line<'_>,
     fs: &FileSystem<ScriptedRng>,
     inode: u64,
     paths: &Paths,
     text: &mut String,
 ) -> Result<(), AllocError> {
     text.push_str("truncate ")?;
-    match path_truncated(call) {
+    match path_truncated(line) {
         Some(path) => print_path(path, text)?,
         None => paths.push_file(inode, text)?,
     }
@@ -108,17 +107,17 @@ fn push_truncation(
 /// Appends an edit as its call with full paths: `create PATH`, `rename PATH -> PATH`, `exchange PATH, PATH`, `truncate PATH LENGTH`
 /// and so on.
 pub(crate) fn push_edit(
-    call: &Call,
+    line: &Line<'_>,
     fs: &FileSystem<ScriptedRng>,
     edit: &Edit,
     paths: &Paths,
     text: &mut String,
 ) -> Result<(), AllocError> {
     if let Some(inode) = inode_truncated(edit) {
-        return push_truncation(call, fs, inode, paths, text);
+        return push_truncation(line, fs, inode, paths, text);
     }
     let Some(second) = &edit.second else {
-        push_word(call, text)?;
+        push_word(line, text)?;
         return paths.push_entry(&edit.first.entry, text);
     };
     let is_move = edit.first.to.is_none();

@@ -1,4 +1,9 @@
 //! Replies of calls on files as lines.
+ghost use Rattle.std.specs.Prelude.{◌≡◌, ◌++◌, OnOk, List, ℕ, codes, string_bytes};
+ghost use Rattle.std.specs.List.{flat_map};
+ghost use Rattle.blob_script.specs.Replies.{hex_field};
+ghost use Rattle.blob_file_scripts.specs.ReplyLines.{Appends, Prints, edit_digits, error_line, error_word, found_line, name_field, name_fields, tree_field};
+
 use crate::path_text::print_path;
 use blob_base::RefusalLine;
 use blob_file_sessions::Reply;
@@ -6,7 +11,10 @@ use blob_fs::{Binding, Crash, FsError, Kind, Place, TreeEntry};
 use std::alloc::AllocError;
 
 /// Appends bytes in lower-case hex, or `-` if there are none.
-pub fn print_hex(bytes: &[u8], line: &mut String) -> Result<(), AllocError> {
+#[tactic(auto, using(blob_script::proofs::HexFields::none, blob_script::proofs::HexFields::some))]
+pub fn print_hex(bytes: &[u8], line: &mut String) -> Result<(), AllocError>
+    ensures { OnOk result (string_bytes line.new ≡ string_bytes line.old ++ hex_field bytes.now) }
+{
     if bytes.is_empty() {
         return line.push_str("-");
     }
@@ -15,7 +23,9 @@ pub fn print_hex(bytes: &[u8], line: &mut String) -> Result<(), AllocError> {
 }
 
 /// Returns the word of a refusal that isn't the layer's.
-fn word_of(error: &FsError) -> &'static str {
+fn word_of(error: &FsError) -> &'static str
+    ensures { result.now ≡ error_word error.now }
+{
     match error {
         FsError::Exists => "Exists",
         FsError::NotFound => "NotFound",
@@ -33,7 +43,9 @@ fn word_of(error: &FsError) -> &'static str {
     }
 }
 
-fn print_refusal(error: &FsError, line: &mut String) -> Result<(), AllocError> {
+fn print_refusal(error: &FsError, line: &mut String) -> Result<(), AllocError>
+    ensures { OnOk result (string_bytes line.new ≡ string_bytes line.old ++ error_line error.now) }
+{
     match error {
         FsError::Store(error) => {
             let refusal = RefusalLine(error);
@@ -46,7 +58,9 @@ fn print_refusal(error: &FsError, line: &mut String) -> Result<(), AllocError> {
     }
 }
 
-fn print_binding(binding: &Binding, size: u64, line: &mut String) -> Result<(), AllocError> {
+fn print_binding(binding: &Binding, size: u64, line: &mut String) -> Result<(), AllocError>
+    ensures { OnOk result (string_bytes line.new ≡ string_bytes line.old ++ found_line binding.now.kind binding.now.inode size) }
+{
     let inode = binding.inode;
     match binding.kind {
         Kind::File => write!(line, "found file {inode} {size}"),
@@ -54,36 +68,56 @@ fn print_binding(binding: &Binding, size: u64, line: &mut String) -> Result<(), 
     }
 }
 
-/// Appends the names of a directory. A directory's has a slash after it.
-fn print_names(names: &[(Vec<u8>, Binding)], line: &mut String) -> Result<(), AllocError> {
+/// Appends a name of a directory. A directory's has a slash after it.
+fn print_name(name: &[u8], kind: Kind, line: &mut String) -> Result<(), AllocError>
+    ensures { OnOk result (string_bytes line.new ≡ string_bytes line.old ++ name_field name.now kind) }
+{
+    line.push(' ')?;
+    print_path(name, line)?;
+    match kind {
+        Kind::File => Ok(()),
+        Kind::Directory => line.push('/'),
+    }
+}
+
+fn print_names(names: &[(Vec<u8>, Binding)], line: &mut String) -> Result<(), AllocError>
+    ensures { OnOk result (string_bytes line.new ≡ string_bytes line.old ++ name_fields names.now) }
+{
     for (name, binding) in names {
-        line.push(' ')?;
-        print_path(name, line)?;
-        if binding.kind == Kind::Directory {
-            line.push('/')?;
-        }
+        print_name(name, binding.kind, line)?;
     }
     Ok(())
 }
 
-/// Appends each path with the bytes of a file after an equals sign, or a slash for a directory.
-fn print_tree(entries: &[TreeEntry], line: &mut String) -> Result<(), AllocError> {
-    for entry in entries {
-        line.push(' ')?;
-        print_path(&entry.path, line)?;
-        match entry.binding.kind {
-            Kind::Directory => line.push('/')?,
-            Kind::File => {
-                line.push('=')?;
-                print_hex(&entry.bytes, line)?;
-            }
+/// Appends a path with the bytes of a file after an equals sign, or a slash for a directory.
+fn print_entry(entry: &TreeEntry, line: &mut String) -> Result<(), AllocError>
+    ensures { OnOk result (string_bytes line.new ≡ string_bytes line.old ++ tree_field entry.now) }
+{
+    line.push(' ')?;
+    print_path(&entry.path, line)?;
+    match entry.binding.kind {
+        Kind::Directory => line.push('/'),
+        Kind::File => {
+            line.push('=')?;
+            print_hex(&entry.bytes, line)
         }
+    }
+}
+
+fn print_tree(entries: &[TreeEntry], line: &mut String) -> Result<(), AllocError>
+    ensures { OnOk result (string_bytes line.new ≡ string_bytes line.old ++ flat_map tree_field entries.now) }
+{
+    for entry in entries {
+        print_entry(entry, line)?;
     }
     Ok(())
 }
 
 /// Appends the runs of kept bytes of a write at an offset, each as `START..END`, or `-` if none was kept.
-fn print_runs(offset: u64, choices: &[bool], line: &mut String) -> Result<(), AllocError> {
+#[tactic(auto, using(crate::proofs::Appending::appends_both, crate::proofs::Appending::appends_more, crate::proofs::Appending::appends_none))]
+fn print_runs(offset: u64, choices: &[bool], line: &mut String) -> Result<(), AllocError>
+    ensures { OnOk result (Appends (string_bytes line.old) (string_bytes line.new)) }
+{
     let mut was_kept = false;
     let mut has_run = false;
     let mut at = offset;
@@ -106,7 +140,10 @@ fn print_runs(offset: u64, choices: &[bool], line: &mut String) -> Result<(), Al
 }
 
 /// Appends what a crash kept of a write to a file. An edit's record isn't told: its digit is.
-fn print_row(place: &Place, choices: &[bool], line: &mut String) -> Result<(), AllocError> {
+#[tactic(auto, using(crate::proofs::Appending::appends_both, crate::proofs::Appending::appends_more, crate::proofs::Appending::appends_none))]
+fn print_row(place: &Place, choices: &[bool], line: &mut String) -> Result<(), AllocError>
+    ensures { OnOk result (Appends (string_bytes line.old) (string_bytes line.new)) }
+{
     let Some(inode) = place.inode else {
         return Ok(());
     };
@@ -116,14 +153,23 @@ fn print_row(place: &Place, choices: &[bool], line: &mut String) -> Result<(), A
     print_runs(start, choices, line)
 }
 
-fn print_crash(crash: &Crash, line: &mut String) -> Result<(), AllocError> {
-    line.push(' ')?;
-    if crash.edits.is_empty() {
-        line.push('-')?;
+/// Appends a digit for each edit that nothing had settled, or `-` if there was none.
+fn print_edits(edits: &[bool], line: &mut String) -> Result<(), AllocError>
+    ensures { OnOk result (string_bytes line.new ≡ string_bytes line.old ++ edit_digits edits.now) }
+{
+    if edits.is_empty() {
+        return line.push_str("-");
     }
-    for is_kept in &crash.edits {
+    for is_kept in edits {
         line.push(if *is_kept { '1' } else { '0' })?;
     }
+    Ok(())
+}
+
+#[tactic(auto, using(crate::proofs::Appending::appends_both, crate::proofs::Appending::appends_more, crate::proofs::Appending::appends_none))]
+fn print_rows(crash: &Crash, line: &mut String) -> Result<(), AllocError>
+    ensures { OnOk result (Appends (string_bytes line.old) (string_bytes line.new)) }
+{
     for (place, (_, choices)) in crash.places.iter().zip(crash.rows.rows().iter()) {
         print_row(place, choices, line)?;
     }
@@ -131,7 +177,9 @@ fn print_crash(crash: &Crash, line: &mut String) -> Result<(), AllocError> {
 }
 
 /// Appends a reply's line to `line`, without the line feed. After an error, a part of it may have been appended.
-pub fn print_reply(reply: &Reply, line: &mut String) -> Result<(), AllocError> {
+pub fn print_reply(reply: &Reply, line: &mut String) -> Result<(), AllocError>
+    ensures { OnOk result (Prints reply.now (string_bytes line.old) (string_bytes line.new)) }
+{
     match reply {
         Reply::Done => line.push_str("ok"),
         Reply::Opened(descriptor) => {
@@ -150,8 +198,9 @@ pub fn print_reply(reply: &Reply, line: &mut String) -> Result<(), AllocError> {
             print_tree(entries, line)
         }
         Reply::Crashed(crash) => {
-            line.push_str("crashed")?;
-            print_crash(crash, line)
+            line.push_str("crashed ")?;
+            print_edits(&crash.edits, line)?;
+            print_rows(crash, line)
         }
         Reply::Refused(error) => print_refusal(error, line),
     }

@@ -1,6 +1,6 @@
 //! A script of files over a reader and a writer.
 use crate::answers::answer;
-use crate::call::Call;
+use crate::call::Line;
 use crate::line::{read_line, without_comment};
 use crate::remarks::push_remarks;
 use crate::watch::Watch;
@@ -114,7 +114,7 @@ impl Run {
     }
 
     /// Makes a call. Its reply is in `reply`, without a line feed.
-    fn make(&mut self, call: &Call) -> Result<(), Stop> {
+    fn make(&mut self, call: &Line<'_>) -> Result<(), Stop> {
         self.begin()?;
         let Some(files) = &mut self.files else {
             return Err(Stop::NoMemory);
@@ -139,7 +139,9 @@ impl Run {
         let line = without_comment(text);
         self.reply.clear();
         self.remarks.clear();
-        match &read_line(self.alloc, line)? {
+        let mut first = Vec::new(self.alloc);
+        let mut second = Vec::new(self.alloc);
+        match &read_line(self.alloc, line, (&mut first, &mut second))? {
             Some(call) => self.make(call)?,
             None => {
                 if !self.read(line)? {

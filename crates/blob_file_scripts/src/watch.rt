@@ -1,12 +1,13 @@
 //! A run that is watched, call by call, and the text that follows each reply.
-use crate::call::{Call, Named};
+use crate::call::{Line, Named, OnFile};
 use crate::crash_text::{Before, Issued, Unsynced, push_edits, push_files, push_to};
 use crate::edit_text::push_edit;
 use crate::paths::Paths;
 use blob_directory::unsettled::Unsettled;
 use blob_draws::faults::retained;
-use blob_file_sessions::{KeptFiles, Reply, kinds};
-use blob_fs::{Crash, Descriptor, FileSystem, FsError, Syncs};
+use blob_file_sessions::{KeptFiles, Reply};
+use blob_fs::call::{Call, NumberCall, PathCall};
+use blob_fs::{Crash, FileSystem, FsError, Syncs};
 use blob_lab::ScriptedRng;
 use std::alloc::{AllocError, Global};
 use std::collections::BTreeMap;
@@ -36,10 +37,10 @@ fn found(looked: Result<u64, FsError>) -> Result<Option<u64>, AllocError> {
 }
 
 /// Returns the inode of a file.
-fn inode_named(fs: &FileSystem<ScriptedRng>, file: &Named) -> Result<Option<u64>, AllocError> {
+fn inode_named(fs: &FileSystem<ScriptedRng>, file: &Named<'_>) -> Result<Option<u64>, AllocError> {
     match file {
         Named::Path(path) => found(fs.find(path).map(|binding| binding.inode)),
-        Named::Descriptor(number) => found(fs.inode_of(Descriptor::numbered(*number))),
+        Named::Descriptor(descriptor) => found(fs.inode_of(*descriptor)),
     }
 }
 
@@ -65,13 +66,11 @@ impl Watch {
     }
 
     /// Looks at the files before a call.
-    pub(crate) fn before(&mut self, files: &KeptFiles, call: &Call) -> Result<(), AllocError> {
+    pub(crate) fn before(&mut self, files: &KeptFiles, call: &Line<'_>) -> Result<(), AllocError> {
         let fs = files.fs();
-        if let Call::Plain { asked, .. } = call {
-            if asked.kind == kinds::CRASH {
-                self.paths = Paths::read(self.alloc, fs)?;
-                self.before = Some(Before::read(self.alloc, fs, &self.paths, &self.writes)?);
-            }
+        if let Line::Call(Call::Crash) = call {
+            self.paths = Paths::read(self.alloc, fs)?;
+            self.before = Some(Before::read(self.alloc, fs, &self.paths, &self.writes)?);
         }
         Ok(())
     }
@@ -81,7 +80,7 @@ impl Watch {
         &mut self,
         line: u64,
         files: &KeptFiles,
-        call: &Call,
+        call: &Line<'_>,
         reply: &str,
     ) -> Result<String, AllocError> {
         let fs = files.fs();
@@ -89,19 +88,12 @@ impl Watch {
         let is_done = reply == "ok";
         self.note_edit(line, fs, call)?;
         match call {
-            Call::Write {
-                file,
-                offset,
-                bytes,
-            } if is_done => self.note_write(line, fs, file, *offset, bytes)?,
-            Call::OnFile { kind, file, .. } if is_done => {
-                self.after_file(*kind, fs, file, &mut text)?
-            }
-            Call::Plain { asked, .. } => match files.reply() {
+            Line::On(file, call) if is_done => self.after_file(line, fs, file, call, &mut text)?,
+            Line::On(..) => {}
+            Line::Call(call) => match files.reply() {
                 Some(Reply::Crashed(crash)) => self.after_crash(fs, crash, &mut text)?,
-                _ => self.after_names(fs, asked.kind, is_done, &mut text)?,
+                _ => self.after_names(fs, call, is_done, &mut text)?,
             },
-            _ => {}
         }
         Ok(text)
     }
@@ -111,7 +103,7 @@ impl Watch {
         &mut self,
         line: u64,
         fs: &FileSystem<ScriptedRng>,
-        file: &Named,
+        file: &Named<'_>,
         offset: u64,
         bytes: &[u8],
     ) -> Result<(), AllocError> {
@@ -130,17 +122,29 @@ impl Watch {
         push_to(&mut self.writes, self.alloc, inode, write)
     }
 
-    /// Notes a sync of a file that returned Ok, and adds which edits it settled.
+    /// Notes a call on a file that returned Ok, and adds which edits it settled if it is a sync.
     fn after_file(
         &mut self,
-        kind: u32,
+        line: u64,
         fs: &FileSystem<ScriptedRng>,
-        file: &Named,
+        file: &Named<'_>,
+        call: &OnFile<'_>,
         text: &mut String,
     ) -> Result<(), AllocError> {
-        if kind != kinds::SYNC && kind != kinds::SYNC_DATA {
-            return Ok(());
+        match call {
+            OnFile::Write { offset, bytes } => self.note_write(line, fs, file, *offset, bytes),
+            OnFile::Sync | OnFile::SyncData => self.note_sync(fs, file, text),
+            _ => Ok(()),
         }
+    }
+
+    /// Notes a sync of a file that returned Ok, and adds which edits it settled.
+    fn note_sync(
+        &mut self,
+        fs: &FileSystem<ScriptedRng>,
+        file: &Named<'_>,
+        text: &mut String,
+    ) -> Result<(), AllocError> {
         if fs.options().syncs == Syncs::Lie {
             return text.push_str("made nothing durable: syncs lie\n");
         }
@@ -154,18 +158,19 @@ impl Watch {
     fn after_names(
         &mut self,
         fs: &FileSystem<ScriptedRng>,
-        kind: u32,
+        call: &Call<'_>,
         is_done: bool,
         text: &mut String,
     ) -> Result<(), AllocError> {
         let is_lie = fs.options().syncs == Syncs::Lie;
-        match kind {
-            kinds::SYNC_DIRECTORY | kinds::SYNC_DIRECTORY_AT | kinds::SYNC_ALL
+        match call {
+            Call::ByPath(PathCall::SyncDirectory(_))
+            | Call::ByNumber(NumberCall::SyncDirectory(_))
+            | Call::ByNumber(NumberCall::SyncAll)
                 if is_done && is_lie => { text.push_str("made nothing durable: syncs lie\n") }
-            kinds::SYNC_DIRECTORY | kinds::SYNC_DIRECTORY_AT if is_done => {
-                self.push_settled(fs, text)
-            }
-            kinds::SYNC_ALL | kinds::SETTLE if is_done => {
+            Call::ByPath(PathCall::SyncDirectory(_)) | Call::ByNumber(NumberCall::SyncDirectory(_))
+                if is_done => { self.push_settled(fs, text) }
+            Call::ByNumber(NumberCall::SyncAll) | Call::ByNumber(NumberCall::Settle) if is_done => {
                 self.writes.clear();
                 self.edits.clear();
                 Ok(())
@@ -182,7 +187,7 @@ impl Watch {
         &mut self,
         line: u64,
         fs: &FileSystem<ScriptedRng>,
-        call: &Call,
+        call: &Line<'_>,
     ) -> Result<(), AllocError> {
         let Some(last) = fs.unsettled().last() else {
             return Ok(());

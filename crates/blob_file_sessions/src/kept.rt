@@ -2,7 +2,7 @@
 ghost use Rattle.std.specs.Prelude.{◌≡◌, false, None, OnErr, length, option_copied};
 ghost use Rattle.blob_fs.specs.Files.{KeepsNames};
 ghost use Rattle.blob_file_sessions.specs.Held.{fs_of};
-ghost use Rattle.blob_fs.specs.Acts.{Tree};
+ghost use Rattle.blob_fs.specs.Acts.{Tree, act_of};
 ghost use Rattle.blob_file_sessions.specs.Calls.{Answers, Configures, Makes, Reads, TakesWords, TellsFileWords, Writes};
 ghost use Rattle.blob_file_sessions.specs.Replies.{last_reply};
 
@@ -11,7 +11,7 @@ use crate::call::{FileCall, FileReply};
 use crate::reader::FileReader;
 use crate::setting::copied;
 use blob_fs::reply::{counted, done, walked};
-use blob_fs::{Descriptor, FileSystem, Reply};
+use blob_fs::{Call, Descriptor, FileSystem, Reply};
 use blob_lab::ScriptedRng;
 use blob_lab::script::RefusedLine;
 use blob_sessions::Ran;
@@ -88,9 +88,16 @@ impl KeptFiles {
         let Some(call) = read_kind(asked, path, to) else {
             return FileReply::stopped(BAD_CALL);
         };
-        let reply = self.fs.answer(&call);
-        self.last = Some(reply);
+        self.make(&call);
         self.last()
+    }
+
+    /// Makes a call. Its reply is then the last one.
+    pub fn make(&mut self, call: &Call<'_>)
+        ensures { Makes self.old (act_of call.now) self.new (last_reply self.new) }
+    {
+        let reply = self.fs.answer(call);
+        self.last = Some(reply);
     }
 
     /// Returns the file system.
