@@ -54,7 +54,7 @@ from .errors import (
     WriteFailed,
     WrongThread,
 )
-from .exploration import Explored, explore
+from .exploration import explore
 from .failures import Failed, TooLong
 from .file_calls import Kept
 from .file_follow import ExploredFiles
@@ -67,7 +67,8 @@ from .judging import acknowledgement, judge
 from .layers import Library, Program, Reply, explain, program, run
 from .open_file import OpenFile
 from .power import PowerLoss
-from .seeding import Seeded, SeededFiles, SeededStore, seeds
+from .results import Explored, Seeded
+from .seeding import SeededFiles, SeededStore, seeds
 from .shrinking import shrink
 from .spread import LostWork
 from .states import CrashState, CrashStates
