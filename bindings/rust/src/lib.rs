@@ -63,6 +63,7 @@ mod seeds;
 mod shared;
 pub mod storage;
 mod store;
+mod unsynced;
 mod whole_script;
 mod words;
 
