@@ -62,7 +62,7 @@ from .file_library import FilesLibrary
 from .file_system import Files, FileStatus
 from .files import BlobFile
 from .follow import ExploredStore, NotDeterministic
-from .foreign import TOP, library
+from .foreign import TOP, is_proved, library
 from .judging import acknowledgement, judge
 from .layers import Library, Program, Reply, explain, program, run
 from .open_file import OpenFile
@@ -75,6 +75,12 @@ from .states import CrashState, CrashStates
 from .store import Store
 
 __version__ = "0.3.0"
+
+
+def version() -> str:
+    """Returns the version of the package, and whether the library that this process uses is proved."""
+    return f"blobcrash {__version__}, {'proved' if is_proved() else 'not proved'}"
+
 
 __all__ = [
     "BadLine",
@@ -136,10 +142,12 @@ __all__ = [
     "cut_lines",
     "explain",
     "explore",
+    "is_proved",
     "judge",
     "library",
     "program",
     "run",
     "seeds",
     "shrink",
+    "version",
 ]
