@@ -110,9 +110,11 @@ ok 'no file has the placeholder' sh -c '! grep -rq "blobcrash\.invalid" "$1"/sha
 for file in share/doc/blobcrash/NOTICE copyright; do
     ok "credit in $file" grep -q 'crates.io/crates/commonware-runtime' "$work/parts/$file"
 done
-ok 'the package of the programs needs glibc 2.17 at most, and no Python' grep -Eqx 'Depends: libc6 \(>= 2\.([0-9]|1[0-7])\)' "$work/parts/blobcrash.control"
 ok 'that of the mount has the mount' grep -q '/blobcrash_mount$' "$work/parts/blobcrash-mount.files"
 ok 'that of the programs has none of it' sh -c '! grep -q "_mount$\|/mountctl$\|adapters" "$1"' sh "$work/parts/blobcrash.files"
+dpkg-deb -x "$released"/blobcrash_*.deb "$work/only"
+"$work/only/usr/bin/blobcrash" mount "$work/parts" >"$work/out" 2>&1
+ok 'without the mount' [ "$?:$(cat "$work/out")" = "127:blobcrash: the mount isn't installed (the package blobcrash-mount of a release)" ]
 for bad in 'example.org' 'https://' 'https://a b' 'https://a"b'; do
     "$top/tools/release" --draft --url "$bad" --out "$work/none" >"$work/out" 2>&1
     ok "no address: $bad" [ $? -eq 2 ]
@@ -177,6 +179,7 @@ if objdump -T "$program" | grep -q '(GLIBC_2\.34)'; then
     leave_out 'the C library that the program needs: the gate took it from an earlier run'
 else
     ok 'the C library that the program needs' needs_old "$program"
+    ok 'its package needs no newer one, and no Python' grep -Eqx 'Depends: libc6 \(>= 2\.([0-9]|1[0-7])\)' "$work/parts/blobcrash.control"
 fi
 if has qemu-x86_64; then
     for processor in Nehalem:0 Conroe:127; do
