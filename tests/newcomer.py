@@ -1,5 +1,6 @@
-"""What README shows first, as a new user runs it in a clone in which nothing is built, with an empty cache: the first answer of `./blobcrash`,
-the first examples in Python and Rust, a thousand seeds, and a mount. The code and the commands are those of README. Arguments: the clone.
+"""What README shows first, as a new user runs it in a clone in which nothing is built, with an empty cache: the first answer of
+`./blobcrash`, the first examples in Python and Rust, a thousand seeds, and a mount. The code and the commands are those of README.
+Arguments: the clone.
 
 Prints how long each took. Fails if one fails, or takes three times as long as is wanted: a minute for the first answer, four for the
 others together. The last line is `N passed, M failed`."""

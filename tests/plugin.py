@@ -1,5 +1,5 @@
-"""The pytest plugin: options, marks, names of files, the fixtures, smaller runs, pictures, and what is no option. It is run by a Python that has
-pytest, with the package on its path. The last line is `N passed, M failed`. With the name of a test only that one is run."""
+"""The pytest plugin: options, marks, names of files, the fixtures, smaller runs, pictures, and what is no option. It is run by a Python
+that has pytest, with the package on its path. The last line is `N passed, M failed`. With the name of a test only that one is run."""
 
 import glob
 import os

@@ -119,9 +119,8 @@ def _number(token: str) -> Optional[int]:
 def judge(script: Union[str, bytes], by: Any = None) -> Optional[str]:
     """Runs a script. Returns the first acknowledged content that isn't readable at a reopen after a crash, or `None` if all is.
 
-    The script is run once, and again up to each such reopen. `by` is `Library` or `Program`; by default the library if it is built, or used in
-    this process already.
-    Raises `BadLine` if a line isn't a call, and `ValueError` if no acknowledgement counts.
+    The script is run once, and again up to each such reopen. `by` is `Library` or `Program`; by default the library if it is built, or is
+    used in this process already. Raises `BadLine` if a line isn't a call, and `ValueError` if no acknowledgement counts.
     """
     found = verdict(script, by)
     if found.nothing is not None:

@@ -84,14 +84,15 @@ def _arguments(node: Any, fixture: str) -> dict:
 
 
 def _check_marks(metafunc: Any) -> None:
-    """Refuses a mark that no fixture of a test knows. That of a class or of a module may be for its other tests, unless it is the only one."""
+    """Refuses a mark that no fixture of a test knows. That of a class or of a module may be for its other tests, unless this one has no
+    other."""
     node = metafunc.definition
     taken = [fixture for fixture in _FIXTURES if fixture in metafunc.fixturenames]
     own = {marker.name for marker in node.own_markers}
     marks = {marker.name for marker in node.iter_markers() if marker.name.startswith("blobcrash")}
     for name in sorted(marks - set(taken)):
         if name not in _FIXTURES:
-            raise pytest.UsageError(f"{node.nodeid}: there is no mark `{name}`: the marks are {' and '.join(map('`{}`'.format, _FIXTURES))}")
+            raise pytest.UsageError(f"{node.nodeid}: there is no mark `{name}`: the marks are `{'` and `'.join(_FIXTURES)}`")
         if name in own or (taken and not marks & set(taken)):
             takes = f"takes `{taken[0]}`, whose mark is `{taken[0]}`" if taken else f"doesn't take `{name}`"
             raise pytest.UsageError(f"{node.nodeid}: the mark `{name}` is that of the fixture `{name}`, and the test {takes}")
@@ -169,7 +170,7 @@ def pytest_runtest_makereport(item: Any, call: Any) -> Iterator[None]:
     if fixture is not None and call.when in ("setup", "call") and report.failed:
         lines: List[str] = show(item, call, fixture, store, _arguments(item, fixture))
         report.sections.append(("blobcrash", "\n".join(lines)))
-    elif fixture is not None and call.when == "call" and report.passed:
+    elif store is not None and call.when == "call" and report.passed:
         report.blobcrash_met = store._unsynced.met
 
 
