@@ -14,6 +14,8 @@ case $#:${1:-} in
         shift
         exec "$tool" "$@"
     fi
+    echo "blobcrash: the mount isn't installed (the package blobcrash-mount of a release)" >&2
+    exit 127
     ;;
 *:?*)
     if [ -x "$prefix/libexec/blobcrash/blobcrash_$1" ]; then

@@ -3,25 +3,25 @@
 
     seeds.py COUNT [--forget-sync]
 
-If some fail: how many, the first of them, its script cut to the lines that it takes, and what that prints, with status 1. That takes the
-library (`sh bindings/build.sh`).
+If some fail: how many, the first of them, its script cut to the lines that it takes, and what that prints, with status 1. The runs are
+in-process, by the library; with the path of a program in BLOBCRASH they use that.
 """
 
 import functools
 import multiprocessing
 import os
-import subprocess
 import sys
 
 import log
 import blobcrash
 
 
-def build():
-    """Builds the program once. All runs then start it directly."""
-    if "BLOBCRASH" not in os.environ:
-        subprocess.run([blobcrash.program()], stdin=subprocess.DEVNULL, check=True)
-        os.environ["BLOBCRASH"] = os.path.join(blobcrash.TOP, "out", "blobcrash")
+def way():
+    """The way to the layer. The library is opened once before there are workers: a clone may compile it now."""
+    if "BLOBCRASH" in os.environ:
+        return blobcrash.Program
+    blobcrash.Store(by=blobcrash.Library).close()
+    return blobcrash.Library
 
 
 def show(seed, reason, script):
@@ -35,9 +35,9 @@ def show(seed, reason, script):
 
 def main(arguments):
     count, forgets_sync = int(arguments[0]), "--forget-sync" in arguments
-    build()
+    run = functools.partial(log.broken_script, forgets_sync=forgets_sync, by=way())
     with multiprocessing.Pool() as pool:
-        broken = pool.map(functools.partial(log.broken_script, forgets_sync=forgets_sync), range(count), chunksize=8)
+        broken = pool.map(run, range(count), chunksize=8)
     failing = [seed for seed in range(count) if broken[seed] is not None]
     if not failing:
         print(f"{count} seeds, none fails")

@@ -76,9 +76,10 @@ def test_each_length_of_a_partial_truncation():
 
 def test_choices_and_paths():
     failed = raises(Failed, explore, forgets, files="xfs")
-    assert failed.path == "0/2 max" and failed.reason == "AssertionError: the name is lost", (failed.path, failed.reason)
+    # The edit is lost, and then the sector of the write is kept.
+    assert failed.path == "0/2 max 0" and failed.reason == "AssertionError: the name is lost", (failed.path, failed.reason)
     assert "its calls:" in str(failed) and "    create /f # is 0" in str(failed), failed
-    assert failed.script[:2] == ["words max", "profile xfs"], failed.script
+    assert failed.script[:2] == ["words max 0", "profile xfs"], failed.script
     again = raises(Failed, explore, forgets, files="xfs", under=[failed.path])
     assert again.script == failed.script and again.run == 1
     copy = pickle.loads(pickle.dumps(failed))
@@ -138,7 +139,7 @@ def test_bodies_that_go_wrong():
     error = raises(NotDeterministic, explore, differs, files="xfs")
     assert "mkdir /d" in str(error), error
     error = raises(TooLong, explore, endless, files="xfs", calls_per_run=50)
-    assert error.script == ["profile xfs"], error.script
+    assert error.script == ["profile xfs", "config write 0 1 1 2 sectors 512"], error.script
     assert raises(NoRuns, explore, endless, files="xfs", seconds=0.01, calls_per_run=10**9).rest == ("",)
     kept = []
     explore(kept.append, files=True)

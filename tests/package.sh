@@ -55,6 +55,13 @@ with blobcrash.Store(seed=7) as store:
     store.restart()
     assert store.open("p", b"b")[1] == 6'
 tell $? 'a store of the installed package'
+run "$python" -c '
+import re
+from importlib.metadata import metadata
+page = metadata("blobcrash").get_payload()
+block = re.search(r"(?m)(^    from .*\n)((    .*)?\n)*", page)[0]
+exec("".join(line[4:] or "\n" for line in block.splitlines(keepends=True)))' && grep -qx 'fails on xfs btrfs posix' "$work/out"
+tell $? 'its description prints what it says'
 [ -f "$work/site/blobcrash/py.typed" ]
 tell $? 'it has type hints'
 run "$python" -m blobcrash "$top/examples/FIRST.script" && cmp -s "$work/out" "$top/examples/FIRST.out"

@@ -1,5 +1,5 @@
-"""The pytest plugin: options, names of files, the fixture, smaller runs, pictures, and what is no option. It is run by a Python that has
-pytest, with the package on its path. The last line is `N passed, M failed`. With the name of a test only that one is run."""
+"""The pytest plugin: options, marks, names of files, the fixtures, smaller runs, pictures, and what is no option. It is run by a Python
+that has pytest, with the package on its path. The last line is `N passed, M failed`. With the name of a test only that one is run."""
 
 import glob
 import os
@@ -226,6 +226,91 @@ def test_what_is_no_option():
         assert ran.status not in (0, 1, 5) and ran.counted("passed") == 0, (arguments, ran.text)
     ran = Ran(text.replace("ARGUMENTS", "seeds=1, frob=1"))
     assert ran.status == 1 and "frob" in ran.text, ran.text
+
+
+REPLACES = """
+def replaces(files):
+    for content in (b"old", b"new"):
+        with files.open("/new", "wb") as file:
+            file.write(content)
+        files.rename("/new", "/f")
+        if content == b"old":
+            files.settle()
+    files.restart()
+    with files.open("/f") as file:
+        assert file.read() in (b"old", b"new")
+"""
+
+
+def test_every_profile():
+    """By hand, from docs/FILES.md: only on ext4 a rename flushes the new bytes."""
+    text = f"{REPLACES}\nMARK\ndef test_it(blobcrash_files):\n    replaces(blobcrash_files)\n"
+    for mark in ("", "@pytest.mark.blobcrash_files(seeds=20)", "@pytest.mark.blobcrash_files(profile='all')"):
+        ran = Ran(text.replace("MARK", mark), "--blobcrash-shrink=0")
+        assert ran.counted("passed") + ran.counted("failed") == 80, (mark, ran.text)
+        failed = set(re.findall(r"FAILED test_it.py::test_it\[(\w+)-seed=", ran.text))
+        assert failed == {"xfs", "btrfs", "posix"}, (mark, failed)
+    for name in ("profile", "files"):
+        ran = Ran(text.replace("MARK", f"@pytest.mark.blobcrash_files(seeds=20, {name}='ext4')"))
+        assert ran.counted("passed") == 20 and "test_it[seed=19]" in ran.text, ran.text
+    ran = Ran(text.replace("MARK", ""), "--blobcrash-seed=3")
+    assert [ran.text.count(f"test_it[{profile}-seed=3]") for profile in ("ext4", "xfs", "btrfs", "posix")] >= [1] * 4, ran.text
+
+
+def test_a_mark_of_another_fixture():
+    uses, stores = "(blobcrash_files):\n    pass\n", "(blobcrash):\n    pass\n"
+    for text, why in (
+        ("@pytest.mark.blobcrash(profile='xfs')\ndef test_it" + uses, "takes `blobcrash_files`, whose mark is `blobcrash_files`"),
+        ("@pytest.mark.blobcrash(files='xfs')\n@pytest.mark.blobcrash_files()\ndef test_it" + uses, "takes `blobcrash_files`"),
+        ("pytestmark = pytest.mark.blobcrash(files='xfs')\ndef test_it" + uses, "takes `blobcrash_files`"),
+        ("@pytest.mark.blobcrash_files(profile='xfs')\ndef test_it" + stores, "takes `blobcrash`, whose mark is `blobcrash`"),
+        ("@pytest.mark.blobcrash(seeds=2)\ndef test_it():\n    pass\n", "doesn't take `blobcrash`"),
+        ("@pytest.mark.blobcrash_file(seeds=2)\ndef test_it" + uses, "there is no mark `blobcrash_file`"),
+        ("@pytest.mark.blobcrash(profile='xfs')\ndef test_it" + stores, "a store has no `profile`"),
+        ("@pytest.mark.blobcrash(files='xfs')\ndef test_it" + stores, "a store has no `files`"),
+        ("@pytest.mark.blobcrash_files(profile='ext3')\ndef test_it" + uses, "ext4, xfs, btrfs, posix"),
+        ("@pytest.mark.blobcrash_files(profile='xfs', files='xfs')\ndef test_it" + uses, "another name"),
+    ):
+        ran = Ran(text)
+        assert ran.status not in (0, 1, 5) and ran.counted("passed") == 0 and why in ran.text, (text, ran.text)
+    # A mark of a module may be for its other tests.
+    both = "@pytest.mark.blobcrash_files(seeds=2, profile='xfs')\ndef test_files" + uses + "def test_plain():\n    pass\n"
+    ran = Ran("pytestmark = pytest.mark.blobcrash(seeds=3, by=Library)\ndef test_store" + stores + both)
+    assert ran.counted("passed") == 3 + 2 + 1 and ran.status == 0, ran.text
+
+
+def test_writes_that_could_not_be_kept():
+    text = """
+def writes(store, syncs):
+    blob, _ = store.open("p", b"b")
+    blob.write(0, b"a", sync=syncs)
+    store.restart()
+
+MARK
+def test_it(blobcrash):
+    writes(blobcrash, SYNCS)
+"""
+    note = "blobcrash: test_it.py::test_it: no unsynced write could be kept: set `write 0 1 1 2 sectors 512`"
+    for mark, syncs, wanted in ((ALL, False, 1), (HALF, False, 0), (ALL, True, 0)):
+        ran = Ran(text.replace("MARK", f"@pytest.mark.blobcrash(seeds=3, {mark})").replace("SYNCS", str(syncs)))
+        assert ran.counted("passed") == 3 and ran.text.split("\n").count(note) == wanted, (mark, syncs, ran.text)
+    files = """
+MARK
+def test_it(blobcrash_files):
+    for content in (b"a", b"b"):
+        with blobcrash_files.open("/f", "wb" if content == b"a" else "r+b") as file:
+            file.write(1024 * content)
+        if content == b"a":
+            blobcrash_files.settle()
+    blobcrash_files.restart()
+    with blobcrash_files.open("/f") as file:
+        print("left", file.read()[::512])
+"""
+    ran = Ran(files.replace("MARK", "@pytest.mark.blobcrash_files(seeds=30)"))
+    # By hand: each of the two sectors is kept or lost.
+    assert set(re.findall("left b'(..)'", ran.text)) == {"aa", "ab", "ba", "bb"} and note not in ran.text, ran.text
+    ran = Ran(files.replace("MARK", "@pytest.mark.blobcrash_files(seeds=30, settings=['write 0 1 0 1 prefix'])"))
+    assert set(re.findall("left b'(..)'", ran.text)) == {"aa"} and ran.text.split("\n").count(note) == 1, ran.text
 
 
 def test_pictures():

@@ -71,12 +71,13 @@ fi
 need_program explain explore files states
 sh "$top/bindings/build.sh" || give_up "the library can't be built"
 kit=$(dirname -- "$(dirname -- "$(readlink -f -- "$(command -v rt || echo /opt/rattle/bin/rt)")")")
-mode=--draft
-[ -z "$all" ] || mode=
+url=https://example.org/crash/blobcrash
+mode="--draft --url $url"
+[ -z "$all" ] || mode="--url $url"
 # shellcheck disable=SC2086
 ok 'a release' "$top/tools/release" $mode --out "$released"
 [ -f "$released/SHA256SUMS" ] || finish
-for name in PROVED 'blobcrash-*-x86_64-linux.tar.xz' 'blobcrash-*-py3-none-manylinux_2_17_x86_64.whl' 'blobcrash_*_amd64.deb' \
+for name in PROVED 'blobcrash-*-x86_64-linux.tar.xz' 'blobcrash-*-py3-none-manylinux_2_17_x86_64.whl' 'blobcrash_*_amd64.deb' 'blobcrash-mount_*_amd64.deb' \
     'libblobcrash*_amd64.deb' 'libblobcrash-dev_*_amd64.deb' 'blobcrash-*.spdx.json'; do
     # shellcheck disable=SC2086
     ok "it has $name" sh -c 'ls "$1"/'$name sh "$released"
@@ -87,7 +88,37 @@ ok 'the SBOM' python3 -c 'import json, sys
 document = json.load(open(sys.argv[1]))
 names = {it["name"]: it for it in document["packages"]}
 assert names["hex"]["versionInfo"] == "0.4.3" and names["hex"]["licenseDeclared"] == "Apache-2.0 OR MIT", names["hex"]
+assert names["commonware-runtime"]["versionInfo"] == "2026.10.0", names["commonware-runtime"]
 assert {it["relatedSpdxElement"] for it in document["relationships"]} == {it["SPDXID"] for it in document["packages"]}' "$released"/*.spdx.json
+
+# What it says of itself to those who pass it on: the address, the credit, the description; and what each package needs.
+mkdir "$work/parts"
+(cd "$work/parts" && tar -xJf "$released"/*.tar.xz --strip-components=1 && python3 -m zipfile -e "$released"/*.whl .) || fail 'unpack'
+for name in blobcrash blobcrash-mount; do
+    dpkg-deb -f "$released/$name"_*.deb >"$work/parts/$name.control"
+    dpkg-deb --fsys-tarfile "$released/$name"_*.deb | tar -tf - >"$work/parts/$name.files"
+done
+dpkg-deb --fsys-tarfile "$released"/blobcrash_*.deb | tar -xOf - ./usr/share/doc/blobcrash/copyright >"$work/parts/copyright"
+ok 'PROVED has the address' grep -qx "url       $url" "$released/PROVED"
+ok 'the packages have it' grep -qx "Homepage: $url" "$work/parts/blobcrash.control"
+ok 'the crate has it' [ "$(grep -c "= \"$url\"\$" "$work/parts/share/blobcrash/rust/Cargo.toml")" -eq 3 ]
+metadata=$(ls "$work"/parts/blobcrash-*.dist-info/METADATA)
+for field in 'Author: The Zofemiru developers' "Project-URL: Homepage, $url" 'Classifier: Framework :: Pytest' 'License-File: NOTICE' '# blobcrash'; do
+    ok "the wheel: $field" grep -qx "$field" "$metadata"
+done
+ok 'no file has the placeholder' sh -c '! grep -rq "blobcrash\.invalid" "$1"/share/blobcrash "$1"/blobcrash-*.dist-info "$1"/*.control' sh "$work/parts"
+for file in share/doc/blobcrash/NOTICE copyright; do
+    ok "credit in $file" grep -q 'crates.io/crates/commonware-runtime' "$work/parts/$file"
+done
+ok 'that of the mount has the mount' grep -q '/blobcrash_mount$' "$work/parts/blobcrash-mount.files"
+ok 'that of the programs has none of it' sh -c '! grep -q "_mount$\|/mountctl$\|adapters" "$1"' sh "$work/parts/blobcrash.files"
+dpkg-deb -x "$released"/blobcrash_*.deb "$work/only"
+"$work/only/usr/bin/blobcrash" mount "$work/parts" >"$work/out" 2>&1
+ok 'without the mount' [ "$?:$(cat "$work/out")" = "127:blobcrash: the mount isn't installed (the package blobcrash-mount of a release)" ]
+for bad in 'example.org' 'https://' 'https://a b' 'https://a"b'; do
+    "$top/tools/release" --draft --url "$bad" --out "$work/none" >"$work/out" 2>&1
+    ok "no address: $bad" [ $? -eq 2 ]
+done
 
 # Again, from a copy in another folder.
 if [ -z "$all" ]; then
@@ -108,7 +139,7 @@ if [ -z "$all" ]; then
     ! has taskset || one='taskset -c 0'
     # shellcheck disable=SC2086,SC2016
     ok 'a release from another folder' env TZ=Asia/Tokyo LC_ALL=C sh -c 'umask 077 && exec "$@"' sh \
-        $one "$copy/tools/release" --draft --out "$again"
+        $one "$copy/tools/release" $mode --out "$again"
     ok 'it is the same to the byte' diff -r "$released" "$again"
     rm -rf "$copy" "$again"
 else
@@ -118,7 +149,7 @@ else
     taskset -c 0 "$top/tools/release" --verify "$work/changed/SHA256SUMS" --kept >"$work/out" 2>"$work/err"
     ok 'the commit built again, on one processor: a changed file differs' [ $? -eq 1 ]
     ok 'that file alone' sh -c '[ "$(grep -c ": differs$" "$1")" = 1 ] && grep -q "\.spdx\.json: differs$" "$1"' sh "$work/out"
-    ok 'the others are the same' [ "$(grep -c ': the same$' "$work/out")" -eq 7 ]
+    ok 'the others are the same' [ "$(grep -c ': the same$' "$work/out")" -eq 8 ]
     grep -q ': the same$' "$work/out" || tail -n 20 "$work/err"
 fi
 
@@ -148,6 +179,7 @@ if objdump -T "$program" | grep -q '(GLIBC_2\.34)'; then
     leave_out 'the C library that the program needs: the gate took it from an earlier run'
 else
     ok 'the C library that the program needs' needs_old "$program"
+    ok 'its package needs no newer one, and no Python' grep -Eqx 'Depends: libc6 \(>= 2\.([0-9]|1[0-7])\)' "$work/parts/blobcrash.control"
 fi
 if has qemu-x86_64; then
     for processor in Nehalem:0 Conroe:127; do

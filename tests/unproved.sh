@@ -51,11 +51,7 @@ fi
 
 # A clone without a proved library.
 clone=$work/clone
-mkdir "$clone"
-(cd "$top" && git archive HEAD 2>/dev/null | tar -x -C "$clone" && cp -R HANDLES crates.txt tools bindings adapters "$clone/")
-rm -rf "$clone/crates"
-mkdir "$clone/crates"
-(cd "$top/crates" && tar -c --exclude=out . | tar -x -C "$clone/crates")
+copy_sources "$clone"
 note='not proved yet: sh bindings/build.sh proves and builds the library, about N minutes'
 said() { sed 's/about [0-9]* minutes/about N minutes/' "$work/err"; }
 run sh "$clone/bindings/build.sh" --unproved
@@ -72,6 +68,10 @@ PYTHON
 if has_python; then
     run env PYTHONPATH="$clone/bindings/python" python3 "$work/stores.py"
     ok 'Python takes it, and says so once' [ "$status:$(said)" = "0:$note" ]
+    run env PYTHONPATH="$clone/bindings/python" python3 -m blobcrash version
+    ok 'its version says so' [ "$status:$(cat "$work/out")" = "0:blobcrash $(sed -n 's/^__version__ = "\(.*\)"/\1/p' "$top/bindings/python/blobcrash/__init__.py"), not proved" ]
+    run env PYTHONPATH="$clone/bindings/python" python3 -m blobcrash version more
+    ok 'arguments of version' [ "$status" -eq 2 ]
     run env BLOBCRASH_PROVED=1 PYTHONPATH="$clone/bindings/python" python3 "$work/stores.py"
     ok 'with BLOBCRASH_PROVED it doesn'"'"'t' grep -q 'LibraryMissing' "$work/err"
 fi
@@ -85,6 +85,11 @@ if has cargo; then
     run env CARGO_TARGET_DIR="$work/target" cargo run --offline --manifest-path "$clone/bindings/rust/Cargo.toml" --example first
     ok 'Rust' [ "$status:$(cat "$work/out")" = '0:63 of 64 outcomes lose a part of it' ]
     ok 'it says so' grep -q 'not proved yet' "$work/err"
+    mkdir -p "$work/mine/src"
+    printf '[package]\nname = "mine"\nedition = "2024"\n[dependencies]\nblobcrash = { path = "%s" }\n' "$clone/bindings/rust" >"$work/mine/Cargo.toml"
+    echo 'fn main() { println!("{} {}", blobcrash::version(), blobcrash::is_proved()); }' >"$work/mine/src/main.rs"
+    run env CARGO_TARGET_DIR="$work/target" cargo run -q --offline --manifest-path "$work/mine/Cargo.toml"
+    ok 'its version says so' grep -qx 'blobcrash [0-9.]*, not proved false' "$work/out"
 else
     skip 'Rust: there is no cargo'
 fi
@@ -105,6 +110,8 @@ for checked in '' --checked; do
 4357494300000005616263
 IN
     ok "its output $checked" [ "$status:$(cat "$work/out")" = '0:valid 3 5 8' ]
+    run "$1" version
+    ok "its version $checked" grep -q '^blobcrash [0-9.]*, not proved yet with rattle-kit' "$work/out"
     # The sanitizer's functions are in it, or not.
     if grep -q __asan_init "$1"; then found=--checked; else found=; fi
     ok "its checks $checked" [ "$found" = "$checked" ]

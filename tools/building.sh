@@ -15,6 +15,11 @@ version() {
     sed -n 's/^const VERSION: &str = "\(.*\)";$/\1/p' "$top/crates/blobcrash/src/main.rt"
 }
 
+# version_here: as `version`, if the program here is proved, and else that it isn't.
+version_here() {
+    if is_built "$top/out/blobcrash" blobcrash; then version; else version | sed 's/, proved with /, not proved yet with /'; fi
+}
+
 # help_of NAME: the help of the program NAME, as it prints it.
 help_of() {
     sed -n '/^const HELP: &str = "/,/";$/ { s/^const HELP: &str = "//; s/";$//; p; }' "$top/crates/$1/src/main.rt"

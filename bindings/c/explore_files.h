@@ -3,7 +3,7 @@
  *
  *     struct blobcrash_paths paths = {.power_losses = 1};
  *     struct blobcrash_files files = {0};
- *     const char *settings = "profile xfs\nconfig write 0 1 1 2 sectors 512\n";
+ *     const char *settings = "profile xfs\n";
  *     int status;
  *     while ((status = blobcrash_next_files_run(&paths, &files, settings)) == BLOBCRASH_EXPLORE_RUN) {
  *         ... explored calls of the files, the same ones for the same replies ...
@@ -26,13 +26,40 @@
 #include "blobcrash_files.h"
 #include "explore.h"
 
-/* As blobcrash_next_run. The settings are those of blobcrash_files_open. */
+/* What the files of a run begin with, as a mount does, if no setting is one of writes: a crash keeps half of the unsynced sectors. */
+#define BLOBCRASH_TORN_WRITES "config write 0 1 1 2 sectors 512\n"
+
+/* Returns whether a line of the settings is one of writes. */
+static inline bool blobcrash_sets_writes(const char *settings) {
+    static const char *const words[] = {"config", "write"};
+    for (const char *line = settings; line != NULL && *line != 0; line = strchr(line, '\n') == NULL ? NULL : strchr(line, '\n') + 1) {
+        const char *at = line;
+        size_t word = 0;
+        for (; word < 2; word++) {
+            at += strspn(at, " ");
+            if (strncmp(at, words[word], strlen(words[word])) != 0) break;
+            at += strlen(words[word]);
+        }
+        if (word == 2 && *at == ' ') return true;
+    }
+    return false;
+}
+
+/* As blobcrash_next_run. The settings are those of blobcrash_files_open; before them come BLOBCRASH_TORN_WRITES, unless one of them is of
+ * writes. */
 static inline int blobcrash_next_files_run(struct blobcrash_paths *paths, struct blobcrash_files *files, const char *settings) {
-    char *preamble;
+    const char *torn = blobcrash_sets_writes(settings) ? "" : BLOBCRASH_TORN_WRITES;
+    char *preamble, *lines = (char *)malloc(strlen(torn) + strlen(settings) + 1);
     size_t len;
-    int status = blobcrash_next_path(paths, settings, &preamble, &len);
-    if (status != BLOBCRASH_EXPLORE_RUN) return status;
-    return blobcrash_begin_run(paths, blobcrash_files_open(files, (const uint8_t *)preamble, len).status, preamble, settings);
+    if (lines == NULL) return BLOBCRASH_EXPLORE_NO_MEMORY;
+    strcpy(lines, torn);
+    strcat(lines, settings);
+    int status = blobcrash_next_path(paths, lines, &preamble, &len);
+    if (status == BLOBCRASH_EXPLORE_RUN) {
+        status = blobcrash_begin_run(paths, blobcrash_files_open(files, (const uint8_t *)preamble, len).status, preamble, lines);
+    }
+    free(lines);
+    return status;
 }
 
 /* As blobcrash_end_run. */

@@ -47,6 +47,11 @@ fn main() {
             library.display()
         );
     }
+    println!("cargo:rustc-check-cfg=cfg(blobcrash_unproved)");
+    let mark = b"blobcrash_unproved";
+    if std::fs::read(&library).is_ok_and(|bytes| bytes.windows(mark.len()).any(|at| at == mark)) {
+        println!("cargo:rustc-cfg=blobcrash_unproved");
+    }
     println!("cargo:rustc-link-search=native={directory}");
     println!("cargo:rustc-link-lib=static=blobcrash");
 }

@@ -1,4 +1,4 @@
-"""The Debian packages: the programs with the mount, the shared library, and what programs in C and Rust are built with."""
+"""The Debian packages: the programs, the mount, the shared library, and what programs in C and Rust are built with."""
 
 import hashlib
 import shutil
@@ -21,7 +21,12 @@ Comment: The licences of the libraries that are linked in are the files
  /usr/share/doc/blobcrash/licenses/CRATE/LICENSE* of the package blobcrash.
 
 Files: *
-Copyright: {year} the blobcrash maintainers
+Copyright: 2026 The Zofemiru developers
+License: Apache-2.0
+Comment: A port of the storage layer of commonware-runtime and of its tests
+ (https://crates.io/crates/commonware-runtime, MIT OR Apache-2.0, by the authors
+ of the Commonware monorepo), taken under the Apache License, Version 2.0.
+
 License: Apache-2.0
  On Debian systems, the complete text of the Apache License, Version 2.0, is in
  /usr/share/common-licenses/Apache-2.0.
@@ -49,12 +54,12 @@ class Package:
         """Adds the licence, and a changelog that says where to read what changed."""
         documents = self.folder / "usr/share/doc" / self.name
         documents.mkdir(parents=True, exist_ok=True)
-        (documents / "copyright").write_text(COPYRIGHT.format(year=commit.time.year), encoding="utf-8")
+        (documents / "copyright").write_text(COPYRIGHT, encoding="utf-8")
         entry = f"blobcrash ({version}) unstable; urgency=medium\n\n  * What changed is in CHANGELOG.md of the package blobcrash.\n\n" \
                 f" -- {commit.author}  {commit.time:%a, %d %b %Y %H:%M:%S +0000}\n"
         (documents / "changelog.gz").write_bytes(gzipped(entry))
 
-    def write_control(self, version, author):
+    def write_control(self, version, author, url):
         """Writes the folder DEBIAN, with the size and the sums of the files."""
         all_paths = files_in(self.folder)
         files = [path for path in all_paths if (self.folder / path).is_file() and not (self.folder / path).is_symlink()]
@@ -62,7 +67,7 @@ class Package:
         about = textwrap.fill(" ".join(f"{ABOUT} {self.about}".split()), 78, initial_indent=" ", subsequent_indent=" ")
         source = {} if self.name == "blobcrash" else {"Source": "blobcrash"}
         lines = {"Package": self.name, **source, "Version": version, "Architecture": "amd64", "Maintainer": author,
-                 "Installed-Size": size, "Priority": "optional", **self.fields}
+                 "Installed-Size": size, "Priority": "optional", "Homepage": url, **self.fields}
         sums = (f"{hashlib.md5((self.folder / path).read_bytes()).hexdigest()}  {path}\n" for path in files)
         texts = {"control": "".join(f"{key}: {value}\n" for key, value in lines.items()) + about + "\n", "md5sums": "".join(sums), **self.control}
         (self.folder / "DEBIAN").mkdir()
@@ -86,7 +91,7 @@ def library_package(kit, tree, version, soname, folder):
     """Makes the package of the shared library."""
     name = soname.replace(".so.", "")
     file = tree / LIBRARIES / f"libblobcrash.so.{version}"
-    fields = {"Section": "libs", "Depends": "libc6 (>= {}.{})".format(*glibc_of(kit, file)[:2]), "Multi-Arch": "same",
+    fields = {"Section": "libs", "Depends": needs_of(kit, file), "Multi-Arch": "same",
               "Description": f"{SUMMARY} - library"}
     symbols = "".join(f" {symbol}@Base {version}\n" for symbol in names_of(kit, file))
     control = {"shlibs": f"libblobcrash {soname.rpartition('.so.')[2]} {name} (>= {version})\n", "triggers": "activate-noawait ldconfig\n",
@@ -112,6 +117,27 @@ def development_package(tree, version, library, folder):
     return package
 
 
+def needs_of(kit, *files):
+    """Returns the C library that these files need, as a dependency."""
+    return "libc6 (>= {}.{})".format(*glibc_of(kit, *files)[:2])
+
+
+def mount_package(kit, tree, version, folder):
+    """Makes the package of the mount. Its daemon needs a newer C library than the programs do."""
+    name, daemon = "blobcrash-mount", "libexec/blobcrash/blobcrash_mount"
+    needs = f"blobcrash (= {version}), {needs_of(kit, tree / daemon)}, python3:any (>= 3.8)"
+    fields = {"Section": "devel", "Depends": needs, "Recommends": "fuse3", "Description": f"{SUMMARY} - mount"}
+    about = "This package has a mount for any program, and what takes programs through power losses on it."
+    package = Package(name, about, fields, folder / name)
+    documents = tree / "share/doc" / name
+    (documents / "licenses").mkdir(parents=True)
+    for path in ("mount", "licenses/libfuse3"):
+        if (tree / "share/doc/blobcrash" / path).exists():
+            shutil.move(tree / "share/doc/blobcrash" / path, documents / path)
+    package.put(tree, daemon, "share/blobcrash/tools", "share/blobcrash/adapters", f"share/doc/{name}")
+    return package
+
+
 def program_package(kit, tree, folder):
     """Makes the package of the programs, out of what the other packages have left."""
     page = tree / "share/man/man1/blobcrash.1"
@@ -119,21 +145,22 @@ def program_package(kit, tree, folder):
     page.unlink()
     # Debian has the licence already.
     (tree / "share/doc/blobcrash/LICENSE").unlink()
-    needs = "libc6 (>= {}.{})".format(*glibc_of(kit, *binaries(tree))[:2])
-    fields = {"Section": "devel", "Depends": f"{needs}, python3:any (>= 3.8)", "Recommends": "fuse3",
-              "Description": SUMMARY}
-    about = "This package has the programs, which run scripts, and a mount for any program."
-    package = Package("blobcrash", about, fields, folder / "blobcrash")
+    fields = {"Section": "devel", "Depends": needs_of(kit, *binaries(tree)), "Suggests": "blobcrash-mount", "Description": SUMMARY}
+    package = Package("blobcrash", "This package has the programs, which run scripts.", fields, folder / "blobcrash")
     package.put(tree, *sorted(it.name for it in tree.iterdir()))
     return package
 
 
-def write_packages(kit, tree, version, soname, commit, work, folder):
+def write_packages(kit, tree, version, soname, commit, url, work, folder):
     """Writes the packages of a tree, which they take apart."""
     move_libraries(tree)
     library = library_package(kit, tree, version, soname, work)
-    for package in (library, development_package(tree, version, library.name, work), program_package(kit, tree, work)):
+    packages = [library, development_package(tree, version, library.name, work)]
+    # A draft may have no mount.
+    if (tree / "libexec/blobcrash/blobcrash_mount").exists():
+        packages.append(mount_package(kit, tree, version, work))
+    for package in (*packages, program_package(kit, tree, work)):
         package.document(version, commit)
-        package.write_control(version, commit.author)
+        package.write_control(version, commit.author, url)
         set_modes(package.folder)
         write_deb(package.folder, folder / f"{package.name}_{version}_amd64.deb", commit.seconds)

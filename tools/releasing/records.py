@@ -25,11 +25,12 @@ def gate_line():
     return found[-1] if found and is_same else None
 
 
-def proved(kit, tree, commit, gate):
+def proved(kit, tree, commit, gate, url):
     """Returns the text of PROVED: the release, the commit and the toolchain, the gate's last line, and the sums of what was proved and of
     what was built of it."""
     lines = [f"release   {shell('version').split(' (')[0].strip()}", f"commit    {commit.name}",
-             f"time      {commit.time:%Y-%m-%dT%H:%M:%SZ}", f"toolchain {toolchain_line(kit)}", f"gate      {gate or NO_GATE}"]
+             f"time      {commit.time:%Y-%m-%dT%H:%M:%SZ}", f"toolchain {toolchain_line(kit)}", f"gate      {gate or NO_GATE}",
+             f"url       {url}"]
     lines += ["", "# Each crate that is linked in, with the SHA-256 of its sources and of those of all crates below it."]
     lines += [f"{name} {shell('sum_of', TOP, name).strip()}" for name in linked_crates(kit)[0]]
     lines += ["", "# The programs and libraries, with their SHA-256."]
@@ -71,11 +72,12 @@ def package(name, version, licence, **more):
     return {**made, "versionInfo": version} if version else made
 
 
-def packages(kit, version):
+def packages(kit, version, url):
     """Returns the packages of the SBOM: first this one, then each with its relation to it."""
     kit_name = toolchain_line(kit).split()[0]
-    own = package("blobcrash", version, "Apache-2.0", primaryPackagePurpose="LIBRARY")
-    linked = []
+    own = package("blobcrash", version, "Apache-2.0", primaryPackagePurpose="LIBRARY", homepage=url)
+    original = re.search(r"commonware-runtime (\S+),", (TOP / "NOTICE").read_text(encoding="utf-8"))[1]
+    linked = [(package("commonware-runtime", original, "MIT OR Apache-2.0", comment="What blobcrash is a port of."), "DESCENDANT_OF")]
     for name in linked_crates(kit)[1]:
         ported = version_of(kit, name)
         comment = f"A port of the Rust crate {name} {ported} in {kit_name}." if ported else f"A crate of {kit_name}."
@@ -87,9 +89,9 @@ def packages(kit, version):
     return own, linked
 
 
-def sbom(kit, version, commit):
+def sbom(kit, version, commit, url):
     """Returns the SBOM, as JSON of SPDX 2.3."""
-    own, linked = packages(kit, version)
+    own, linked = packages(kit, version, url)
     relations = [("SPDXRef-DOCUMENT", "DESCRIBES", own["SPDXID"])] + [(own["SPDXID"], how, it["SPDXID"]) for it, how in linked]
     number = uuid.uuid5(uuid.NAMESPACE_URL, f"blobcrash {version} {commit.name}")
     document = {

@@ -14,6 +14,8 @@ from releasing.needs import toolchain_tool
 FUSE_LIBS = "-Wl,-Bstatic -lfuse3 -Wl,-Bdynamic -lpthread -ldl"
 # Its licence, as Debian has it.
 FUSE_LICENCE = ("/usr/share/doc/libfuse3-dev/copyright", "/usr/share/common-licenses/LGPL-2.1")
+# The address of the project in what describes packages, until the maker of a release gives one.
+NO_URL = "https://blobcrash.invalid"
 # What a user copies and changes, below share/doc/blobcrash/examples.
 C_EXAMPLES = ("first.c", "first_files.c", "log.c", "explore_log.c", "files.c", "files_faults.c", "files_checks.h",
               "explore_files.c")
@@ -80,7 +82,8 @@ def linked_crates(kit):
 def add_licences(tree, kit):
     """Adds the licence, and those of the toolchain's crates that are linked in."""
     documents = tree / "share/doc/blobcrash"
-    copy(TOP / "LICENSE", documents / "LICENSE")
+    for name in ("LICENSE", "NOTICE"):
+        copy(TOP / name, documents / name)
     for name in linked_crates(kit)[1]:
         for file in sorted((kit / "rattle" / name).glob("LICENSE*")):
             copy(file, documents / "licenses" / name / file.name)
@@ -94,11 +97,17 @@ def binaries(tree):
     return sorted([*(tree / "libexec/blobcrash").iterdir(), *(it for it in tree.rglob("*.so*") if not it.is_symlink())])
 
 
-def make(kit, work):
+def set_url(file, url):
+    """Gives a file that describes a package the address of the project."""
+    file.write_text(file.read_text(encoding="utf-8").replace(NO_URL, url), encoding="utf-8")
+
+
+def make(kit, work, url):
     """Makes the folder of a release."""
     tree = install(work)
     strip(kit, *binaries(tree))
     add_rust(tree, "lib/libblobcrash.a")
+    set_url(tree / "share/blobcrash/rust/Cargo.toml", url)
     add_documents(tree)
     add_licences(tree, kit)
     set_modes(tree)

@@ -8,6 +8,7 @@ import zipfile
 
 from crates import TOP
 from releasing.archives import write_zip
+from releasing.tree import copy, set_url
 
 BUILD = "import sys; from setuptools.build_meta import build_wheel; print(build_wheel(sys.argv[1]))"
 
@@ -21,13 +22,17 @@ def python_with_setuptools():
     return None
 
 
-def write_wheel(work, library, platform, folder, time):
-    """Writes the wheel with this shared library to a folder. Returns its path."""
+def write_wheel(work, library, platform, folder, time, url):
+    """Writes the wheel with this shared library and this address to a folder. Returns its path."""
     python = python_with_setuptools()
     if not python:
         raise ValueError("no Python here has setuptools and wheel (Debian: python3-setuptools, python3-wheel)")
     source = work / "python"
     shutil.copytree(TOP / "bindings/python", source, ignore=shutil.ignore_patterns("__pycache__", "build", "*.egg-info"))
+    # setuptools adds them by their names.
+    for name in ("LICENSE", "NOTICE"):
+        copy(TOP / name, source / name)
+    set_url(source / "pyproject.toml", url)
     environment = {**os.environ, "BLOBCRASH_LIBRARY": str(library), "BLOBCRASH_PLATFORM": platform, "PYTHONDONTWRITEBYTECODE": "1",
                    "SOURCE_DATE_EPOCH": str(int(time.timestamp()))}
     made = work / "wheel"

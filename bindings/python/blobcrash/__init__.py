@@ -54,7 +54,7 @@ from .errors import (
     WriteFailed,
     WrongThread,
 )
-from .exploration import Explored, explore
+from .exploration import explore
 from .failures import Failed, TooLong
 from .file_calls import Kept
 from .file_follow import ExploredFiles
@@ -62,18 +62,25 @@ from .file_library import FilesLibrary
 from .file_system import Files, FileStatus
 from .files import BlobFile
 from .follow import ExploredStore, NotDeterministic
-from .foreign import TOP, library
+from .foreign import TOP, is_proved, library
 from .judging import acknowledgement, judge
 from .layers import Library, Program, Reply, explain, program, run
 from .open_file import OpenFile
 from .power import PowerLoss
-from .seeding import Seeded, SeededFiles, SeededStore, seeds
+from .results import Explored, Seeded
+from .seeding import SeededFiles, SeededStore, seeds
 from .shrinking import shrink
 from .spread import LostWork
 from .states import CrashState, CrashStates
 from .store import Store
 
 __version__ = "0.3.0"
+
+
+def version() -> str:
+    """Returns the version of the package, and whether the library that this process uses is proved."""
+    return f"blobcrash {__version__}, {'proved' if is_proved() else 'not proved'}"
+
 
 __all__ = [
     "BadLine",
@@ -135,10 +142,12 @@ __all__ = [
     "cut_lines",
     "explain",
     "explore",
+    "is_proved",
     "judge",
     "library",
     "program",
     "run",
     "seeds",
     "shrink",
+    "version",
 ]

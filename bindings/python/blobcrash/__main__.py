@@ -2,19 +2,27 @@
 
 `python -m blobcrash check [FILE]` says which lines aren't calls, and why; `judge [FILE]` whether acknowledged content is lost;
 `shrink SCRIPT [COMMAND ..]` makes a failing script short; `states [options] SCRIPT -- CHECK ..` checks each state that a crash may leave.
+`version` says whether the library is proved.
 """
 
 import sys
 
-from .commands import OutputFailed, check_command, judge_command, read, shrink_command, write
+from .commands import OutputFailed, check_command, judge_command, read, shrink_command, version_command, write
 from .errors import BadLine
 from .layers import run
 from .states_command import states_command
 
-_COMMANDS = {"check": check_command, "judge": judge_command, "shrink": shrink_command, "states": states_command}
+_COMMANDS = {
+    "check": check_command,
+    "judge": judge_command,
+    "shrink": shrink_command,
+    "states": states_command,
+    "version": version_command,
+    "--version": version_command,
+}
 # Those that have a usage of their own.
 _OWN = (shrink_command, states_command)
-USAGE = "usage: python -m blobcrash [check|judge] [FILE], or shrink SCRIPT [COMMAND ..], or states [options] SCRIPT -- CHECK .."
+USAGE = "usage: python -m blobcrash [check|judge] [FILE], or shrink SCRIPT [COMMAND ..], or states [options] SCRIPT -- CHECK .., or version"
 HELP = f"""{USAGE}
 
 Runs a script, from a file or from standard input, and prints its replies.
@@ -23,6 +31,7 @@ Runs a script, from a file or from standard input, and prints its replies.
   judge   prints what acknowledged content the script loses
   shrink  prints a short script that still fails: COMMAND ends with a status other than 0, or `judge` finds a loss
   states  runs CHECK on each state in which a crash could have left the run; `states --help` has the options
+  version prints the version, and whether the library is proved
 
 docs/GUIDE.md has more, docs/FORMATS.md the lines and the replies.
 """

@@ -68,6 +68,8 @@ class Blob:
         if self._stale:
             self._refuse_stale()
         self._store._write(self._handle, offset, data, bool(sync))
+        if data and not sync:
+            self._store._unsynced.write(self._of)
 
     def resize(self, length: int) -> None:
         """Truncates or extends the blob to a logical length."""
@@ -80,10 +82,13 @@ class Blob:
     def sync(self) -> None:
         """Makes the handle's bytes durable."""
         self._ask(b"sync" + self._argument)
+        self._store._unsynced.sync(self._of)
 
     def start_sync(self) -> int:
         """Starts a sync, and returns its number. `Store.finish` returns its outcome."""
-        return int(self._ask(b"startsync" + self._argument)[len("started ") :])
+        started = int(self._ask(b"startsync" + self._argument)[len("started ") :])
+        self._store._unsynced.sync(self._of)
+        return started
 
     def close(self) -> None:
         """Closes the handle. A stale handle may be closed, and one that `restart` closed stays so."""

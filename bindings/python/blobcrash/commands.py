@@ -1,4 +1,4 @@
-"""The commands `check`, `judge` and `shrink` of `python -m blobcrash`."""
+"""The commands `check`, `judge`, `shrink` and `version` of `python -m blobcrash`."""
 
 from __future__ import annotations
 
@@ -29,6 +29,21 @@ def write(data: bytes) -> None:
             with open(os.devnull, "wb") as null:
                 os.dup2(null.fileno(), sys.stdout.fileno())
         raise OutputFailed from None
+
+
+def version_command(arguments: List[str]) -> int:
+    """Prints the version, and whether the library is proved. Status 1 if there is no library."""
+    from . import version
+
+    if arguments:
+        print("usage: python -m blobcrash version", file=sys.stderr)
+        return 2
+    try:
+        write(f"{version()}\n".encode())
+    except LibraryMissing as error:
+        print(error, file=sys.stderr)
+        return 1
+    return 0
 
 
 def check_command(arguments: List[str]) -> int:

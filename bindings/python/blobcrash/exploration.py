@@ -19,6 +19,7 @@ from __future__ import annotations
 
 import threading
 import time
+from functools import partial
 from typing import Any, Callable, Dict, Iterable, List, NamedTuple, Optional, Tuple, Union
 
 from .bodies import check_body, check_result
@@ -28,13 +29,15 @@ from .failures import Failed, TooLong, reason_of, reporter
 from .file_calls import FileCall
 from .file_follow import ExploredFiles
 from .file_library import files_way
-from .file_settings import file_setting_tokens, files_of, refuse_of_stores
+from .file_settings import ALL, file_setting_tokens, profile_asked, refuse_of_stores
 from .follow import ExploredStore, MoreWords, NotDeterministic, Run
 from .grammar import MAX, image_line, number, setting_tokens
 from .layers import Library, line_of
 from .met import Met
 from .paths import Choice, path_of, text_of
 from .power import PowerLoss
+from .profiles import in_each, paths_of, rest_of
+from .results import Explored, of_profiles, with_note
 from .traversal import Traversal
 
 Body = Callable[..., Any]
@@ -43,31 +46,6 @@ _ROOM = 64
 # A longer line of a report is cut.
 _SHOWN = 80
 _running = threading.local()
-
-
-class Explored(NamedTuple):
-    """What an exploration visited.
-
-    `runs` is how many runs there were. `outcomes` has each value that the body returned, except `None`, and how many runs returned it.
-    `rest` are the subtrees that a limit left; `explore(body, under=rest)` goes on with them. `met` is how many more runs were ended at a
-    `restart(expecting=..)`, since another had come to the same state.
-    """
-
-    runs: int
-    outcomes: Dict[Any, int]
-    rest: Tuple[str, ...]
-    met: int = 0
-
-    @property
-    def complete(self) -> bool:
-        """Whether every run was visited."""
-        return not self.rest
-
-    def __str__(self) -> str:
-        runs = f"{self.runs} run{'' if self.runs == 1 else 's'}"
-        if self.met:
-            runs += f", and {self.met} up to a restart in a state met before"
-        return f"{runs}, all of them" if self.complete else f"{runs}, not all of them: a limit was reached"
 
 
 class Tree(NamedTuple):
@@ -106,11 +84,14 @@ class Part(NamedTuple):
     outcomes: Dict[Any, int]
     rest: List[str]
     met: int
+    # What the crashes met, as `Unsynced.met`.
+    unsynced: int = 0
 
 
 def explore(
     body: Body,
     *,
+    profile: Union[None, bool, str] = None,
     files: Union[None, bool, str] = None,
     settings: Iterable[str] = (),
     images: Iterable[Tuple[str, bytes, bytes]] = (),
@@ -131,7 +112,9 @@ def explore(
     at which calls the power fails, at most that many times a run; the body then catches `PowerLoss`, and lets the store crash and reopen.
     With a `seed` the draws are those of the seed, and only the others are chosen.
 
-    With `files`, the name of a profile or `True` for ext4, the body is called with `Files`, of which `settings` are then.
+    With a `profile`, the name of one or `True` for ext4, the body is called with `Files`, of which `settings` are then. They begin with
+    `write 0 1 1 2 sectors 512`, as a mount does, unless one of them is of writes. With `all` each profile is explored, with the same
+    limit of runs and a share of the time, and `Failed` names those that fail. `files` is another name of it.
 
     `settings`, `images`, `by` and `allow_stale` are those of `Store`. `runs` and `seconds` are limits. Without a limit all runs are made,
     however many there are. After `seconds` a run that is under way is ended at its next call, and is left in `rest`; without an executor
@@ -150,30 +133,24 @@ def explore(
         raise RuntimeError("an explored body can't explore: call `explore` outside of it, and use `store.choose` inside")
     if isinstance(settings, str):
         raise TypeError("settings are a list of texts")
+    asked = profile_asked(profile, files)
+    if asked == ALL:
+        given: Dict[str, Any] = {"settings": tuple(settings), "images": tuple(images), "power_losses": power_losses, "seed": seed, "runs": runs}
+        given.update(calls_per_run=calls_per_run, executor=executor, report=report, by=by, allow_stale=allow_stale)
+        return _explore_all(partial(explore, body, **given), under, seconds)
     losses, most_calls = number(power_losses, "a number of power losses"), number(calls_per_run, "a number of calls")
-    profile = files_of(files)
-    if profile is not None:
+    if asked is not None:
         by = files_way(by)
         refuse_of_stores(images, allow_stale)
-    tree = Tree(body, tuple(settings), tuple(images), by, seed, losses, bool(allow_stale), most_calls, profile)
-    if seed is not None:
-        number(seed, "a seed")
-    for setting in tree.settings:
-        if profile is None:
-            setting_tokens(setting)
-        else:
-            file_setting_tokens(setting)
-    for image in tree.images:
-        image_line(*image)
-    if seed is None and not hasattr(by, "words_left"):
-        raise ValueError("an exploration counts the draws of its runs, which only `by=Library` can")
+    tree = Tree(body, tuple(settings), tuple(images), by, seed, losses, bool(allow_stale), most_calls, asked)
+    _check(tree)
     most = MAX if runs is None else number(runs, "a number of runs")
     subtrees = [text_of(path_of(path)) for path in ([under] if isinstance(under, str) else under)]
     if not most or not subtrees:
         raise ValueError(f"there is nothing to explore: no {'runs' if subtrees else 'subtrees'}")
     now = time.monotonic()
     until = now + seconds_of(seconds)
-    show = reporter(report, profile is not None)
+    show = reporter(report, asked is not None)
     try:
         if executor is None:
             part = visit(tree, subtrees, most, Times(until, max(until, now + FIRST_RUN), until))
@@ -186,7 +163,39 @@ def explore(
         raise
     if not part.runs:
         raise NoRuns(part.rest)
-    return Explored(part.runs, part.outcomes, tuple(part.rest), part.met)
+    return with_note(Explored(part.runs, part.outcomes, tuple(part.rest), part.met), part.unsynced)
+
+
+def _check(tree: Tree) -> None:
+    """Raises `ValueError` or `TypeError` for an invalid argument."""
+    if tree.seed is not None:
+        number(tree.seed, "a seed")
+    for setting in tree.settings:
+        if tree.files is None:
+            setting_tokens(setting)
+        else:
+            file_setting_tokens(setting)
+    for image in tree.images:
+        image_line(*image)
+    if tree.seed is None and not hasattr(tree.by, "words_left"):
+        raise ValueError("an exploration counts the draws of its runs, which only `by=Library` can")
+
+
+def _explore_all(search: Callable[..., Explored], under: Union[str, Iterable[str]], seconds: Optional[float]) -> Explored:
+    """Explores each profile, by a function that explores one."""
+    paths = paths_of(under)
+    found = in_each(
+        lambda profile, share: search(profile=profile, seconds=share, under=paths[profile]),
+        paths,
+        seconds_of(seconds),
+        lambda rest: Explored(0, {}, tuple(rest)),
+    )
+    outcomes: Dict[Any, int] = {}
+    for each in found.values():
+        for outcome, count in each.outcomes.items():
+            outcomes[outcome] = outcomes.get(outcome, 0) + count
+    runs, met = (sum(getattr(each, name) for each in found.values()) for name in ("runs", "met"))
+    return of_profiles(Explored(runs, outcomes, tuple(rest_of(found)), met), found)
 
 
 def seconds_of(seconds: Optional[float]) -> float:
@@ -206,8 +215,8 @@ def visit(tree: Tree, subtrees: List[str], most: int, times: Times) -> Part:
     for at, subtree in enumerate(subtrees):
         rest = visitor.visit(path_of(subtree), most)
         if rest:
-            return Part(visitor.runs, visitor.outcomes, rest + subtrees[at + 1 :], visitor.met)
-    return Part(visitor.runs, visitor.outcomes, [], visitor.met)
+            return Part(visitor.runs, visitor.outcomes, rest + subtrees[at + 1 :], visitor.met, visitor.unsynced)
+    return Part(visitor.runs, visitor.outcomes, [], visitor.met, visitor.unsynced)
 
 
 class _Late(Exception):
@@ -224,6 +233,7 @@ class _Visitor:
         self._states: Met = {}
         self.runs = 0
         self.met = 0
+        self.unsynced = 0
         self.outcomes: Dict[Any, int] = {}
 
     def visit(self, path: List[Choice], most: int) -> List[str]:
@@ -252,6 +262,7 @@ class _Visitor:
         """Makes one run, with as many words as it takes."""
         run, store, outcome, error = self._attempt(along, self._times.end if self.runs else self._times.first_end)
         is_whole = along.end()
+        self.unsynced |= store._unsynced.met
         if run.bounds.is_met:
             self.met += 1
             return run

@@ -2,7 +2,7 @@
 
 from __future__ import annotations
 
-from typing import Any, Callable, List, Optional
+from typing import Any, Callable, Dict, List, Optional
 
 from .layers import explain, run
 from .paths import legend_of
@@ -18,17 +18,21 @@ class Failed(AssertionError):
 
     `script` are the lines that make the same calls again, to run or to explain; of files, lines to read. `path` names the run: `explore(body, under=[path])`
     makes it again. Of a run by a seed it is `seed N`. `reason` is what the body raised, as a text. `stopped` is a text if `shrink` returns
-    it and stopped at a limit: there may be a smaller run.
+    it and stopped at a limit: there may be a smaller run. `profiles` has what a search in all profiles came to in each: a `Failed`, or its
+    result. The other fields are then those of the first that failed.
     """
 
-    def __init__(self, path: str, script: List[str], reason: str, run: int, stopped: str = "") -> None:
+    def __init__(
+        self, path: str, script: List[str], reason: str, run: int, stopped: str = "", profiles: Optional[Dict[str, Any]] = None
+    ) -> None:
         self.path, self.script, self.reason, self.run, self.stopped = path, script, reason, run, stopped
-        lines = [f"run {run} failed: {reason}", *([stopped] if stopped else []), *_named(path)]
+        self.profiles = profiles or {}
+        lines = [f"run {run} failed: {reason}", *_of_profiles(self.profiles), *([stopped] if stopped else []), *_named(path)]
         heading = "its calls:" if _is_of_files(script) else "its script, to explain with `blobcrash explain`:"
         super().__init__("\n".join([*lines, heading, *_shown(script)]))
 
     def __reduce__(self) -> Any:
-        return Failed, (self.path, self.script, self.reason, self.run, self.stopped)
+        return Failed, (self.path, self.script, self.reason, self.run, self.stopped, self.profiles)
 
 
 class TooLong(RuntimeError):
@@ -45,6 +49,15 @@ class TooLong(RuntimeError):
 
     def __reduce__(self) -> Any:
         return TooLong, (self.path, self.script, self.run, self.most)
+
+
+def _of_profiles(profiles: Dict[str, Any]) -> List[str]:
+    """The lines of a report that say which profiles failed, and of which the run is."""
+    failed = [profile for profile, each in profiles.items() if isinstance(each, Failed)]
+    if not failed:
+        return []
+    lines = [f"    {profile}: {each.reason if profile in failed else each}" for profile, each in profiles.items()]
+    return [f"it failed in {len(failed)} of {len(profiles)} profiles; this run is one of {failed[0]}:", *lines]
 
 
 def _named(path: str) -> List[str]:

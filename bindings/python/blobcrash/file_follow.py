@@ -8,6 +8,7 @@ from .bounds import BoundedFiles
 from .file_calls import FileCall
 from .file_library import files_way
 from .file_power import FileSupply
+from .file_settings import torn_unless_set
 from .follow import OnPath, Run
 
 
@@ -29,6 +30,9 @@ class _FollowedFiles:
     def close(self) -> None:
         self._layer.close()
 
+    def __getattr__(self, name: str) -> Any:
+        return getattr(self._layer, name)
+
 
 class ExploredFiles(OnPath, BoundedFiles):
     """The files of one run."""
@@ -41,4 +45,4 @@ class ExploredFiles(OnPath, BoundedFiles):
             return FileSupply(_FollowedFiles(files_way(by)(preamble), run), run.fails if run.losses else None)
 
         words = run.words if run.seed is None else ()
-        super().__init__(run.seed, profile=profile, words=words, settings=settings, by=way)
+        super().__init__(run.seed, profile=profile, words=words, settings=torn_unless_set(settings), by=way)

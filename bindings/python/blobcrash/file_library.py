@@ -63,6 +63,11 @@ class FilesLibrary:
             return Kept([self._row(row) for row in rows], edits, [self._place(row) for row in rows])
         return found
 
+    def inode_at(self, descriptor: int) -> int:
+        """Returns the inode of an open file."""
+        found = self._apply(FileCall("inode_of", descriptor))
+        return found.number if isinstance(found, Found) else 0
+
     def words_left(self) -> int:
         """Returns how many words the generator has up to the last one that isn't zero. `ValueError` if a seed gives more."""
         return self._ran("words_left")

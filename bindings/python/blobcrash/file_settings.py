@@ -9,6 +9,10 @@ from .grammar import needs_draws, setting_tokens, text_of
 from .shapes import MAX
 
 PROFILES = ("ext4", "xfs", "btrfs", "posix")
+# Asks a search for a run of each.
+ALL = "all"
+# What the files of a search begin with, as a mount does, if no setting is one of writes: a crash keeps half of the unsynced sectors.
+TORN_WRITES = "write 0 1 1 2 sectors 512"
 # The switches with what each may be.
 _SWITCHES = {"failed_sync": ("keeps", "drops"), "syncs": ("honest", "lie"), "failed_write": ("mode", "prefix")}
 
@@ -17,15 +21,32 @@ def profile_of(profile: Any) -> str:
     """The name of a profile. Raises `TypeError` or `ValueError`."""
     profile = text_of(profile, "a profile")
     if profile not in PROFILES:
-        raise ValueError(f"{profile!r} is no profile: it is one of {', '.join(PROFILES)}")
+        also = ", or `all` of a search" if profile == ALL else ""
+        raise ValueError(f"{profile!r} is no profile: it is one of {', '.join(PROFILES)}{also}")
     return profile
 
 
-def files_of(files: Any) -> Optional[str]:
-    """The profile that the argument `files` of a search asks for: `True` is ext4. `None` if the search is of stores."""
-    if files is None or files is False:
+def profile_asked(profile: Any, files: Any) -> Optional[str]:
+    """The profile that a search is asked for, by its argument `profile` or by the other name of it, `files`: `True` is ext4. `None` if the
+    search is of stores. Raises `TypeError` or `ValueError`."""
+    if profile is None or profile is False:
+        profile = files
+    elif files is not None and files is not False:
+        raise TypeError("`files` is another name of `profile`: give one of them")
+    if profile is None or profile is False:
         return None
-    return PROFILES[0] if files is True else profile_of(files)
+    if profile is True:
+        return PROFILES[0]
+    return ALL if isinstance(profile, str) and profile == ALL else profile_of(profile)
+
+
+def torn_unless_set(settings: Iterable[str]) -> Iterable[str]:
+    """The settings of the files of a search."""
+    if isinstance(settings, str):
+        return settings
+    settings = tuple(settings)
+    has_writes = any(isinstance(setting, str) and setting.split()[:1] == ["write"] for setting in settings)
+    return settings if has_writes else (TORN_WRITES, *settings)
 
 
 def refuse_of_stores(images: Iterable[Any], allow_stale: Any) -> None:

@@ -17,6 +17,7 @@ from .foreign_files import EXCHANGES, IS_DIRECTORY, REFUSES, REPLACES, Refusal
 from .grammar import comment_lines, number, text_of
 from .open_file import OpenFile, plain_mode
 from .power import PowerLoss, Supply
+from .unkept_files import FOLLOWED, UnsyncedFiles
 
 # The refusals by which a path has no file.
 _MISSING = frozenset(("NotFound", "NotDirectory", "InvalidName", "NameTooLong"))
@@ -60,6 +61,7 @@ class Files:
         self._words = [number(word, "a word") for word in words]
         lines = [] if seed is None else [f"seed {number(seed, 'a seed')}"]
         self._has_draws = bool(self._words) or seed is not None
+        self._unsynced = UnsyncedFiles()
         lines.append(f"profile {profile_of(profile)}")
         # Whether a crash draws for edits: by the rate 1/2, if no setting says another one.
         self._draws_edits = True
@@ -285,6 +287,7 @@ class Files:
             raise NeedsSeed(f"`{setting}` needs random draws: give the files a seed, `Files(seed=7)`, or the words of its generator")
         if line.startswith("keep "):
             self._draws_edits = needs_draws
+        self._unsynced.set(line.split())
         return line
 
     def _on(self, word: str, path: Path) -> Any:
@@ -366,6 +369,8 @@ class Files:
             self._lines.append((asked, reply_text(asked, reply)))
         if isinstance(reply, Refusal):
             raise error_of(reply, path, to)
+        if asked.word in FOLLOWED:
+            self._unsynced.take(asked, self._layer)
         return reply
 
     def _ended(self, asked: FileCall, error: BaseException, is_shown: bool) -> None:

@@ -65,6 +65,16 @@ def _current() -> str:
     return path if made.returncode else os.path.join(made.stdout.rstrip("\n"), "libblobcrash.so")
 
 
+def is_loaded() -> bool:
+    """Returns whether this process has loaded the library."""
+    return _functions is not None
+
+
+def is_proved() -> bool:
+    """Returns whether the library that this process uses is proved. One that a clone compiles without a proof isn't."""
+    return not hasattr(loaded(), "blobcrash_unproved")
+
+
 def loaded() -> ctypes.CDLL:
     """Returns the functions. The first call loads the library.
 

@@ -27,6 +27,7 @@ KINDS = {
     "size": 34,
     "fsync": 35,
     "fdatasync": 36,
+    "inode_of": 37,
     "sync": 48,
     "settle": 49,
     "crash": 50,

@@ -17,7 +17,7 @@ from typing import Any, Dict, Iterator, List, NamedTuple, Optional, Tuple, Union
 
 from .checking import check
 from .errors import BadLine
-from .foreign import library
+from .foreign import is_loaded, library
 from .grammar import LAST_VERSION, MAX, hex_of, unhex
 from .layers import Library, Program
 from .shapes import value_of
@@ -119,8 +119,8 @@ def _number(token: str) -> Optional[int]:
 def judge(script: Union[str, bytes], by: Any = None) -> Optional[str]:
     """Runs a script. Returns the first acknowledged content that isn't readable at a reopen after a crash, or `None` if all is.
 
-    The script is run once, and again up to each such reopen. `by` is `Library` or `Program`; by default the library if it is built.
-    Raises `BadLine` if a line isn't a call, and `ValueError` if no acknowledgement counts.
+    The script is run once, and again up to each such reopen. `by` is `Library` or `Program`; by default the library if it is built, or is
+    used in this process already. Raises `BadLine` if a line isn't a call, and `ValueError` if no acknowledgement counts.
     """
     found = verdict(script, by)
     if found.nothing is not None:
@@ -134,7 +134,7 @@ def verdict(script: Union[str, bytes], by: Any = None) -> Verdict:
     for fault in check(data):
         raise BadLine(f"bad call: {fault.why}", fault.line, fault.why)
     preamble, calls = _parts(data.decode().split("\n"))
-    way = by or (Library if os.path.exists(library()) else Program)
+    way = by or (Library if is_loaded() or os.path.exists(library()) else Program)
     watch = _Watch()
     _run(way, preamble, calls, watch).close()
     return Verdict(_first_lost(way, preamble, calls, watch), watch.found, watch.known, watch.counted)

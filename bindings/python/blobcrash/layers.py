@@ -84,9 +84,15 @@ class Program:
     program is the parent's.
     """
 
+    _is_told = False
+
     def __init__(self, preamble: bytes = b"") -> None:
+        # `./blobcrash` says once a process that it isn't proved.
+        environment = {**os.environ, "BLOBCRASH_TOLD": "1"} if Program._is_told else None
+        Program._is_told = True
         # In a session of its own, so that Ctrl-C at a terminal reaches this process alone.
-        self._run = subprocess.Popen([program()], stdin=subprocess.PIPE, stdout=subprocess.PIPE, start_new_session=True)
+        pipes = {"stdin": subprocess.PIPE, "stdout": subprocess.PIPE}
+        self._run = subprocess.Popen([program()], env=environment, start_new_session=True, **pipes)
         self._is_parents = False
         _programs.add(self)
         # Why no call can be made any more.

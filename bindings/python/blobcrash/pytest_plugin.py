@@ -4,26 +4,29 @@
     def test_recovers(blobcrash):
         ...
 
-A test that takes `blobcrash_files` gets `Files`, with the arguments of the mark `blobcrash_files`.
+A test that takes `blobcrash_files` gets `Files`, with the arguments of the mark `blobcrash_files`: once for each seed in each profile,
+unless the mark has a `profile`. A mark that no fixture of its test knows is an error.
 
 The store has `seed` and `choose`, as that of `seeds`. The seed is in the test's name. If a test fails, its script is written to a file.
 The first failing seed of a test is shrunk: the test is called again with fewer and smaller choices, and a smaller run that fails is
 written to a second file. The report has the files' paths and a picture of the crashes. With `--blobcrash-report FOLDER` it also has the
 path of a page that shows the run in a browser. The arguments of the mark are `seeds`, how many there are, and those of `Store`. Options
-of the command line come before the mark.
+of the command line come before the mark. At the end a line names each test that passed and had unsynced writes that no crash could keep.
 """
 
 from __future__ import annotations
 
 import argparse
-from typing import Any, Iterator, List, Sequence
+from typing import Any, Dict, Iterator, List, Sequence
 
 import pytest
 
 from .failures import page_writer
+from .file_settings import ALL, PROFILES, profile_asked
 from .grammar import number
 from .pytest_report import show
 from .seeding import SeededFiles, SeededStore
+from .unkept import note_of
 
 # The fixtures, each with what a test gets. The mark with its arguments has the same name.
 _FIXTURES = {"blobcrash": SeededStore, "blobcrash_files": SeededFiles}
@@ -80,6 +83,36 @@ def _arguments(node: Any, fixture: str) -> dict:
     return dict(marker.kwargs) if marker else {}
 
 
+def _check_marks(metafunc: Any) -> None:
+    """Refuses a mark that no fixture of a test knows. That of a class or of a module may be for its other tests, unless this one has no
+    other."""
+    node = metafunc.definition
+    taken = [fixture for fixture in _FIXTURES if fixture in metafunc.fixturenames]
+    own = {marker.name for marker in node.own_markers}
+    marks = {marker.name for marker in node.iter_markers() if marker.name.startswith("blobcrash")}
+    for name in sorted(marks - set(taken)):
+        if name not in _FIXTURES:
+            raise pytest.UsageError(f"{node.nodeid}: there is no mark `{name}`: the marks are `{'` and `'.join(_FIXTURES)}`")
+        if name in own or (taken and not marks & set(taken)):
+            takes = f"takes `{taken[0]}`, whose mark is `{taken[0]}`" if taken else f"doesn't take `{name}`"
+            raise pytest.UsageError(f"{node.nodeid}: the mark `{name}` is that of the fixture `{name}`, and the test {takes}")
+
+
+def _profiles_of(node: Any, fixture: str) -> Sequence[str]:
+    """The profiles of a test: those of all, unless its mark names one. None of a store."""
+    arguments = _arguments(node, fixture)
+    named = [name for name in ("profile", "files") if name in arguments]
+    if fixture == "blobcrash":
+        if named:
+            raise pytest.UsageError(f"{node.nodeid}: a store has no `{named[0]}`: take the fixture `blobcrash_files`, with its mark")
+        return ()
+    try:
+        asked = profile_asked(arguments.get("profile"), arguments.get("files")) or ALL
+    except (TypeError, ValueError) as error:
+        raise pytest.UsageError(f"{node.nodeid}: {error}") from None
+    return PROFILES if asked == ALL else (asked,)
+
+
 def _seeds_of(node: Any, fixture: str) -> Sequence[int]:
     """The seeds of a test: those of the command line, or as many as it says, or as the mark says."""
     option, arguments = node.config.getoption, _arguments(node, fixture)
@@ -97,17 +130,22 @@ def _seeds_of(node: Any, fixture: str) -> Sequence[int]:
 
 
 def pytest_generate_tests(metafunc: Any) -> None:
+    _check_marks(metafunc)
     for fixture in _FIXTURES:
         if fixture in metafunc.fixturenames:
-            seeds = _seeds_of(metafunc.definition, fixture)
-            metafunc.parametrize(fixture, seeds, indirect=True, ids=[f"seed={seed}" for seed in seeds])
+            seeds, profiles = _seeds_of(metafunc.definition, fixture), _profiles_of(metafunc.definition, fixture)
+            runs = [(seed, profile) for profile in profiles or (None,) for seed in seeds]
+            ids = [f"{profile}-seed={seed}" if len(profiles) > 1 else f"seed={seed}" for seed, profile in runs]
+            metafunc.parametrize(fixture, runs, indirect=True, ids=ids)
 
 
 def _opened(request: Any, fixture: str) -> Iterator[Any]:
     """What a fixture gives to a test."""
+    seed, profile = getattr(request, "param", (0, PROFILES[0] if fixture == "blobcrash_files" else None))
     arguments = _arguments(request.node, fixture)
-    arguments.pop("seeds", None)
-    with _FIXTURES[fixture](getattr(request, "param", 0), **arguments) as store:
+    for name in ("seeds", *(("profile", "files") if profile else ())):
+        arguments.pop(name, None)
+    with _FIXTURES[fixture](seed, **{**arguments, **({"profile": profile} if profile else {})}) as store:
         request.node._blobcrash = fixture, store
         yield store
 
@@ -132,3 +170,16 @@ def pytest_runtest_makereport(item: Any, call: Any) -> Iterator[None]:
     if fixture is not None and call.when in ("setup", "call") and report.failed:
         lines: List[str] = show(item, call, fixture, store, _arguments(item, fixture))
         report.sections.append(("blobcrash", "\n".join(lines)))
+    elif store is not None and call.when == "call" and report.passed:
+        report.blobcrash_met = store._unsynced.met
+
+
+def pytest_terminal_summary(terminalreporter: Any) -> None:
+    """Names the tests that passed and had unsynced writes that no crash could keep."""
+    met: Dict[str, int] = {}
+    for report in terminalreporter.stats.get("passed", []):
+        test = report.nodeid.split("[")[0]
+        met[test] = met.get(test, 0) | getattr(report, "blobcrash_met", 0)
+    for test, seen in met.items():
+        if note_of(seen):
+            terminalreporter.write_line(f"blobcrash: {test}: {note_of(seen)}")

@@ -99,7 +99,7 @@ def _picture(script: List[str]) -> List[str]:
 def _shrunk(item: Any, call: Any, fixture: str, store: Any, arguments: dict, lines: List[str]) -> Optional[Failed]:
     """A smaller run that fails in the same way. `None` if none is looked for; a line says why, if one might be expected."""
     seconds = item.config.getoption("--blobcrash-shrink")
-    test = (item.parent.nodeid, getattr(item, "originalname", None) or item.name)
+    test = (item.parent.nodeid, getattr(item, "originalname", None) or item.name, getattr(store, "profile", None))
     if seconds == 0 or call.excinfo is None or test in _tried:
         return None
     _tried.add(test)
@@ -109,7 +109,7 @@ def _shrunk(item: Any, call: Any, fixture: str, store: Any, arguments: dict, lin
         return None
     given = {name: arguments[name] for name in ("settings", "images", "allow_stale") if name in arguments}
     if isinstance(store, Files):
-        given["files"] = arguments.get("profile", True)
+        given["profile"] = store.profile
     failed = Failed(f"seed {store.seed}", store.script, _reason_of(call.excinfo.value), 1)
     try:
         with contextlib.redirect_stdout(io.StringIO()), contextlib.redirect_stderr(io.StringIO()):
@@ -130,7 +130,7 @@ def _unshrinkable(item: Any, fixture: str, arguments: dict) -> Optional[str]:
     users = _users_of(fixture, info.name2fixturedefs) - {fixture}
     if users:
         return f"the fixture `{sorted(users)[0]}` uses the store too"
-    others = sorted(set(arguments) - {"seeds", "settings", "images", "allow_stale", "by", "profile"})
+    others = sorted(set(arguments) - {"seeds", "settings", "images", "allow_stale", "by", "profile", "files"})
     if others:
         return f"its mark has `{others[0]}`"
     return None

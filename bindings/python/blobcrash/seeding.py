@@ -4,6 +4,7 @@ from __future__ import annotations
 
 import random
 import time
+from functools import partial
 from typing import Any, Callable, Iterable, List, NamedTuple, Optional, Tuple, Union
 
 from .bodies import check_body, check_result
@@ -11,10 +12,12 @@ from .bounds import FIRST_RUN, BoundedFiles, BoundedStore, Bounds, RunEnded
 from .errors import NoRuns
 from .exploration import seconds_of
 from .failures import Failed, reason_of, reporter
-from .file_settings import files_of
+from .file_settings import ALL, PROFILES, profile_asked, torn_unless_set
 from .file_system import Files
 from .grammar import number, number_of_branches
 from .power import PowerLoss
+from .profiles import in_each, rest_of
+from .results import Seeded, of_profiles, with_note
 from .store import Store
 
 # How many seeds a task has at most.
@@ -43,7 +46,12 @@ class SeededStore(BySeed, Store):
 
 
 class SeededFiles(BySeed, Files):
-    """The files of a run by a seed, which is `seed`."""
+    """The files of a run by a seed, which is `seed`. Their settings begin with `write 0 1 1 2 sectors 512`, as a mount does, unless one of
+    them is of writes."""
+
+    def __init__(self, seed: int, **arguments: Any) -> None:
+        super().__init__(seed, **{**arguments, "settings": torn_unless_set(arguments.get("settings", ()))})
+        self.profile = arguments.get("profile", PROFILES[0])
 
 
 class _Timed(BySeed):
@@ -66,13 +74,6 @@ class _TimedFiles(_Timed, BoundedFiles, SeededFiles):
     """The files of such a run."""
 
 
-class Seeded(NamedTuple):
-    """How many seeds a body was run with, and those that the time left."""
-
-    runs: int
-    rest: Tuple[int, ...]
-
-
 class _Runs(NamedTuple):
     """A body, and the arguments of its stores."""
 
@@ -85,14 +86,16 @@ def seeds(
     body: Callable[..., Any],
     which: Union[int, Iterable[int]],
     *,
+    profile: Union[None, bool, str] = None,
     files: Union[None, bool, str] = None,
     seconds: Optional[float] = None,
     executor: Any = None,
     report: Optional[str] = None,
     **arguments: Any,
 ) -> Seeded:
-    """Calls `body` with a new store for each seed: for the first `which` ones, or for each of `which`. With `files`, the name of a
-    profile or `True`, it is called with `Files`.
+    """Calls `body` with a new store for each seed: for the first `which` ones, or for each of `which`. With a `profile`, the name of one or
+    `True` for ext4, it is called with `SeededFiles`; with `all` for each profile, and `Failed` names those that fail. `files` is another
+    name of it.
 
     After `seconds` no further run begins, and one that is under way is ended at its next call: its seed is one of `rest`. Without an
     executor the first run is given a second at least. With an `executor` of `concurrent.futures` the seeds are spread over its workers.
@@ -114,29 +117,44 @@ def seeds(
     every = [number(seed, "a seed") for seed in which]
     if not every:
         raise ValueError("there is nothing to run: no seeds")
+    asked = profile_asked(profile, files)
+    if asked == ALL:
+        search = partial(seeds, body, every, executor=executor, report=report, **arguments)
+        every_found = in_each(
+            lambda name, share: search(profile=name, seconds=share), PROFILES, seconds_of(seconds), lambda rest: Seeded(0, tuple(rest))
+        )
+        return of_profiles(Seeded(sum(each.runs for each in every_found.values()), tuple(rest_of(every_found))), every_found)
     now = time.monotonic()
     until = now + seconds_of(seconds)
-    profile = files_of(files)
-    show = reporter(report, profile is not None)
-    runs = _Runs(body, arguments, profile)
+    show = reporter(report, asked is not None)
+    runs = _Runs(body, arguments, asked)
     try:
         if executor is None:
-            made = Seeded(*_visit(runs, every, 0, until, max(until, now + FIRST_RUN)))
+            made = _visit(runs, every, 0, until, max(until, now + FIRST_RUN))
         else:
-            made = Seeded(*_visit_with(executor, runs, every, until))
+            made = _visit_with(executor, runs, every, until)
     except Failed as failed:
         show(failed)
         raise
     if not made.runs:
         raise NoRuns(made.rest)
-    return made
+    return with_note(Seeded(made.runs, made.rest), made.unsynced)
 
 
-def _visit(runs: _Runs, every: List[int], before: int, until: float, first_until: float) -> Tuple[int, Tuple[int, ...]]:
+class _Part(NamedTuple):
+    """How many runs there were, the seeds that are left, and what the crashes met."""
+
+    runs: int
+    rest: Tuple[int, ...]
+    unsynced: int
+
+
+def _visit(runs: _Runs, every: List[int], before: int, until: float, first_until: float) -> _Part:
     """Makes the run of each seed until it is too late, for the first one `first_until`. `before` is how many runs there were."""
+    unsynced = 0
     for at, seed in enumerate(every):
         if at and time.monotonic() >= until:
-            return at, tuple(every[at:])
+            return _Part(at, tuple(every[at:]), unsynced)
         with _store(runs, seed, until if at else first_until) as store:
             try:
                 result = runs.body(store)
@@ -147,9 +165,10 @@ def _visit(runs: _Runs, every: List[int], before: int, until: float, first_until
                     raise Failed(f"seed {seed}", store.script, reason_of(error), before + at + 1) from error
                 result = None
             if _is_late(store):
-                return at, tuple(every[at:])
+                return _Part(at, tuple(every[at:]), unsynced)
             check_result(result)
-    return len(every), ()
+            unsynced |= store._unsynced.met
+    return _Part(len(every), (), unsynced)
 
 
 def _store(runs: _Runs, seed: int, until: float) -> Any:
@@ -163,13 +182,13 @@ def _is_late(store: Any) -> bool:
     return isinstance(store, _Timed) and store._bounds.is_late
 
 
-def _visit_with(executor: Any, runs: _Runs, every: List[int], until: float) -> Tuple[int, Tuple[int, ...]]:
+def _visit_with(executor: Any, runs: _Runs, every: List[int], until: float) -> _Part:
     """Makes the runs by workers."""
     from .spread import Spread
 
     spread = Spread(executor)
     chunk = min(_CHUNK, max(1, len(every) // (4 * spread.workers)))
-    done, at, rest = 0, 0, []
+    done, at, rest, unsynced = 0, 0, [], 0
     while at < len(every) or len(spread):
         while at < len(every) and len(spread) < 2 * spread.workers and time.monotonic() < until:
             part = every[at : at + chunk]
@@ -177,14 +196,15 @@ def _visit_with(executor: Any, runs: _Runs, every: List[int], until: float) -> T
             at += len(part)
         if not len(spread):
             break
-        for made, left in spread.done():
-            done += made
-            rest += left
+        for made in spread.done():
+            done += made.runs
+            rest += made.rest
+            unsynced |= made.unsynced
     rest += every[at:]
     spread.check(rest)
-    return done, tuple(sorted(rest))
+    return _Part(done, tuple(sorted(rest)), unsynced)
 
 
-def _visit_for(runs: _Runs, every: List[int], before: int, seconds: float) -> Tuple[int, Tuple[int, ...]]:
+def _visit_for(runs: _Runs, every: List[int], before: int, seconds: float) -> _Part:
     until = time.monotonic() + seconds
     return _visit(runs, every, before, until, until)

@@ -20,7 +20,7 @@ from .bounds import Bounds, RunEnded
 from .exploration import Body, seconds_of
 from .failures import Failed, reason_of
 from .file_follow import ExploredFiles
-from .file_settings import files_of, refuse_of_stores
+from .file_settings import ALL, profile_asked, refuse_of_stores
 from .file_system import Files
 from .follow import ExploredStore, MoreWords, Run
 from .generator import words_of
@@ -68,6 +68,7 @@ def shrink(
     body: Body,
     failed: Union[Failed, str],
     *,
+    profile: Union[None, bool, str] = None,
     files: Union[None, bool, str] = None,
     settings: Iterable[str] = (),
     images: Iterable[Tuple[str, bytes, bytes]] = (),
@@ -79,7 +80,7 @@ def shrink(
     """Runs `body` again with fewer and smaller choices, and returns the failure of the smallest run found.
 
     `failed` is raised by `explore` without a seed, or by `seeds`, or it is its `path`. The other arguments are those of that call, also
-    `files`. A run is smaller if it makes fewer calls; then if it has fewer power losses, smaller results of `store.choose`, fewer draws,
+    `profile`; with `all` a `Failed` has it. A run is smaller if it makes fewer calls; then if it has fewer power losses, smaller results of `store.choose`, fewer draws,
     and fewer of them true. It has to raise an error of the same type. `runs` and `seconds` limit the search; if it stopped at one of them,
     `stopped` of the result says so.
 
@@ -90,13 +91,15 @@ def shrink(
         raise ValueError("`shrink` counts the draws of its runs, which only `by=Library` can")
     settings, images = tuple(settings), tuple(images)
     path = failed if isinstance(failed, str) else failed.path
-    profile = files_of(files)
-    if profile is not None:
+    asked = profile_asked(profile, files)
+    if asked == ALL:
+        asked = _profile_of(failed)
+    if asked is not None:
         refuse_of_stores(images, allow_stale)
 
     def store(run: Run) -> Any:
-        if profile is not None:
-            return _ReplayedFiles(run, settings, profile, by)
+        if asked is not None:
+            return _ReplayedFiles(run, settings, asked, by)
         return ExploredStore(run, settings, images, by, allow_stale)
 
     until = time.monotonic() + seconds_of(seconds)
@@ -107,6 +110,15 @@ def shrink(
         if smaller is None:
             return Failed(made.path, made.script, made.reason, search.runs, search.stopped)
         made = smaller
+
+
+def _profile_of(failed: Union[Failed, str]) -> str:
+    """The profile of a failure's run. `ValueError` for a path, which has none."""
+    lines = [] if isinstance(failed, str) else failed.script
+    found = next((line.split()[1] for line in lines if line.startswith("profile ")), None)
+    if found is None:
+        raise ValueError("a path has no profile: name that of its run in place of `all`")
+    return found
 
 
 class Replay(Run):

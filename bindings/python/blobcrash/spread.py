@@ -136,7 +136,7 @@ def _is_unsent(error: BaseException) -> bool:
 def visit_with(executor: Any, tree: Tree, subtrees: List[str], most: int, until: float) -> Part:
     """Visits the leaves of subtrees by workers, which return what they have left after a while, to be spread again."""
     spread = Spread(executor)
-    runs, met, promised, waiting = 0, 0, 0, list(subtrees)
+    runs, met, unsynced, promised, waiting = 0, 0, 0, 0, list(subtrees)
     outcomes: Dict[Any, int] = {}
     length = _FIRST_SLICE
     while waiting or len(spread):
@@ -157,12 +157,13 @@ def visit_with(executor: Any, tree: Tree, subtrees: List[str], most: int, until:
             promised -= quota
             runs += part.runs
             met += part.met
+            unsynced |= part.unsynced
             waiting += part.rest
             for outcome, count in part.outcomes.items():
                 outcomes[outcome] = outcomes.get(outcome, 0) + count
             length = _SLICE
     spread.check(waiting)
-    return Part(runs, outcomes, waiting, met)
+    return Part(runs, outcomes, waiting, met, unsynced)
 
 
 def _visited(tree: Tree, subtrees: List[str], quota: int, seconds: float, left: float) -> Tuple[int, Part]:

@@ -23,6 +23,7 @@ from .grammar import (
 )
 from .layers import Library, Program, Reply, default_way, line_of
 from .power import PowerLoss, Supply
+from .unkept import Unsynced
 
 Versions = Optional[Tuple[int, int]]
 # The rows of a crash: a write's number and a choice for each of its bytes, `1` if it is kept.
@@ -68,6 +69,7 @@ class Store:
         if seed is not None:
             lines.append(f"seed {number(seed, 'a seed')}")
         self._has_draws = bool(self._words or self._ahead) or seed is not None
+        self._unsynced = Unsynced()
         for setting in settings:
             lines.append(self._setting_line(setting))
         preamble = "\n".join([*lines, ""]).encode()
@@ -149,16 +151,19 @@ class Store:
         if line.startswith("write") and type(self._layer) is Library and line.isascii() and "\n" not in line:
             # The library checks a long line faster, and makes no call if it is bad.
             try:
-                return self._ask(line)
+                words = self._ask(line)
             except BadLine:
                 tokens_of(line)
                 raise
+            self._unsynced.line(line.split(None, 2), words)
+            return words
         tokens = tokens_of(line)
         if not tokens:
             self._check()
             self._lines.append(line.encode())
             return []
         words = self._ask(line)
+        self._unsynced.line(tokens, words)
         if tokens[0] == "close":
             self._opened.pop(int(tokens[1]), None)
         elif tokens[0] == "remove":
@@ -207,12 +212,14 @@ class Store:
     def crash(self) -> Rows:
         """Loses what isn't durable, except what the draws keep. Returns the draws. All handles are stale."""
         rows = [row.split(":") for row in self._ask("crash")[1:]]
+        self._unsynced.crash()
         self._end_handles("the store has crashed since")
         return [(int(write), kept) for write, kept in rows]
 
     def reopen(self) -> None:
         """Builds the store again from what is durable. All handles are stale, and no name is open."""
         self._ask("reopen")
+        self._unsynced.reopen()
         self._end_handles("the store was reopened since")
 
     def restart(self, *, expecting: Any = None) -> Rows:
@@ -270,6 +277,7 @@ class Store:
                 f"`{line[len('config ') :]}` needs random draws: give the store a seed, `Store(seed=7)`, or the words of its generator, "
                 "`Store(words=[..])`. Without them every draw is true, so that nothing would be lost; if you want that, say `words=[0]`"
             )
+        self._unsynced.set(line.split())
         return line
 
     def _open(self, word: str, partition: str, name: bytes, versions: Versions) -> Tuple[Blob, int]:
@@ -277,6 +285,7 @@ class Store:
         line = f"{word} {partition_word(partition)} {hex_of(name)}{versions_words(versions)}"
         handle, size, version = map(int, self._ask(line, partition)[1:])
         blob = self._opened[handle] = Blob(self, handle, version, partition, name)
+        self._unsynced.open(word, handle, blob._of)
         return blob, size
 
     def _end_handles(self, why: str) -> None:
@@ -284,6 +293,7 @@ class Store:
             blob._stale = why
 
     def _end_blobs(self, partition: str, name: Optional[bytes]) -> None:
+        self._unsynced.remove(partition, name)
         for blob in self._opened.values():
             if blob._of == (partition, name) or (name is None and blob._of[0] == partition):
                 blob._stale = "its blob was removed since"

@@ -253,7 +253,11 @@ impl Blob {
         let mut state = self.usable()?;
         state.permit(Effect::Changes)?;
         let sync = options.contains(WriteOptions::SYNC);
-        state.session.write(self.handle, offset, bytes, sync)
+        state.session.write(self.handle, offset, bytes, sync)?;
+        if !sync && !bytes.is_empty() && state.limits.is_search() {
+            state.limits.unsynced.write(self.opened.key);
+        }
+        Ok(())
     }
 
     /// Truncates the blob to a logical length, or extends it with zeros. The length is durable when it is synced. Errors: `Injected`,
@@ -305,9 +309,10 @@ impl Blob {
     /// # }
     /// ```
     pub fn sync(&self) -> Result<(), Error> {
-        self.usable()?
-            .by_number(Kind::Sync, self.handle, 0)
-            .map(drop)
+        let mut state = self.usable()?;
+        state.by_number(Kind::Sync, self.handle, 0)?;
+        state.limits.unsynced.sync(self.opened.key);
+        Ok(())
     }
 
     /// Starts to make the handle's bytes durable; `finish` returns the outcome. Errors: `Memory`, `StaleHandle`.
@@ -323,6 +328,7 @@ impl Blob {
     pub fn start_sync(&self) -> Result<StartedSync, Error> {
         let mut state = self.usable()?;
         let reply = state.by_number(Kind::StartSync, self.handle, 0)?;
+        state.limits.unsynced.sync(self.opened.key);
         Ok(StartedSync {
             shared: Arc::clone(&self.shared),
             number: reply.number,

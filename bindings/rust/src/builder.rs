@@ -1,7 +1,7 @@
 use crate::choices::Choices;
 use crate::library::Session;
 use crate::limits::Limits;
-use crate::script::{Script, first_word, image_line, one_line, words_line};
+use crate::script::{Script, first_word, image_line, one_line, tokens, words_line};
 use crate::shared::{Shared, State};
 use crate::{Config, Error, Explorable, Store};
 
@@ -197,6 +197,17 @@ impl Builder {
         Ok(())
     }
 
+    /// Returns the settings of the lines and of the configuration together.
+    pub(crate) fn effective(&self) -> Config {
+        let mut config = Config::default();
+        for line in self.lines.iter().chain(&self.config.lines()) {
+            if let ["config", ref setting @ ..] = tokens(line)[..] {
+                config.apply(setting);
+            }
+        }
+        config
+    }
+
     /// Returns the builder of an explored run, with as many words after those of its path.
     pub(crate) fn with_choices(
         &self,
@@ -249,7 +260,8 @@ impl Builder {
             self.lines.iter().for_each(|line| script.push_line(line));
             session.script = Some(script);
         }
-        let state = State::new(session, self.config, limits);
+        let mut state = State::new(session, self.config, limits);
+        state.limits.unsynced.set(&self.effective());
         let shared = Shared::new(state, has_draws, self.allow_stale, self.is_pushed);
         Ok(Store::of(shared))
     }

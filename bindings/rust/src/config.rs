@@ -59,7 +59,7 @@ impl Probability {
         format!("{} {}", self.numerator, self.denominator)
     }
 
-    fn is_zero(self) -> bool {
+    pub(crate) fn is_zero(self) -> bool {
         self.numerator == 0
     }
 

@@ -1,6 +1,7 @@
 //! Every outcome of a small run.
 use crate::choices::{BOUND_IT, Choices};
 use crate::paths::Path;
+use crate::unsynced::Met;
 use crate::{Builder, Error, Explorable, Run};
 use std::collections::BTreeMap;
 use std::fmt;
@@ -30,6 +31,35 @@ pub struct Explored<T> {
     pub outcomes: BTreeMap<T, u64>,
     /// Whether these are all. They aren't if the limit was reached.
     pub is_complete: bool,
+    /// A text if crashes met unsynced writes that they could not keep, as their retention was 0: then little of what a crash may leave was
+    /// tried.
+    ///
+    /// ```
+    /// # use blobcrash::{Error, Store, WriteOptions, explore};
+    /// let visited = explore(&Store::builder(), 10, |run| {
+    ///     run.open("p", b"b")?.0.write_at(0, b"abc", WriteOptions::default())?;
+    ///     run.restart().map(drop)
+    /// });
+    /// let text = "1 run, all of them; no unsynced write could be kept: set `write 0 1 1 2 sectors 512`";
+    /// assert_eq!(visited.unwrap().to_string(), text);
+    /// ```
+    pub unkept: &'static str,
+}
+
+impl<T> fmt::Display for Explored<T> {
+    fn fmt(&self, f: &mut fmt::Formatter<'_>) -> fmt::Result {
+        let end = if self.runs == 1 { "" } else { "s" };
+        let all = if self.is_complete {
+            "all of them"
+        } else {
+            "not all of them"
+        };
+        write!(f, "{} run{end}, {all}", self.runs)?;
+        if self.unkept.is_empty() {
+            return Ok(());
+        }
+        write!(f, "; {}", self.unkept)
+    }
 }
 
 /// Why an exploration ended early.
@@ -221,7 +251,9 @@ impl<B: Explorable> Exploration<B> {
             runs: 0,
             outcomes: BTreeMap::new(),
             is_complete: false,
+            unkept: "",
         };
+        let mut met = Met::default();
         while visited.runs < self.limit {
             let run = self.begin(path, words, visited.runs + 1)?;
             let result = catch_unwind(AssertUnwindSafe(|| body(&run)));
@@ -239,6 +271,7 @@ impl<B: Explorable> Exploration<B> {
                 return Err(ExploreError::NotDeterministic);
             }
             visited.runs += 1;
+            met.add(run.met());
             match result {
                 Ok(outcome) => *visited.outcomes.entry(outcome).or_insert(0) += 1,
                 Err(error) => {
@@ -252,6 +285,7 @@ impl<B: Explorable> Exploration<B> {
                 break;
             }
         }
+        visited.unkept = met.note();
         Ok(visited)
     }
 

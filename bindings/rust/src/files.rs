@@ -39,6 +39,7 @@ mod foreign;
 mod library;
 mod names;
 mod options;
+mod profiles;
 mod record;
 mod state;
 
@@ -48,6 +49,7 @@ pub use crash::{Crash, Place};
 pub use entries::{DirEntry, FileType, Metadata};
 pub use file::File;
 pub use options::OpenOptions;
+pub use profiles::{ProfilesFailed, each_profile};
 
 use std::os::unix::ffi::OsStrExt;
 use std::path::Path;

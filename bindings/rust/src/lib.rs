@@ -63,8 +63,34 @@ mod seeds;
 mod shared;
 pub mod storage;
 mod store;
+mod unsynced;
 mod whole_script;
 mod words;
+
+/// The version of the crate, and whether the library that it is linked with is proved: `blobcrash 0.3.0, proved`, or `.., not proved`.
+///
+/// ```
+/// let text = blobcrash::version();
+/// assert!(text.starts_with("blobcrash ") && text.ends_with(if blobcrash::is_proved() { ", proved" } else { ", not proved" }));
+/// ```
+#[must_use]
+pub const fn version() -> &'static str {
+    if is_proved() {
+        concat!("blobcrash ", env!("CARGO_PKG_VERSION"), ", proved")
+    } else {
+        concat!("blobcrash ", env!("CARGO_PKG_VERSION"), ", not proved")
+    }
+}
+
+/// Whether the library that this crate is linked with is proved. One that a clone compiles without a proof isn't.
+///
+/// ```
+/// assert_eq!(blobcrash::is_proved(), !blobcrash::version().contains("not"));
+/// ```
+#[must_use]
+pub const fn is_proved() -> bool {
+    !cfg!(blobcrash_unproved)
+}
 
 pub use blob::{Blob, StartedSync, WriteOptions};
 pub use builder::Builder;

@@ -3,6 +3,7 @@ use crate::Error;
 use crate::choices::{Choices, too_long};
 use crate::paths::Kind;
 use crate::power::{Effect, Power};
+use crate::unsynced::Unsynced;
 
 /// A session of the library that draws words and records its calls.
 pub trait Recorded {
@@ -32,6 +33,8 @@ pub struct Limits {
     pub(crate) choices: Option<Choices>,
     /// The state of the generator from which a run with a seed chooses.
     pub(crate) chooser: Option<u64>,
+    /// Of an explored run and of one with a seed.
+    pub(crate) unsynced: Unsynced,
 }
 
 impl Limits {
@@ -49,6 +52,11 @@ impl Limits {
             chooser: Some(seed),
             ..Limits::default()
         }
+    }
+
+    /// Whether this is a run of a search, of which unsynced writes are followed.
+    pub(crate) fn is_search(&self) -> bool {
+        self.choices.is_some() || self.chooser.is_some()
     }
 
     /// Whether neither the power nor the choices can stop a call.

@@ -1,6 +1,7 @@
 //! One run of an exploration, or of a seed.
 use crate::choices::Choices;
 use crate::limits::Limited;
+use crate::unsynced::Met;
 use crate::{Error, Store};
 use std::ops::Deref;
 
@@ -96,6 +97,11 @@ impl<S: Limited> Run<S> {
             Some(words) => words + all.split_once('\n').map_or("", |(_, calls)| calls),
             None => all,
         }
+    }
+
+    /// Returns what the crashes met.
+    pub(crate) fn met(&self) -> Met {
+        self.opened.with_limits(|limits, _| limits.unsynced.met)
     }
 
     /// Counts the last draws, and returns what `read` takes from the choices.

@@ -1,5 +1,6 @@
 //! Runs of many seeds.
 use crate::explore::nothing_to_run;
+use crate::unsynced::Met;
 use crate::{Explorable, ExploreError, Explored, Run};
 use std::collections::BTreeMap;
 use std::ops::Range;
@@ -38,11 +39,15 @@ pub fn seeds<B: Explorable, T: Ord, E>(
         runs: 0,
         outcomes: BTreeMap::new(),
         is_complete: false,
+        unkept: "",
     };
+    let mut met = Met::default();
     for seed in seeds {
         visited.runs += 1;
         let run = Run::new(builder.seeded(seed)?, visited.runs);
-        match body(&run) {
+        let result = body(&run);
+        met.add(run.met());
+        match result {
             Ok(outcome) => *visited.outcomes.entry(outcome).or_insert(0) += 1,
             Err(error) => {
                 let (run, script) = (visited.runs, run.script());
@@ -50,5 +55,6 @@ pub fn seeds<B: Explorable, T: Ord, E>(
             }
         }
     }
+    visited.unkept = met.note();
     Ok(visited)
 }

@@ -7,6 +7,7 @@ use crate::script::{tokens, unhex};
 use crate::storage::BlobVersion;
 use crate::{Config, Error};
 use std::collections::BTreeMap;
+use std::hash::{DefaultHasher, Hash, Hasher};
 use std::str::Split;
 use std::sync::atomic::{AtomicBool, Ordering};
 use std::sync::{Arc, Mutex, MutexGuard, OnceLock, PoisonError};
@@ -52,15 +53,20 @@ pub(crate) struct Opened {
     name: Vec<u8>,
     /// Why the handle is stale.
     stale: OnceLock<&'static str>,
+    /// A number that the handles of a blob share.
+    pub(crate) key: u64,
     allow_stale: AtomicBool,
     is_closed: AtomicBool,
 }
 
 impl Opened {
     pub(crate) fn new(partition: &str, name: &[u8], allow_stale: bool) -> Opened {
+        let mut hasher = DefaultHasher::new();
+        (partition, name).hash(&mut hasher);
         Opened {
             partition: partition.to_owned(),
             name: name.to_vec(),
+            key: hasher.finish(),
             stale: OnceLock::new(),
             allow_stale: AtomicBool::new(allow_stale),
             is_closed: AtomicBool::new(false),
@@ -265,6 +271,7 @@ impl State {
             self.done(&line)?;
         }
         self.config = config;
+        self.limits.unsynced.set(&config);
         self.is_unset = false;
         self.follow_limits();
         Ok(())
@@ -336,14 +343,34 @@ impl State {
     /// Follows the call of a caller's line, which wasn't refused: the handles that it made stale, the setting that it made.
     pub(crate) fn follow(&mut self, line: &str) {
         match tokens(line)[..] {
-            ["crash"] => self.end_handles("the store has crashed since"),
+            ["crash"] => self.has_crashed(),
             ["reopen"] => self.was_reopened(),
             ["close", handle] => self.was_closed(handle),
             ["remove", partition] => self.end_blobs(partition, None),
             ["remove", partition, name] => self.end_blobs(partition, unhex(name).as_deref()),
-            ["config", ref setting @ ..] => self.config.apply(setting),
+            ["config", ref setting @ ..] => {
+                self.config.apply(setting);
+                self.limits.unsynced.set(&self.config);
+            }
+            ["write", handle, _, bytes] if bytes != "-" => {
+                self.key_of(handle)
+                    .map(|key| self.limits.unsynced.write(key));
+            }
+            ["sync" | "startsync", handle] => {
+                self.key_of(handle)
+                    .map(|key| self.limits.unsynced.sync(key));
+            }
             _ => {}
         }
+    }
+
+    fn key_of(&self, handle: &str) -> Option<u64> {
+        Some(self.opened.get(&handle.parse().ok()?)?.key)
+    }
+
+    pub(crate) fn has_crashed(&mut self) {
+        self.limits.unsynced.crash();
+        self.end_handles("the store has crashed since");
     }
 
     fn was_closed(&mut self, handle: &str) {
@@ -355,6 +382,7 @@ impl State {
 
     pub(crate) fn was_reopened(&mut self) {
         self.reopens += 1;
+        self.limits.unsynced.clear();
         self.end_handles("the store was reopened since");
     }
 }

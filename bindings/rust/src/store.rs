@@ -347,6 +347,9 @@ impl Store {
         let (handle, size) = (reply.number, reply.size);
         let version = u16::try_from(reply.version).expect("a version has 16 bits");
         let opened = Arc::new(Opened::new(partition, name, self.shared.allow_stale));
+        if kind == Kind::Open {
+            state.limits.unsynced.sync(opened.key);
+        }
         state.insert(handle, &opened);
         drop(state);
         let shared = Arc::clone(&self.shared);
@@ -358,7 +361,7 @@ fn crash(state: &mut State) -> Result<Selections, Error> {
     let selections = state.asked("crash", |words| {
         words.skip(1).map(selection).collect::<Option<Selections>>()
     })?;
-    state.end_handles("the store has crashed since");
+    state.has_crashed();
     Ok(selections)
 }
 

@@ -96,6 +96,7 @@ fn limits() {
             runs: made,
             outcomes,
             is_complete: is_all,
+            ..
         } = visit(limit);
         assert_eq!((made, is_all), (runs, is_complete));
         assert_eq!(outcomes.values().sum::<u64>(), runs);

@@ -217,7 +217,8 @@ fn what_can_not_be_explored() {
 
 #[test]
 fn a_loss_at_each_call() {
-    // The power fails at the create, the write, the sync and the crash's recovery has no call of its own: three, and none.
+    // The power fails at the create, the write or the sync, or not at all; the crash's recovery has no call of its own. At the sync the
+    // sector of the write is kept or lost.
     let builder = Files::builder().keep(Probability::ZERO);
     let visited = Exploration::of(&builder).power_losses(1).visit(|run| {
         let write = || -> io::Result<()> {
@@ -234,6 +235,6 @@ fn a_loss_at_each_call() {
     let outcomes = visited.unwrap().outcomes;
     assert_eq!(
         outcomes.into_iter().collect::<Vec<_>>(),
-        [((false, false), 3), ((true, true), 1)]
+        [((false, false), 4), ((true, true), 1)]
     );
 }

@@ -4,7 +4,9 @@ use super::record::Record;
 use super::state::{Shared, State};
 use crate::choices::Choices;
 use crate::limits::Limits;
+use crate::unsynced::TORN_WRITES;
 use crate::{Config, Error, Explorable, Probability};
+use std::fmt;
 
 /// Which file system's promises the files keep. `docs/FILES.md` has what each one settles and keeps.
 ///
@@ -23,6 +25,12 @@ pub enum Profile {
     Btrfs,
     /// The least that POSIX promises.
     Posix,
+}
+
+impl fmt::Display for Profile {
+    fn fmt(&self, f: &mut fmt::Formatter<'_>) -> fmt::Result {
+        f.write_str(&self.line()["profile ".len()..])
+    }
 }
 
 impl Profile {
@@ -128,7 +136,8 @@ impl Builder {
         self
     }
 
-    /// Sets which calls fail from the start, and what a crash keeps of unsynced writes: nothing, if this isn't set.
+    /// Sets which calls fail from the start, and what a crash keeps of unsynced writes: nothing, if this isn't set. The files of
+    /// [`explore`](crate::explore()) and [`seeds`](crate::seeds()) begin with half of the sectors of 512 bytes instead, as a mount does.
     ///
     /// The rate of opens is that of making a file. Those of removals and scans aren't used.
     ///
@@ -321,6 +330,15 @@ impl Builder {
         self.made(Limits::default())
     }
 
+    /// The base of a search's files: unsynced writes are torn, unless a setting is one of writes.
+    fn torn_base(&self) -> crate::Builder {
+        let mut base = self.base.clone();
+        if base.effective().write_rate.is_none() {
+            base.config.write_rate = Some(TORN_WRITES);
+        }
+        base
+    }
+
     fn made(mut self, limits: Limits) -> Result<Files, Error> {
         if self.keep.is_none_or(Probability::needs_draws) && !self.base.has_draws {
             return Err(self.base.problem.unwrap_or(Error::NeedsSeed));
@@ -336,7 +354,9 @@ impl Builder {
         self.base.complete()?;
         let mut session = Session::open(&self.base.lines.join("\n"))?;
         session.record = (!self.base.unrecorded).then(|| Record::with_lines(&self.base.lines));
-        let state = State::new(session, self.base.config, limits);
+        let mut state = State::new(session, self.base.config, limits);
+        state.syncs_lie = self.syncs == Syncs::Lie;
+        state.limits.unsynced.set(&self.base.effective());
         Ok(Files::of(Shared::new(state, self.base.has_draws)))
     }
 }
@@ -346,13 +366,13 @@ impl Explorable for Builder {
 
     fn explored(&self, mut choices: Choices, words: usize) -> Result<Files, Error> {
         let mut builder = self.clone();
-        builder.base = self.base.with_choices(&mut choices, words)?;
+        builder.base = self.torn_base().with_choices(&mut choices, words)?;
         builder.made(Limits::of_choices(choices))
     }
 
     fn seeded(&self, seed: u64) -> Result<Files, Error> {
         let mut builder = self.clone();
-        builder.base = self.base.with_seed(seed)?;
+        builder.base = self.torn_base().with_seed(seed)?;
         builder.made(Limits::of_seed(seed))
     }
 }

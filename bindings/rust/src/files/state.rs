@@ -27,6 +27,7 @@ pub(crate) struct State {
     pub(crate) life: u64,
     /// Whether an open truncated a file in this life.
     has_truncated: bool,
+    pub(crate) syncs_lie: bool,
 }
 
 impl Shared {
@@ -52,6 +53,7 @@ impl State {
             is_unset: false,
             life: 0,
             has_truncated: false,
+            syncs_lie: false,
         }
     }
 
@@ -70,7 +72,22 @@ impl State {
         let outcome = self.session.apply(call);
         self.record(|record| record.push_call(call, &outcome));
         self.has_truncated |= call.kind == Kind::OpenTruncated;
+        match call.kind {
+            Kind::Sync | Kind::SyncData if outcome.is_ok() && !self.syncs_lie => {
+                let inode = self.inode_of(call.number);
+                self.limits.unsynced.sync(inode);
+            }
+            Kind::SyncAll if outcome.is_ok() && !self.syncs_lie => self.limits.unsynced.clear(),
+            Kind::Settle if outcome.is_ok() => self.limits.unsynced.clear(),
+            _ => {}
+        }
         outcome
+    }
+
+    /// Returns the inode of an open file. Not recorded.
+    fn inode_of(&mut self, file: u64) -> u64 {
+        let found = self.session.apply(&Call::of_number(Kind::InodeOf, file, 0));
+        found.map_or(0, |reply| reply.number)
     }
 
     /// Makes a call by a path.
@@ -87,6 +104,10 @@ impl State {
         self.permit(Effect::Changes)?;
         let outcome = self.session.write(file, offset, bytes);
         self.record(|record| record.push_write(file, offset, bytes, &outcome));
+        if outcome.is_ok() && self.limits.is_search() {
+            let inode = self.inode_of(file);
+            self.limits.unsynced.write(inode);
+        }
         outcome
     }
 
@@ -119,6 +140,7 @@ impl State {
         let reply = self.by_number(Kind::Crash, 0)?;
         let kept = self.session.kept(&reply);
         self.record(|record| record.push_kept(&kept.writes, &kept.edits));
+        self.limits.unsynced.crash();
         self.limits.power.follow(Effect::Crashes);
         self.limits.power.follow(Effect::Reopens);
         self.life += 1;
@@ -146,6 +168,7 @@ impl State {
             self.setting(&line)?;
         }
         self.config = config;
+        self.limits.unsynced.set(&config);
         self.is_unset = false;
         Ok(())
     }

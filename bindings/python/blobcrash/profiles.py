@@ -1,0 +1,59 @@
+"""A search in each profile of files, `profile="all"`: docs/FILES.md."""
+
+from __future__ import annotations
+
+import time
+from typing import Any, Callable, Dict, Iterable, List, Optional, Union
+
+from .errors import NoRuns
+from .failures import Failed
+from .file_settings import PROFILES
+
+# Takes a profile and its seconds, and returns what a search came to.
+Search = Callable[[str, Optional[float]], Any]
+
+
+def in_each(search: Search, profiles: Iterable[str], seconds: float, nothing: Callable[[Any], Any]) -> Dict[str, Any]:
+    """Searches in each profile, of which each has a share of the time that is left. Returns what each came to.
+
+    Raises `Failed` after all of them, with the first failure, if one has failed. `nothing` makes the result of one in whose time no run
+    has ended. `NoRuns` if none has in any.
+    """
+    until, names = time.monotonic() + seconds, tuple(profiles)
+    found: Dict[str, Any] = {}
+    for at, profile in enumerate(names):
+        share = max(0.0, until - time.monotonic()) / (len(names) - at)
+        try:
+            found[profile] = search(profile, None if share == float("inf") else share)
+        except Failed as failed:
+            found[profile] = failed
+        except NoRuns as none:
+            found[profile] = nothing(none.rest)
+    for each in found.values():
+        if isinstance(each, Failed):
+            raise Failed(each.path, each.script, each.reason, each.run, each.stopped, found) from each.__cause__
+    if not any(each.runs for each in found.values()):
+        raise NoRuns(tuple(rest_of(found)))
+    return found
+
+
+def rest_of(found: Dict[str, Any]) -> List[Any]:
+    """What is left of each profile: seeds, each once, or paths, after the name of their profile."""
+    every = [(profile, left) for profile, each in found.items() for left in each.rest]
+    if all(isinstance(left, int) for _, left in every):
+        return sorted({left for _, left in every})
+    return [f"{profile}:{left}" for profile, left in every]
+
+
+def paths_of(under: Union[str, Iterable[str]]) -> Dict[str, List[str]]:
+    """The subtrees of each profile that `under` names, as `rest_of` does. An empty path is that of all profiles."""
+    paths: Dict[str, List[str]] = {}
+    for text in [under] if isinstance(under, str) else under:
+        profile, colon, path = text.partition(":")
+        if text and not (colon and profile in PROFILES):
+            raise ValueError(f"with all profiles a path begins with the name of one, as `xfs:0/2`, not {text!r}")
+        for name in [profile] if text else PROFILES:
+            paths.setdefault(name, []).append(path)
+    if not paths:
+        raise ValueError("there is nothing to explore: no subtrees")
+    return paths
