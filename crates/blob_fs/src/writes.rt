@@ -14,11 +14,7 @@ use blob_journal::{FileBlob, Journaled};
 use rand_core::Rng;
 
 /// Returns the faults with this rate of failures of writes. A failed one keeps by this rate, in this mode.
-pub(crate) fn with_writes(
-    faults: &Config,
-    failure_rate: Probability,
-    writes: WriteConfig,
-) -> Config
+pub(crate) fn with_writes(faults: &Config, failure_rate: Probability, writes: WriteConfig) -> Config
     ensures { retention result.write_rate ≡ retention (Some writes) }
 {
     copy_of(faults).write(WriteConfig {
