@@ -66,6 +66,7 @@ from .foreign import TOP, is_proved, library
 from .judging import acknowledgement, judge
 from .layers import Library, Program, Reply, explain, program, run
 from .open_file import OpenFile
+from .patching import patched
 from .power import PowerLoss
 from .results import Explored, Seeded
 from .seeding import SeededFiles, SeededStore, seeds
@@ -145,6 +146,7 @@ __all__ = [
     "is_proved",
     "judge",
     "library",
+    "patched",
     "program",
     "run",
     "seeds",

@@ -70,6 +70,8 @@ class Files:
         self._lines: List[Union[str, Tuple[FileCall, str]]] = list(lines)
         # The files that were opened and not closed, by their descriptors.
         self._opened: Dict[int, OpenFile] = {}
+        # How often `restart` has ended a process.
+        self._restarts = 0
         self._thread = get_ident()
         # Whether a call can't be made: one is under way, or was cut short, or the files are closed.
         self._busy = False
@@ -248,6 +250,7 @@ class Files:
         kept = self.crash()
         for file in opened:
             file._end()
+        self._restarts += 1
         return kept
 
     def crash_after(self, calls: int) -> None:
