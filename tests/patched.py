@@ -111,6 +111,42 @@ def test_dbm_dumb():
         assert raises(Failed, explore, adds, files=profile, settings=SECTORS).reason == "AssertionError: a durable key is lost"
 
 
+def sets(files, key):
+    with patched(files, DISK):
+        db = dbm.dumb.open(DISK + "/db", "c")
+        db[key] = b"1"
+        db.close()
+
+
+def counts(files):
+    """The keys that are left if the power fails at some call, or the kind of the error by which the database can't be opened."""
+    try:
+        sets(files, b"a")
+        files.settle()
+        sets(files, b"b")
+    except PowerLoss:
+        pass
+    files.restart()
+    with patched(files, DISK):
+        try:
+            with dbm.dumb.open(DISK + "/db", "r") as db:
+                return len(db.keys())
+        except Exception as error:
+            return type(error).__name__
+
+
+def test_a_database_that_is_dropped():
+    # It writes when Python drops it, after its block: it finds no folder, and no later run.
+    dropped, hook = [], sys.unraisablehook
+    sys.unraisablehook = lambda found: dropped.append(found.exc_type)
+    try:
+        found = explore(counts, files="posix", settings=SECTORS, power_losses=1)
+    finally:
+        sys.unraisablehook = hook
+    assert found.complete and found.runs > 50 and {0, 1, 2} <= set(found.outcomes), found
+    assert dropped and set(dropped) == {FileNotFoundError}, dropped
+
+
 def test_the_calls():
     with Files(words=[0]) as files:
         with patched(files, DISK):

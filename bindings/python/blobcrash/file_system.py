@@ -383,6 +383,7 @@ class Files:
             self._busy = False
         elif isinstance(error, (BadLine, NotMade)):
             self._busy = False
-        elif is_shown:
-            self._lines.append((asked, ""))
-        self._cause = error
+        else:
+            self._lines += [(asked, "")] if is_shown else []
+            # Only of a call that ends the files: its traceback has objects of the code under test, which must not outlive their run.
+            self._cause = error
