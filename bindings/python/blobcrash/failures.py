@@ -2,6 +2,7 @@
 
 from __future__ import annotations
 
+import importlib
 from typing import Any, Callable, Dict, List, Optional
 
 from .layers import explain, run
@@ -106,7 +107,7 @@ def page_writer(wanted_by: str) -> Callable[[str, List[str], str], None]:
     Raises `ImportError` if pages can't be made. `wanted_by` names the option that needs them.
     """
     try:
-        from blobcrash_page import page
+        page = importlib.import_module("blobcrash_page").page
     except ImportError:
         raise ImportError(f"`{wanted_by}` needs the package `blobcrash_page`, which lies beside `blobcrash` in bindings/python") from None
 
@@ -129,4 +130,5 @@ def reporter(path: Optional[str], is_of_files: bool = False) -> Callable[[Failed
     if is_of_files:
         raise ValueError("a page shows a store: there is no `report` of files")
     write = page_writer("report")
-    return lambda failed: write(path, failed.script, f"{failed.path or 'no choices'}: {failed.reason}")
+    page = path
+    return lambda failed: write(page, failed.script, f"{failed.path or 'no choices'}: {failed.reason}")

@@ -19,11 +19,11 @@ _SWITCHES = {"failed_sync": ("keeps", "drops"), "syncs": ("honest", "lie"), "fai
 
 def profile_of(profile: Any) -> str:
     """The name of a profile. Raises `TypeError` or `ValueError`."""
-    profile = text_of(profile, "a profile")
-    if profile not in PROFILES:
-        also = ", or `all` of a search" if profile == ALL else ""
-        raise ValueError(f"{profile!r} is no profile: it is one of {', '.join(PROFILES)}{also}")
-    return profile
+    name = text_of(profile, "a profile")
+    if name not in PROFILES:
+        also = ", or `all` of a search" if name == ALL else ""
+        raise ValueError(f"{name!r} is no profile: it is one of {', '.join(PROFILES)}{also}")
+    return name
 
 
 def profile_asked(profile: Any, files: Any) -> Optional[str]:

@@ -185,7 +185,7 @@ class Files:
 
     def listdir(self, path: Path = "/") -> List[Any]:
         """Returns the names in a directory, sorted by their bytes: as `bytes` if the path is one, else as `str`."""
-        names = self._on("listdir", path)
+        names: List[Any] = self._on("listdir", path)
         if isinstance(os.fspath(path), bytes):
             return names
         return [name.decode("utf-8", "surrogateescape") for name in names]
@@ -239,7 +239,7 @@ class Files:
         """Loses what isn't durable, except what the draws keep, and recovers. Returns what was kept. All open files are stale."""
         if self._draws_edits and not self._has_draws:
             raise NeedsSeed("a crash draws which edits it keeps: give the files a seed, `Files(seed=7)`, words, or the setting `keep 1 1`")
-        kept = self._call(FileCall("crash"))
+        kept: Kept = self._call(FileCall("crash"))
         self._lines += kept.lines()
         self._opened.clear()
         return kept

@@ -94,7 +94,7 @@ class OpenFile(io.RawIOBase):
     def size(self) -> int:
         """Returns the size in bytes."""
         self._check_open()
-        return self._ask("size").size
+        return int(self._ask("size").size)
 
     def truncate(self, size: Optional[int] = None) -> int:
         """Truncates or extends the file, by default to the position. The position doesn't move."""

@@ -154,7 +154,7 @@ class Functions:
         return open
 
 
-class PatchedFile(_pyio.FileIO):  # type: ignore[name-defined,misc]
+class PatchedFile(_pyio.FileIO):  # type: ignore[misc]
     """An unbuffered file of patched code. Once its process has ended it is closed."""
 
     _folder: Any = None

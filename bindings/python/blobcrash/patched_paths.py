@@ -6,7 +6,7 @@ import errno
 import itertools
 import os
 import posixpath
-from typing import Any, Dict, Optional, Set, Union
+from typing import Any, Dict, Optional, Set, Tuple, Union
 
 from .errors import WrongThread
 from .file_system import Files
@@ -45,7 +45,8 @@ class Folder:
         # Every descriptor of the folder, closed ones too.
         self._numbers: Set[int] = set()
         self._process = os.getpid()
-        self._roots = {str: root, bytes: os.fsencode(root)}
+        # The root and a slash, as texts and as bytes.
+        self._roots: Tuple[Tuple[Any, Any], ...] = ((root, "/"), (os.fsencode(root), b"/"))
 
     def check(self) -> None:
         """Raises `WrongThread` in another thread or process, and `ValueError` if the files are closed."""
@@ -59,17 +60,7 @@ class Folder:
             return path if path in self._numbers else None
         if not isinstance(path, (str, bytes, os.PathLike)):
             return None
-        path = os.fspath(path)
-        slash = path[:0] + ("/" if isinstance(path, str) else b"/")  # type: ignore[operator]
-        if not path.startswith(slash):
-            return self._below(dir_fd, path) if isinstance(dir_fd, int) and dir_fd in self._numbers else None
-        root = self._roots[type(path)]
-        plain = slash + posixpath.normpath(path).lstrip(slash)
-        if plain == root:
-            return slash
-        if not plain.startswith(root + slash):
-            return None
-        return plain[len(root) :] + (slash if path.endswith(slash) else path[:0])
+        return self._inside(os.fspath(path), dir_fd)
 
     def add(self, opened: Opened) -> int:
         """A new descriptor of something open."""
@@ -126,6 +117,16 @@ class Folder:
                     self.drop(number)
                 except OSError:
                     pass
+
+    def _inside(self, path: Any, dir_fd: Any) -> Optional[At]:
+        root, slash = self._roots[isinstance(path, bytes)]
+        if not path.startswith(slash):
+            return self._below(dir_fd, path) if isinstance(dir_fd, int) and dir_fd in self._numbers else None
+        plain = slash + posixpath.normpath(path).lstrip(slash)
+        if plain != root and not plain.startswith(root + slash):
+            return None
+        below: At = plain[len(root) :] + (slash if path.endswith(slash) or plain == root else path[:0])
+        return below
 
     def _below(self, number: int, path: Any) -> At:
         above = self.directory(number)

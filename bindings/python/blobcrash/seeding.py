@@ -5,7 +5,7 @@ from __future__ import annotations
 import random
 import time
 from functools import partial
-from typing import Any, Callable, Iterable, List, NamedTuple, Optional, Tuple, Union
+from typing import Any, Callable, Dict, Iterable, List, NamedTuple, Optional, Tuple, Union
 
 from .bodies import check_body, check_result
 from .bounds import FIRST_RUN, BoundedFiles, BoundedStore, Bounds, RunEnded
@@ -16,15 +16,15 @@ from .file_settings import ALL, PROFILES, profile_asked, torn_unless_set
 from .file_system import Files
 from .grammar import number, number_of_branches
 from .power import PowerLoss
-from .profiles import in_each, rest_of
-from .results import Seeded, of_profiles, with_note
+from functools import partial
+from .shared import Shared
 from .store import Store
 
 # How many seeds a task has at most.
 _CHUNK = 16
 
 
-class BySeed:
+class BySeed(Shared):
     """What the stores and the files of runs by seeds share. It stands before the class that makes the calls."""
 
     def __init__(self, seed: int, **arguments: Any) -> None:
@@ -78,7 +78,7 @@ class _Runs(NamedTuple):
     """A body, and the arguments of its stores."""
 
     body: Callable[..., Any]
-    arguments: dict
+    arguments: Dict[str, Any]
     files: Optional[str] = None
 
 

@@ -69,7 +69,7 @@ class Spread:
             raise TypeError(f"the executor is one of `concurrent.futures`, not {type(executor).__name__}")
         self._executor = executor
         self.workers = getattr(executor, "_max_workers", None) or os.cpu_count() or 1
-        self._under_way: Dict[Future, Tuple[Any, bool, tuple]] = {}
+        self._under_way: Dict["Future[Any]", Tuple[Any, bool, Tuple[Any, ...]]] = {}
         self.lost: List[Any] = []
         self._cause: Optional[BaseException] = None
 
@@ -116,7 +116,7 @@ class Spread:
         self.lost += part
         self._cause = self._cause or error
 
-    def _ready(self) -> List[Future]:
+    def _ready(self) -> List["Future[Any]"]:
         """The tasks that are done, of which there is at least one. An executor's futures may be of a class of its own."""
         futures = list(self._under_way)
         if all(isinstance(future, Future) for future in futures):
@@ -153,13 +153,20 @@ def visit_with(executor: Any, tree: Tree, subtrees: List[str], most: int, until:
             spread.submit(part, _visited, tree, part, quota, min(length, until - now), until - now)
         if not len(spread):
             break
-        for quota, part in spread.done():
+        for quota, done in spread.done():
             promised -= quota
+<<<<<<< HEAD
             runs += part.runs
             met += part.met
             unsynced |= part.unsynced
             waiting += part.rest
             for outcome, count in part.outcomes.items():
+=======
+            runs += done.runs
+            met += done.met
+            waiting += done.rest
+            for outcome, count in done.outcomes.items():
+>>>>>>> bf98421b (Python: the package passes mypy --strict)
                 outcomes[outcome] = outcomes.get(outcome, 0) + count
             length = _SLICE
     spread.check(waiting)

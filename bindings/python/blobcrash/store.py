@@ -335,7 +335,7 @@ class Store:
         self._busy = True
         self._lines.append(line)
         try:
-            reply = self._layer.call(line)
+            reply: bytes = self._layer.call(line)
         except BaseException as error:
             self._ended(error)
             raise
@@ -350,14 +350,14 @@ class Store:
         self._busy = True
         self._lines.append((handle, offset, length))
         try:
-            found = self._layer.read(handle, offset, length)
+            found: Any = self._layer.read(handle, offset, length)
         except BaseException as error:
             self._ended(error)
             raise
         self._busy = False
-        if type(found) is Reply:
+        if isinstance(found, Reply):
             raise refusal(found.line)
-        return found
+        return bytes(found)
 
     def _write(self, handle: int, offset: int, data: bytes, sync: bool) -> None:
         if self._busy or get_ident() != self._thread:
