@@ -54,11 +54,12 @@ from .errors import (
     WriteFailed,
     WrongThread,
 )
-from .exploration import explore
+from .exploration import explore as _explore
 from .failures import Failed, TooLong
 from .file_calls import Kept
 from .file_follow import ExploredFiles
 from .file_library import FilesLibrary
+from .file_settings import PROFILES, Profile
 from .file_system import Files, FileStatus
 from .files import BlobFile
 from .follow import ExploredStore, NotDeterministic
@@ -69,11 +70,16 @@ from .open_file import OpenFile
 from .patching import patched
 from .power import PowerLoss
 from .results import Explored, Seeded
-from .seeding import SeededFiles, SeededStore, seeds
+from .seeding import SeededFiles, SeededStore
+from .seeding import seeds as _seeds
 from .shrinking import shrink
+from .signatures import Explores, Seeds
 from .spread import LostWork
 from .states import CrashState, CrashStates
 from .store import Store
+
+explore: Explores = _explore
+seeds: Seeds = _seeds
 
 __version__ = "0.3.0"
 
@@ -120,9 +126,11 @@ __all__ = [
     "NotMade",
     "OffsetOverflow",
     "OpenFile",
+    "PROFILES",
     "PartitionMissing",
     "PartitionNameInvalid",
     "PowerLoss",
+    "Profile",
     "Program",
     "ProgramEnded",
     "ReadFailed",

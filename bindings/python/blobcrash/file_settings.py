@@ -2,13 +2,16 @@
 
 from __future__ import annotations
 
-from typing import Any, Iterable, List, Optional, Tuple
+from typing import Any, Iterable, List, Literal, Optional, Tuple
 
 from .errors import BadLine
 from .grammar import needs_draws, setting_tokens, text_of
 from .shapes import MAX
 
-PROFILES = ("ext4", "xfs", "btrfs", "posix")
+Profile = Literal["ext4", "xfs", "btrfs", "posix"]
+# What a search may be asked for.
+Asked = Literal["ext4", "xfs", "btrfs", "posix", "all"]
+PROFILES: Tuple[Profile, ...] = ("ext4", "xfs", "btrfs", "posix")
 # Asks a search for a run of each.
 ALL = "all"
 # What the files of a search begin with, as a mount does, if no setting is one of writes: a crash keeps half of the unsynced sectors.

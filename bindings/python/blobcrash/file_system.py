@@ -4,7 +4,7 @@ from __future__ import annotations
 
 import os
 from threading import get_ident
-from typing import Any, Callable, Dict, Iterable, List, NamedTuple, Optional, Tuple, Union
+from typing import Any, Callable, Dict, Iterable, List, NamedTuple, Optional, Tuple, TypeVar, Union
 
 from .errors import BadLine, Interrupted, NeedsSeed, NotMade, WrongThread
 from .file_calls import FileCall, Kept, reply_text
@@ -12,13 +12,14 @@ from .file_errors import error_of
 from .file_library import files_way
 from .file_paths import Path, bytes_of, check_link, check_one, check_rename, is_plain, is_root, named
 from .file_power import FileSupply
-from .file_settings import file_setting_line, profile_of
+from .file_settings import Profile, file_setting_line, profile_of
 from .foreign_files import EXCHANGES, IS_DIRECTORY, REFUSES, REPLACES, Refusal
 from .grammar import comment_lines, number, text_of
 from .open_file import OpenFile, plain_mode
 from .power import PowerLoss, Supply
 from .unkept_files import FOLLOWED, UnsyncedFiles
 
+_Own = TypeVar("_Own", bound="Files")
 # The refusals by which a path has no file.
 _MISSING = frozenset(("NotFound", "NotDirectory", "InvalidName", "NameTooLong"))
 
@@ -51,7 +52,7 @@ class Files:
         self,
         seed: Optional[int] = None,
         *,
-        profile: str = "ext4",
+        profile: Profile = "ext4",
         words: Iterable[int] = (),
         settings: Iterable[str] = (),
         by: Any = None,
@@ -79,7 +80,7 @@ class Files:
         self._cause: Optional[BaseException] = None
         self._layer = files_way(by)("\n".join([*self._words_line(), *lines, ""]).encode())
 
-    def __enter__(self) -> Files:
+    def __enter__(self: _Own) -> _Own:
         return self
 
     def __exit__(self, *_: object) -> None:

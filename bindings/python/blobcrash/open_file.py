@@ -43,6 +43,14 @@ class OpenFile(io.RawIOBase):
         self._plain = mode.replace("b", "", 1)
         self._at = 0
 
+    if TYPE_CHECKING:
+
+        def read(self, __size: int = -1) -> bytes:
+            ...
+
+        def readall(self) -> bytes:
+            ...
+
     def readable(self) -> bool:
         return self._plain[0] == "r" or "+" in self._plain
 

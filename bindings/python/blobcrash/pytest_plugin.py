@@ -17,7 +17,7 @@ of the command line come before the mark. At the end a line names each test that
 from __future__ import annotations
 
 import argparse
-from typing import Any, Dict, Iterator, List, Sequence
+from typing import Any, Dict, Iterator, List, Sequence, Tuple
 
 import pytest
 
@@ -165,7 +165,8 @@ def blobcrash_files(request: Any) -> Iterator[SeededFiles]:
 def _with_report(item: Any, call: Any) -> Iterator[None]:
     outcome: Any = yield
     report = outcome.get_result()
-    fixture, store = getattr(item, "_blobcrash", (None, None))
+    made: Tuple[Any, Any] = getattr(item, "_blobcrash", (None, None))
+    fixture, store = made
     if fixture is not None and call.when in ("setup", "call") and report.failed:
         lines: List[str] = show(item, call, fixture, store, _arguments(item, fixture))
         report.sections.append(("blobcrash", "\n".join(lines)))

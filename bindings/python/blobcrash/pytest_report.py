@@ -13,11 +13,11 @@ import pytest
 
 from .bounds import RunEnded
 from .failures import Failed, page_writer, reason_of
-from .file_system import Files
 from .follow import MoreWords
 from .foreign import library
 from .layers import explain
 from .power import PowerLoss
+from .seeding import SeededFiles
 from .shrinking import shrink
 
 # A longer picture is cut here: all of it can be drawn from the script.
@@ -41,7 +41,7 @@ def show(item: Any, call: Any, fixture: str, store: Any, arguments: Dict[str, An
     if smaller is not None:
         script = smaller.script
         lines.append(_written(item, ".short.script", script, f"a smaller run that fails, of {_calls(script)} calls"))
-    if isinstance(store, Files):
+    if isinstance(store, SeededFiles):
         return lines
     if item.config.getoption("--blobcrash-report") is not None:
         lines.append(_page(item, store.script, reason))
@@ -108,7 +108,7 @@ def _shrunk(item: Any, call: Any, fixture: str, store: Any, arguments: Dict[str,
         lines.append(f"no smaller run is looked for: {why}")
         return None
     given = {name: arguments[name] for name in ("settings", "images", "allow_stale") if name in arguments}
-    if isinstance(store, Files):
+    if isinstance(store, SeededFiles):
         given["profile"] = store.profile
     failed = Failed(f"seed {store.seed}", store.script, _reason_of(call.excinfo.value), 1)
     try:

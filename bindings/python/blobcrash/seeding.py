@@ -11,12 +11,13 @@ from .bodies import check_body, check_result
 from .bounds import FIRST_RUN, BoundedFiles, BoundedStore, Bounds, RunEnded
 from .errors import NoRuns
 from .exploration import seconds_of
-from .failures import Failed, reason_of, reporter
+from .failures import Failed, one_traceback, reporter
 from .file_settings import ALL, PROFILES, profile_asked, torn_unless_set
 from .file_system import Files
 from .grammar import number, number_of_branches
 from .power import PowerLoss
-from functools import partial
+from .profiles import in_each, rest_of
+from .results import Seeded, of_profiles, with_note
 from .shared import Shared
 from .store import Store
 
@@ -82,6 +83,7 @@ class _Runs(NamedTuple):
     files: Optional[str] = None
 
 
+@one_traceback
 def seeds(
     body: Callable[..., Any],
     which: Union[int, Iterable[int]],
@@ -162,7 +164,7 @@ def _visit(runs: _Runs, every: List[int], before: int, until: float, first_until
                 result = None
             except (Exception, PowerLoss) as error:
                 if not _is_late(store):
-                    raise Failed(f"seed {seed}", store.script, reason_of(error), before + at + 1) from error
+                    raise Failed.of(error, f"seed {seed}", store.script, before + at + 1)
                 result = None
             if _is_late(store):
                 return _Part(at, tuple(every[at:]), unsynced)

@@ -50,7 +50,7 @@ def told(key: str, task: Callable[..., Any], *arguments: Any) -> Told:
     try:
         return Told(task(*arguments))
     except Exception as error:
-        cause = error.__cause__ if isinstance(error, Failed) else error
+        cause = error.cause if isinstance(error, Failed) else error
         trace = "" if cause is None else "".join(traceback.format_exception(type(cause), cause, cause.__traceback__))
         return Told(None, error, trace)
 
@@ -99,7 +99,10 @@ class Spread:
             if result.error is not None:
                 for other in self._under_way:
                     other.cancel()
-                raise result.error from Trace(result.trace)
+                trace = Trace(result.trace)
+                if isinstance(result.error, Failed) and result.error.cause is None:
+                    result.error.cause = trace
+                raise result.error from trace
             yield result.done
 
     def check(self, waiting: List[Any]) -> None:
@@ -155,18 +158,11 @@ def visit_with(executor: Any, tree: Tree, subtrees: List[str], most: int, until:
             break
         for quota, done in spread.done():
             promised -= quota
-<<<<<<< HEAD
-            runs += part.runs
-            met += part.met
-            unsynced |= part.unsynced
-            waiting += part.rest
-            for outcome, count in part.outcomes.items():
-=======
             runs += done.runs
             met += done.met
+            unsynced |= done.unsynced
             waiting += done.rest
             for outcome, count in done.outcomes.items():
->>>>>>> bf98421b (Python: the package passes mypy --strict)
                 outcomes[outcome] = outcomes.get(outcome, 0) + count
             length = _SLICE
     spread.check(waiting)

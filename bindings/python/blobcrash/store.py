@@ -3,7 +3,7 @@
 from __future__ import annotations
 
 from threading import get_ident
-from typing import Any, Callable, Dict, Iterable, List, Optional, Tuple
+from typing import Any, Callable, Dict, Iterable, List, Optional, Tuple, TypeVar
 
 from .blob import Blob
 from .errors import BadLine, Interrupted, NeedsSeed, NotMade, WrongThread, refusal
@@ -30,6 +30,7 @@ Versions = Optional[Tuple[int, int]]
 Rows = List[Tuple[int, str]]
 # The word after all that are pushed. It isn't zero, so that the library can tell how many words are left.
 _LAST_WORD = 1
+_Own = TypeVar("_Own", bound="Store")
 
 
 class Store:
@@ -88,7 +89,7 @@ class Store:
             raise ValueError("words can be pushed with `by=Library` alone")
         self._layer = way("\n".join([*self._words_line(), ""]).encode() + preamble)
 
-    def __enter__(self) -> Store:
+    def __enter__(self: _Own) -> _Own:
         return self
 
     def __exit__(self, *_: object) -> None:
