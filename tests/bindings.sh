@@ -10,6 +10,7 @@ top=$(CDPATH='' cd -- "$(dirname -- "$0")/.." && pwd -P)
 sh "$top/bindings/build.sh" || give_up "the library can't be built"
 need_program explain files
 explain=${program}_explain
+files=${program}_files
 
 # answers NAME COMMAND..: the client's replies, messages and exit statuses are the program's, script by script.
 answers() {
@@ -58,7 +59,7 @@ lives() {
 replays() {
     "$2" "$work/files.script" >"$work/out" 2>"$work/err"
     tell $? "$1: what each function of files returns"
-    "${program}_files" <"$work/files.script" >"$work/err" 2>&1 && [ "$(tail -n 1 "$work/err")" = "$(cat "$work/out")" ]
+    "$files" <"$work/files.script" >"$work/err" 2>&1 && [ "$(tail -n 1 "$work/err")" = "$(cat "$work/out")" ]
     tell $? "$1: the script of calls on files"
 }
 
