@@ -82,10 +82,12 @@ impl<T> fmt::Display for Explored<T> {
 ///     2 => Err("two"),
 ///     branch => Ok(branch),
 /// });
-/// let (path, script) = ("2/3".to_owned(), "# choose(3) is 2\n".to_owned());
+/// let (path, script) = (Box::new("2/3".to_owned()), "# choose(3) is 2\n".to_owned());
 /// assert_eq!(failed, Err(ExploreError::Failed { error: "two", run: 3, path, script }));
 /// ```
 #[derive(Clone, Debug, PartialEq, Eq)]
+// A box of a text has fewer bytes than the text: an error that is larger makes each result large.
+#[allow(clippy::box_collection)]
 pub enum ExploreError<E> {
     /// The body returned an error.
     Failed {
@@ -94,7 +96,7 @@ pub enum ExploreError<E> {
         /// The number of the run, from 1.
         run: u64,
         /// The choices of the run, with which [`Exploration::under`] and [`shrink`](crate::shrink()) make it again; `seed N` of a seed.
-        path: String,
+        path: Box<String>,
         /// The calls of the run, which make the same calls again; `blobcrash explain` shows them.
         script: String,
     },
@@ -327,7 +329,10 @@ impl<B: Explorable> Exploration<B> {
             match result {
                 Ok(outcome) => *visited.outcomes.entry(outcome).or_insert(0) += 1,
                 Err(error) => {
-                    let (path, script) = (run.choices(|choices| choices.path_text()), run.script());
+                    let (path, script) = (
+                        run.choices(|choices| Box::new(choices.path_text())),
+                        run.script(),
+                    );
                     return Err(ExploreError::Failed {
                         error,
                         run: visited.runs,

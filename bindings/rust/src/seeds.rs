@@ -51,7 +51,7 @@ pub fn seeds<B: Explorable, T: Ord, E>(
         match result {
             Ok(outcome) => *visited.outcomes.entry(outcome).or_insert(0) += 1,
             Err(error) => {
-                let (path, script) = (format!("seed {seed}"), run.script());
+                let (path, script) = (Box::new(format!("seed {seed}")), run.script());
                 let run = visited.runs;
                 return Err(ExploreError::Failed {
                     error,

@@ -25,7 +25,7 @@ fn parts<T: std::fmt::Debug, E: std::fmt::Debug>(
     let ExploreError::Failed { path, script, .. } = &failed else {
         panic!("{failed:?}");
     };
-    let (path, script) = (path.clone(), script.clone());
+    let (path, script) = (path.to_string(), script.clone());
     (failed, path, script)
 }
 
@@ -180,11 +180,12 @@ fn limits_and_other_failures() {
     assert_eq!(shrink(&builder, &failed, 100, body).unwrap().path, "4/5");
     // A smaller run that never ends doesn't count.
     let body = |run: &Run| {
-        let stops = run.choose(2) == 1;
-        while !stops {
+        if run.choose(2) == 1 {
+            return Err::<(), _>("stopped");
+        }
+        loop {
             let _ = run.scan("p");
         }
-        Err::<(), _>("stopped")
     };
     let (failed, ..) = parts(Exploration::of(&builder).under("1/2").visit(body));
     assert_eq!(shrink(&builder, &failed, 100, body).unwrap().path, "1/2");
