@@ -184,6 +184,16 @@ if has cargo "$compiler"; then
     answers 'Rust, line by line' "$top/out/rust/release/examples/lines"
     answers 'Rust, at once' "$top/out/rust/release/examples/lines" --whole
     explains Rust "$top/out/rust/release/examples/lines"
+    # The crates that Debian has. The folder is copied since cargo writes a lock file to it.
+    if [ -n "$(ls -d /usr/share/cargo/registry/proptest-1.* 2>/dev/null)" ]; then
+        cp -R "$top/bindings/rust" "$work/rust"
+        (cd "$work/rust/proptest" && BLOBCRASH_LIB_DIR=$top/out CARGO_TARGET_DIR=$top/out/rust cargo --quiet test --offline \
+            --config 'source.crates-io.replace-with="debian"' --config 'source.debian.directory="/usr/share/cargo/registry"') \
+            >"$work/out" 2>"$work/err"
+        tell $? 'Rust: the strategy of proptest'
+    else
+        skip 'Rust: the strategy of proptest: librust-proptest+std-dev is missing'
+    fi
     if cargo clippy --version >/dev/null 2>&1; then
         run_cargo clippy --all-targets -- -D warnings >"$work/out" 2>"$work/err"
         tell $? 'Rust: cargo clippy'
