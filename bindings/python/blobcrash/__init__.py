@@ -18,6 +18,7 @@ argument that isn't one raises `TypeError` or `ValueError`, and nothing is sent.
 again. Its lines and replies are those of docs/FORMATS.md. A store belongs to one thread.
 
 `Files(seed=7, profile="ext4")` is a file system that crashes, with the calls of `os` and the library (docs/FILES.md).
+`patched(files, "/disk")` lets unmodified code that calls `open` and `os` run on it.
 
 To use the package without installing it, copy this folder: it needs nothing but Python 3.8 or later.
 """

@@ -20,8 +20,8 @@ _Search = TypeVar("_Search", bound=Callable[..., Any])
 class Failed(AssertionError):
     """A run of a body failed. `cause` is what it raised; that of a worker in another process is a text, with its traceback.
 
-    `script` are the lines that make the same calls again, to run or to explain; of files, lines to read. `path` names the run: `explore(body, under=[path])`
-    makes it again. Of a run by a seed it is `seed N`. `reason` is what the body raised, as a text. `stopped` is a text if `shrink` returns
+    `script` are the lines that make the same calls again, to run or to explain; of files, lines to read. `path` names the run:
+    `explore(body, under=[path])` makes it again. Of a run by a seed it is `seed N`. `reason` is what the body raised, as a text. `stopped` is a text if `shrink` returns
     it and stopped at a limit: there may be a smaller run. `profiles` has what a search in all profiles came to in each: a `Failed`, or its
     result. The other fields are then those of the first that failed.
     """
