@@ -14,6 +14,7 @@ import sys
 import tempfile
 import threading
 import types
+import warnings
 
 TOP = os.path.dirname(os.path.dirname(os.path.abspath(__file__)))
 sys.path[:0] = [os.path.join(TOP, "bindings", "python"), os.path.join(TOP, "tests")]
@@ -38,11 +39,14 @@ def everything():
 
 
 def compare(program):
-    with tempfile.TemporaryDirectory() as real:
-        want = list(program(real))
     before = everything()
-    with Files(words=[0]) as files, patched(files, DISK):
-        found = list(program(DISK))
+    with warnings.catch_warnings():
+        # Line buffering of a binary file.
+        warnings.simplefilter("ignore", RuntimeWarning)
+        with tempfile.TemporaryDirectory() as real:
+            want = list(program(real))
+        with Files(words=[0]) as files, patched(files, DISK):
+            found = list(program(DISK))
     assert everything() == before
     assert len(found) == len(want)
     for at, (one, other) in enumerate(zip(found, want)):
