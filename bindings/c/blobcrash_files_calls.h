@@ -90,7 +90,7 @@ static inline uint32_t blobcrash_file_create(struct blobcrash_files *files, cons
     return blobcrash_file_found(blobcrash_file_make(files, BLOBCRASH_F_CREATE, 0, 0, 0, path, ""), descriptor, NULL, NULL);
 }
 
-/* Opens a file that is there. */
+/* Opens a file that exists. */
 static inline uint32_t blobcrash_file_open(struct blobcrash_files *files, const char *path, uint64_t *descriptor) {
     return blobcrash_file_found(blobcrash_file_make(files, BLOBCRASH_F_OPEN, 0, 0, 0, path, ""), descriptor, NULL, NULL);
 }

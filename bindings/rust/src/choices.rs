@@ -87,7 +87,7 @@ impl Choices {
         (self.replay.is_none() && is_whole).then_some(self.losses)
     }
 
-    /// Returns whether the run is to be ended, since another one came to this state.
+    /// Returns whether the run must end, since another one came to this state.
     pub(crate) fn arrive<V>(&mut self, state: State, expected: V) -> bool
     where
         V: PartialEq + Send + 'static,

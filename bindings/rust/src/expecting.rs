@@ -66,10 +66,10 @@ impl Run<Store> {
     /// the same durable bytes and settings, and an equal value: since all that follows was tried. [`Explored::met`](crate::Explored::met)
     /// counts such runs.
     ///
-    /// `expected` is all of the body that what follows depends on: what it still expects of the store, and where it is, if a loop or
-    /// a function has more than one such place. The run is ended by unwinding, like a panic but without its message.
+    /// `expected` is all of the body that what follows depends on: what it still expects of the store, and which place it is, if a loop or
+    /// a function has more than one. The run is ended by unwinding, like a panic but without its message.
     ///
-    /// Errors: those of a restart; `Argument` in an exploration whose builder is `unrecorded`.
+    /// Errors: those of a restart; `Argument` in an exploration, if the builder is `unrecorded`.
     ///
     /// ```
     /// # use blobcrash::{Error, Exploration, Probability, Store, WriteOptions};
