@@ -108,7 +108,8 @@ def one_traceback(search: _Search) -> _Search:
         except Failed as failed:
             cause = failed.cause
             if cause is None or isinstance(cause, Trace):
-                raise
+                # That of a worker in another process is a text, which Python shows before.
+                raise failed.with_traceback(None)
             failed.__cause__, failed.__context__ = cause.__cause__, cause.__context__
             failed.__suppress_context__ = cause.__suppress_context__
             raise failed.with_traceback(_of_body(cause.__traceback__))
