@@ -133,7 +133,10 @@ class Spread:
 
 def _is_unsent(error: BaseException) -> bool:
     """Whether a task failed because it couldn't be pickled."""
-    return isinstance(error, pickle.PicklingError) or (isinstance(error, (AttributeError, TypeError)) and "pickle" in str(error))
+    said = str(error)
+    # Python 3.13 says of a function in another one that it can't get a local object.
+    is_said = "pickle" in said or "local object" in said
+    return isinstance(error, pickle.PicklingError) or (isinstance(error, (AttributeError, TypeError)) and is_said)
 
 
 def visit_with(executor: Any, tree: Tree, subtrees: List[str], most: int, until: float) -> Part:
