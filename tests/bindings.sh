@@ -8,8 +8,9 @@ top=$(CDPATH='' cd -- "$(dirname -- "$0")/.." && pwd -P)
 . "$top/tests/counting.sh"
 
 sh "$top/bindings/build.sh" || give_up "the library can't be built"
-need_program explain
+need_program explain files
 explain=${program}_explain
+files=${program}_files
 
 # answers NAME COMMAND..: the client's replies, messages and exit statuses are the program's, script by script.
 answers() {
@@ -54,10 +55,18 @@ lives() {
     tell $? "$name: the log that forgets a sync"
 }
 
+# replays NAME COMMAND: the calls on files by functions return what they should, and `blobcrash files` makes those of their script again.
+replays() {
+    "$2" "$work/files.script" >"$work/out" 2>"$work/err"
+    tell $? "$1: what each function of files returns"
+    "$files" <"$work/files.script" >"$work/err" 2>&1 && [ "$(tail -n 1 "$work/err")" = "$(cat "$work/out")" ]
+    tell $? "$1: the script of calls on files"
+}
+
 compiler=${CC:-cc}
 if has "$compiler"; then
     build="$compiler -std=c11 -Wall -Wextra -Werror -pedantic -O2 -I$top/bindings/c"
-    for program in first first_files calls typed numbers fork lines log hostile; do
+    for program in first first_files calls typed numbers fork files_calls lines log hostile; do
         $build -o "$work/$program" "$top/bindings/c/$program.c" "$top/out/libblobcrash.a" >"$work/out" 2>"$work/err"
         tell $? "C: $program.c"
     done
@@ -75,6 +84,7 @@ if has "$compiler"; then
     tell $? 'C: what each number of the header does'
     "$work/fork" >"$work/out" 2>"$work/err"
     tell $? 'C: forks of a session'
+    replays C "$work/files_calls"
     "$work/hostile" "$top/tests/hostile.tsv" >"$work/out" 2>"$work/err"
     tell $? 'C: hostile arguments'
     # The linker passes the allocations of the program and of the library on to the program, which refuses some.
@@ -94,18 +104,26 @@ if has "$compiler"; then
     [ $? -eq 0 ] && [ "$(wc -l <"$work/out")" -eq "$(grep -cv '^seed ' "$work/lost.script")" ] &&
         awk '/^opened/ { size = $3 } /^bytes/ { read = $2 == "-" ? 0 : length($2) / 2 } END { exit size != read }' "$work/out"
     tell $? 'C: the script of the log that forgets a sync'
-    if has c++; then
-        cat >"$work/headers.cc" <<'END'
-#include "blobcrash_files.h"
-static void on_line(blobcrash_session *, const char *, size_t) {}
-#define BLOBCRASH_ON_LINE on_line
-#include "fork.h"
-END
-        c++ -std=c++11 -Wall -Wextra -Werror -pedantic -fsyntax-only "-I$top/bindings/c" "$work/headers.cc" >"$work/out" 2>"$work/err"
-        tell $? 'C++: the headers'
-    else
-        skip 'C++: there is no c++'
-    fi
+    for cxx in g++ clang++; do
+        if ! has "$cxx"; then
+            leave_out "C++: there is no $cxx"
+            continue
+        fi
+        strict="-Wall -Wextra -Werror -pedantic -I$top/bindings/c"
+        # shellcheck disable=SC2086
+        $cxx -std=c++17 $strict -o "$work/cpp" "$top/bindings/c/explore_cpp.cc" "$top/out/libblobcrash.a" >"$work/out" 2>"$work/err"
+        tell $? "C++ ($cxx): the headers"
+        add "$work/cpp"
+        # shellcheck disable=SC2086
+        $cxx -x c++ -std=c++17 $strict -o "$work/files_calls_cpp" "$top/bindings/c/files_calls.c" -x none "$top/out/libblobcrash.a" \
+            >"$work/out" 2>"$work/err"
+        tell $? "C++ ($cxx): files_calls.c"
+        replays "C++ ($cxx)" "$work/files_calls_cpp"
+        printf '#include "blobcrash_files_calls.h"\n#include "explore_files.h"\n#include "blobcrash_calls.h"\n' >"$work/headers.cc"
+        # shellcheck disable=SC2086
+        $cxx -std=c++11 $strict -fsyntax-only "$work/headers.cc" >"$work/out" 2>"$work/err"
+        tell $? "C++11 ($cxx): the headers"
+    done
     # A session may move to another thread because the library has no state per thread and calls no other function of the C library.
     if has nm readelf && [ -f "$top/out/libblobcrash.so" ]; then
         nm -D --undefined-only "$top/out/libblobcrash.so" | awk '$1 == "U" { print $2 }' | sed 's/@.*//' | sort -u >"$work/out"
@@ -124,7 +142,7 @@ END
     # The library and its clients under the address sanitizer, which also reports leaks.
     if $build -g -fsanitize=address,undefined -o "$work/lines.sanitized" "$top/bindings/c/lines.c" \
         "$top/out/libblobcrash.a" 2>"$work/err" && "$work/lines.sanitized" </dev/null 2>"$work/err"; then
-        for program in calls typed numbers fork log hostile; do
+        for program in calls typed numbers fork files_calls log hostile; do
             $build -g -fsanitize=address,undefined -o "$work/$program.sanitized" "$top/bindings/c/$program.c" \
                 "$top/out/libblobcrash.a"
         done
@@ -136,6 +154,7 @@ END
         tell $? 'C, sanitized: what each number of the header does'
         "$work/fork.sanitized" >"$work/out" 2>"$work/err"
         tell $? 'C, sanitized: forks of a session'
+        replays 'C, sanitized' "$work/files_calls.sanitized"
         "$work/hostile.sanitized" "$top/tests/hostile.tsv" >"$work/out" 2>"$work/err"
         tell $? 'C, sanitized: hostile arguments'
         build_files -g -fsanitize=address,undefined -o "$work/files.sanitized" && "$work/files.sanitized" >"$work/out" 2>"$work/err"
@@ -165,6 +184,16 @@ if has cargo "$compiler"; then
     answers 'Rust, line by line' "$top/out/rust/release/examples/lines"
     answers 'Rust, at once' "$top/out/rust/release/examples/lines" --whole
     explains Rust "$top/out/rust/release/examples/lines"
+    # The crates that Debian has. The folder is copied since cargo writes a lock file to it.
+    if [ -n "$(ls -d /usr/share/cargo/registry/proptest-1.* 2>/dev/null)" ]; then
+        cp -R "$top/bindings/rust" "$work/rust"
+        (cd "$work/rust/proptest" && BLOBCRASH_LIB_DIR=$top/out CARGO_TARGET_DIR=$top/out/rust cargo --quiet test --offline \
+            --config 'source.crates-io.replace-with="debian"' --config 'source.debian.directory="/usr/share/cargo/registry"') \
+            >"$work/out" 2>"$work/err"
+        tell $? 'Rust: the strategy of proptest'
+    else
+        skip 'Rust: the strategy of proptest: librust-proptest+std-dev is missing'
+    fi
     if cargo clippy --version >/dev/null 2>&1; then
         run_cargo clippy --all-targets -- -D warnings >"$work/out" 2>"$work/err"
         tell $? 'Rust: cargo clippy'

@@ -7,6 +7,7 @@ import itertools
 import os
 import pickle
 import random
+import re
 import sys
 import tempfile
 import traceback
@@ -196,9 +197,44 @@ def test_with_a_seed_only_choices_are_enumerated():
     assert visited.outcomes == {(branch, found): 1 for branch in range(4)}
 
 
+def loses(store):
+    store.open("p", b"b")[0].write(0, b"x")
+    store.restart()
+    raise KeyError("lost")
+
+
+def chains(store):
+    try:
+        loses(store)
+    except KeyError as error:
+        raise ValueError("chained") from error
+
+
+def opens_nothing(files):
+    files.open("/nothing")
+
+
+def trace_of(search, body, *arguments, **named):
+    """The frames that Python prints of a failure, by their functions: a list for each traceback."""
+    failed = raises(Failed, search, body, *arguments, **named)
+    printed = "".join(traceback.format_exception(type(failed), failed, failed.__traceback__))
+    return [re.findall(r'line \d+, in (\w+)', part) for part in printed.split("Traceback (most recent call last):")[1:]]
+
+
+def test_a_failure_has_one_traceback():
+    by_seed = {"settings": ["write 0 1 1 2 subset"]}
+    for search, *rest in ((explore,), (seeds, 3)):
+        assert trace_of(search, loses, *rest, **by_seed) == [["raises", "searched", "loses"]]
+        # What a body chained itself is shown too.
+        assert trace_of(search, chains, *rest, **by_seed) == [["chains", "loses"], ["raises", "searched", "chains"]]
+    assert trace_of(explore, opens_nothing, profile="all")[0][:3] == ["raises", "searched", "opens_nothing"]
+    failed = raises(Failed, explore, loses)
+    assert isinstance(failed.cause, KeyError) and failed.__cause__ is None
+
+
 def test_a_failure_has_its_script_and_path():
     failed = raises(Failed, explore, forgets, settings=PREFIX)
-    assert isinstance(failed.__cause__, AssertionError) and "bytes are lost" in failed.reason
+    assert isinstance(failed.cause, AssertionError) and "bytes are lost" in failed.reason
     assert failed.path == "0 0 max" and failed.run == 2, failed
     assert failed.script[0] == "words 0 0 max" and "crashed 0:110" in blobcrash.run("\n".join(failed.script).encode()).decode()
     assert all(line in str(failed) for line in failed.script), failed
@@ -354,7 +390,7 @@ def test_executors_visit_the_same():
             rest = explore(torn, settings=["write 0 1 1 2 subset"], executor=pool, under=some.rest)
             assert 0 < some.runs <= 50 and some.runs + rest.runs == 256 and rest.complete
             failed = raises(Failed, explore, forgets, settings=PREFIX, executor=pool)
-            assert "bytes are lost" in failed.reason and "bytes are lost" in str(failed.__cause__), failed.__cause__
+            assert "bytes are lost" in failed.reason and "bytes are lost" in str(failed.cause), failed.cause
             assert raises(Failed, explore, forgets, settings=PREFIX, under=failed.path).script == failed.script
             raises(NotDeterministic, explore, differs, settings=PREFIX, executor=pool)
             assert seeds(torn, 20, settings=PREFIX, by=Library, executor=pool) == (20, ())

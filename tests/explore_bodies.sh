@@ -18,6 +18,7 @@ with_distributed() {
 }
 
 sh "$top/bindings/build.sh" || give_up "the library can't be built"
+need_program files
 compiler=${CC:-cc}
 if ! command -v "$compiler" >/dev/null; then
     skip 'C and Python: there is no C compiler'
@@ -60,7 +61,11 @@ for sanitize in '' '-g -fsanitize=address,undefined'; do
     # shellcheck disable=SC2086
     if "$compiler" -std=c11 -Wall -Wextra -Werror -pedantic -O2 $sanitize -I"$top/bindings/c" -o "$work/explore_files" \
         "$top/bindings/c/explore_files.c" "$top/out/libblobcrash.a" >"$work/out" 2>&1; then
-        add "$work/explore_files"
+        add "$work/explore_files" "$work/script"
+        # The words of the run decide the same: of three edits the first is kept.
+        "${program}_files" <"$work/script" >"$work/out" 2>"$work/err" && grep -q '^crashed 100 ' "$work/out" &&
+            [ "$(tail -n 1 "$work/out")" = 'error NotFound' ]
+        tell $? "explore_files.c $sanitize: blobcrash files makes the calls of its script again"
     else
         tell 1 "explore_files.c $sanitize"
     fi

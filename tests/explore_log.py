@@ -129,7 +129,7 @@ def test_bug(kind, settings, power_losses, reason):
     try:
         visited = explore(lambda store: life(store, kind, RECORDS), settings=settings, power_losses=power_losses)
     except Failed as failed:
-        assert isinstance(failed.__cause__, Broken) and reason in failed.reason, failed
+        assert isinstance(failed.cause, Broken) and reason in failed.reason, failed
         assert run("".join(line + "\n" for line in failed.script).encode()), failed
         return f"found by run {failed.run}"
     raise AssertionError(f"not found in {visited}")

@@ -66,7 +66,7 @@ def test_the_figures_of_the_guide():
 def test_bugs_of_the_log_are_found():
     for kind, settings, losses, reason in BUGS:
         failed = raises(Failed, explore, lambda store: life(store, kind, RECORDS, True), settings=settings, power_losses=losses)
-        assert isinstance(failed.__cause__, Broken) and reason in failed.reason, failed
+        assert isinstance(failed.cause, Broken) and reason in failed.reason, failed
 
 
 def test_random_bodies_have_the_same_outcomes():

@@ -117,6 +117,8 @@ if [ -n "$python" ]; then
     run_pytest --blobcrash-report pages test_log_pytest.py && [ ! -e "$work/far/pages" ]
     tell $? 'pytest: no page without a failure'
     add "$python" "$top/tests/plugin.py"
+    run_pytest "$top/tests/patched.py" && grep -q '^=* 16 passed' "$work/out"
+    tell $? 'pytest: unmodified code on files'
     mkdir "$work/no_page"
     echo 'raise ImportError("as if it were missing")' >"$work/no_page/blobcrash_page.py"
     PYTHONPATH=$work/no_page:$PYTHONPATH run_pytest --blobcrash-report pages test_log_pytest.py

@@ -190,7 +190,7 @@ def test_all_profiles():
     text = str(failed).split("\n")
     assert text[1] == "it failed in 3 of 4 profiles; this run is one of xfs:" and text[3] == "    xfs: AssertionError: damaged", text
     assert text[2] == f"    ext4: {explore(replaces, profile='ext4')}", text
-    assert isinstance(failed.__cause__, AssertionError)
+    assert isinstance(failed.cause, AssertionError)
     again = raises(Failed, explore, replaces, profile="xfs", under=[failed.path])
     assert again.script == failed.script
     copy = pickle.loads(pickle.dumps(failed))

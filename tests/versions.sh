@@ -20,6 +20,7 @@ same CHANGELOG.md 's/^## \([0-9.]*\),.*/\1/p' "$release"
 same bindings/python/pyproject.toml 's/^version = "\(.*\)"/\1/p' "$release"
 same bindings/python/blobcrash/__init__.py 's/^__version__ = "\(.*\)"/\1/p' "$release"
 same bindings/rust/Cargo.toml 's/^version = "\(.*\)"/\1/p' "$release"
+same bindings/rust/proptest/Cargo.toml 's/^version = "\(.*\)"/\1/p' "$release"
 same bindings/rust/Cargo.lock '/^name = "blobcrash"$/ { n; s/^version = "\(.*\)"/\1/p; }' "$release"
 same bindings/blobcrash.1 's/^\.TH BLOBCRASH 1 ".*" "blobcrash \([0-9.]*\)" .*/\1/p' "${release%.*}"
 for page in README.md docs/BINDINGS.md; do

@@ -1,6 +1,8 @@
 #define _GNU_SOURCE
 #include "record.h"
 
+#include "blobcrash_files_lines.h"
+
 #include <errno.h>
 #include <fcntl.h>
 #include <signal.h>
@@ -65,18 +67,6 @@ static void put_text(const char *text) {
     end += len;
 }
 
-/* Puts a space and a number. */
-static void put_number(uint64_t number) {
-    char decimal[20], *first = decimal + sizeof decimal;
-    do
-        *--first = (char)('0' + number % 10);
-    while (number /= 10);
-    *end++ = ' ';
-    size_t len = (size_t)(decimal + sizeof decimal - first);
-    memcpy(end, first, len);
-    end += len;
-}
-
 static inline void write_hex(char *restrict to, const uint8_t *restrict bytes, size_t len) {
     for (size_t at = 0; at < len; at++) {
         uint8_t high = bytes[at] >> 4, low = bytes[at] & 15;
@@ -94,24 +84,8 @@ static void put_hex(const uint8_t *bytes, size_t len) {
     end = to + 2 * len;
 }
 
-/* Puts a space and a name or a path. The path of the root is empty. */
-static void put_name(const char *name) {
-    *end++ = ' ';
-    if (!*name) put_text("\"\"");
-    for (; *name; name++) {
-        unsigned char byte = (unsigned char)*name;
-        if (byte > ' ' && byte < 127 && byte != '\\' && byte != '#') {
-            *end++ = (char)byte;
-            continue;
-        }
-        put_text("\\x");
-        put_hex(&byte, 1);
-    }
-}
-
-/* Puts a space and bytes. */
+/* Puts bytes as a token. */
 static void put_bytes(const uint8_t *bytes, size_t len) {
-    *end++ = ' ';
     if (len == 0) *end++ = '-';
     put_hex(bytes, len);
 }
@@ -138,41 +112,6 @@ static void end_line(void) {
     if (end - buffer >= FLUSH_AT) flush();
 }
 
-/* What a line has after its word. */
-enum shape { NOTHING, NUMBER, NUMBER_FIRST, PATH, PATHS, NUMBER_NAME, FIRST_NUMBER_NAME, NAMES };
-
-static const struct {
-    const char *word;
-    enum shape shape;
-} lines[] = {
-    [BLOBCRASH_F_CREATE] = {"create", PATH},
-    [BLOBCRASH_F_OPEN] = {"open", PATH},
-    [BLOBCRASH_F_OPEN_TRUNCATED] = {"open_truncated", PATH},
-    [BLOBCRASH_F_LINK] = {"link", PATHS},
-    [BLOBCRASH_F_UNLINK] = {"unlink", PATH},
-    [BLOBCRASH_F_RENAME] = {"rename", PATHS},
-    [BLOBCRASH_F_MAKE_DIRECTORY] = {"mkdir", PATH},
-    [BLOBCRASH_F_REMOVE_DIRECTORY] = {"rmdir", PATH},
-    [BLOBCRASH_F_SYNC_DIRECTORY] = {"fsyncdir", PATH},
-    [BLOBCRASH_F_CREATE_AT] = {"create_at", NUMBER_NAME},
-    [BLOBCRASH_F_LINK_AT] = {"link_at", FIRST_NUMBER_NAME},
-    [BLOBCRASH_F_UNLINK_AT] = {"unlink_at", NUMBER_NAME},
-    [BLOBCRASH_F_RENAME_AT] = {"rename_at", NAMES},
-    [BLOBCRASH_F_MAKE_DIRECTORY_AT] = {"mkdir_at", NUMBER_NAME},
-    [BLOBCRASH_F_REMOVE_DIRECTORY_AT] = {"rmdir_at", NUMBER_NAME},
-    [BLOBCRASH_F_SYNC_DIRECTORY_AT] = {"fsyncdir_at", NUMBER},
-    [BLOBCRASH_F_OPEN_INODE] = {"open_inode", NUMBER},
-    [BLOBCRASH_F_OPEN_INODE_TRUNCATED] = {"open_inode_truncated", NUMBER},
-    [BLOBCRASH_F_CLOSE] = {"close", NUMBER},
-    [BLOBCRASH_F_TRUNCATE] = {"truncate", NUMBER_FIRST},
-    [BLOBCRASH_F_SYNC] = {"fsync", NUMBER},
-    [BLOBCRASH_F_SYNC_DATA] = {"fdatasync", NUMBER},
-    [BLOBCRASH_F_SYNC_ALL] = {"sync", NOTHING},
-    [BLOBCRASH_F_SETTLE] = {"settle", NOTHING},
-    [BLOBCRASH_F_COMMIT] = {"commit", NOTHING},
-    [BLOBCRASH_F_CRASH] = {"crash", NOTHING},
-};
-
 /* Whether a call only looks: it changes nothing and draws nothing. */
 static bool only_looks(uint32_t kind) {
     switch (kind) {
@@ -186,28 +125,15 @@ static bool only_looks(uint32_t kind) {
     }
 }
 
-static void put_call(const struct blobcrash_file_call *call, const char *path, const char *to) {
-    static const char *const taken[] = {"", " noreplace", " exchange"};
-    enum shape shape = lines[call->kind].shape;
-    put_text(lines[call->kind].word);
-    if (shape == FIRST_NUMBER_NAME) put_number(call->first);
-    if (shape != NOTHING && shape != PATH && shape != PATHS) put_number(call->number);
-    if (shape == NUMBER_FIRST) put_number(call->first);
-    if (shape >= PATH) put_name(path ? path : "");
-    if (shape == NAMES) put_number(call->first);
-    if (shape == NAMES || shape == PATHS) put_name(to ? to : "");
-    if (call->kind == BLOBCRASH_F_RENAME) put_text(taken[call->first]);
-    if (call->kind == BLOBCRASH_F_RENAME_AT) put_text(taken[call->last]);
-}
-
 void record_call(const struct blobcrash_file_call *call, const char *path, const char *to, uint32_t status) {
     if (only_looks(call->kind) || status == BLOBCRASH_BAD_CALL) return;
-    if (!begin_line(128 + 4 * ((path ? strlen(path) : 0) + (to ? strlen(to) : 0)), status)) return;
-    if (call->kind >= sizeof lines / sizeof *lines || !lines[call->kind].word) {
+    size_t path_len = path ? strlen(path) : 0, to_len = to ? strlen(to) : 0;
+    if (!begin_line(blobcrash_file_line_most(path_len, to_len), status)) return;
+    if (!blobcrash_file_form(call->kind)) {
         stop_before(ENOSYS);
         return;
     }
-    put_call(call, path, to);
+    end = blobcrash_put_file_call(end, call, (const uint8_t *)path, path_len, (const uint8_t *)to, to_len);
     end_line();
     if (call->kind == BLOBCRASH_F_CRASH && file >= 0) flush();
 }
@@ -228,19 +154,14 @@ void record_note(const char *text) {
 
 void record_write(uint64_t descriptor, uint64_t offset, const void *bytes, size_t len, uint32_t status) {
     if (!begin_line(2 * len + 64, status)) return;
-    put_text("write");
-    put_number(descriptor);
-    put_number(offset);
+    end = blobcrash_put_moved(end, "write ", descriptor, offset);
     put_bytes(bytes, len);
     end_line();
 }
 
 void record_read(uint64_t descriptor, uint64_t offset, size_t len, uint32_t status) {
     if (!reads_draw || !begin_line(64, status)) return;
-    put_text("read");
-    put_number(descriptor);
-    put_number(offset);
-    put_number(len);
+    end = blobcrash_put_number(blobcrash_put_moved(end, "read ", descriptor, offset), len);
     end_line();
 }
 

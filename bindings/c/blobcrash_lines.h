@@ -3,31 +3,12 @@
 #define BLOBCRASH_LINES_H
 
 #include "blobcrash.h"
+#include "blobcrash_text.h"
 
 #include <stdlib.h>
 #include <string.h>
 
 #define BLOBCRASH_RECORD blobcrash_record
-
-static inline char *blobcrash_put_number(char *end, uint64_t number) {
-    char digits[20];
-    size_t count = 0;
-    do digits[count++] = (char)('0' + number % 10);
-    while ((number /= 10) > 0);
-    while (count > 0) *end++ = digits[--count];
-    return end;
-}
-
-static inline char *blobcrash_put_hex(char *end, const void *bytes, size_t len) {
-    static const char digits[] = "0123456789abcdef";
-    if (len == 0) *end++ = '-';
-    for (size_t i = 0; i < len; i++) {
-        uint8_t byte = ((const uint8_t *)bytes)[i];
-        *end++ = digits[byte >> 4];
-        *end++ = digits[byte & 15];
-    }
-    return end;
-}
 
 /* `!` for a text that isn't a valid name: it makes the same draw and gets the same refusal. */
 static inline char *blobcrash_put_partition(char *end, const char *partition, size_t len) {

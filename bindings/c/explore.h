@@ -138,7 +138,7 @@ static inline bool blobcrash_add_room(struct blobcrash_paths *paths, size_t more
     size_t wanted = paths->explorer.taken + more, capacity = 2 * paths->capacity + 64;
     if (wanted < paths->capacity) return true;
     if (capacity <= wanted) capacity = wanted + 1;
-    struct blobcrash_choice *choices = realloc(paths->choices, capacity * sizeof *choices);
+    struct blobcrash_choice *choices = (struct blobcrash_choice *)realloc(paths->choices, capacity * sizeof *choices);
     if (choices == NULL) return false;
     paths->choices = choices;
     paths->capacity = capacity;
@@ -156,7 +156,7 @@ static inline int blobcrash_next_path(struct blobcrash_paths *paths, const char 
     if (paths->is_over) return BLOBCRASH_EXPLORE_END;
     if (paths->room == 0) paths->room = 64;
     size_t words = blobcrash_words_of(paths, NULL, 0), rest = strlen(settings), len = words + 6 * paths->room + 1 + rest;
-    char *text = malloc(len);
+    char *text = (char *)malloc(len);
     if (text == NULL) return BLOBCRASH_EXPLORE_NO_MEMORY;
     char *end = text + blobcrash_words_of(paths, text, len);
     for (size_t i = 0; i < paths->room; i++, end += 2) memcpy(end, " 0", 2);
@@ -271,7 +271,7 @@ static inline void blobcrash_repeat_run(struct blobcrash_paths *paths, FILE *scr
 /* Frees the memory of the path. */
 static inline void blobcrash_free_paths(struct blobcrash_paths *paths) {
     free(paths->choices);
-    *paths = (struct blobcrash_paths){0};
+    memset(paths, 0, sizeof *paths);
 }
 
 #include "power.h"

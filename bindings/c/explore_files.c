@@ -222,14 +222,15 @@ static const char *two_names(struct run *run) {
     return on(run, BLOBCRASH_F_FIND, "/c").status == BLOBCRASH_DONE ? NULL : "/c is lost";
 }
 
-static void scripts(void) {
+/* Makes a run again, and compares its script, which it writes to a file for `blobcrash files`. */
+static void scripts(const char *path) {
     static const char *const expected = "words 0 0 max 0\n"
                                         "profile xfs\n"
                                         "config write 0 1 1 2 sectors 512\n"
-                                        "create /a\\x20b is 0\n"
+                                        "create /a\\x20b # is 0\n"
                                         "write 0 0 78\n"
                                         "rename /a\\x20b /c noreplace\n"
-                                        "open /a\\x20b is NotFound\n"
+                                        "open /a\\x20b # is NotFound\n"
                                         "truncate 0 0\n"
                                         "crash\n"
                                         "# of the unsettled edits it keeps 100\n"
@@ -237,12 +238,14 @@ static void scripts(void) {
                                         "# of write 1 it keeps bytes 0 to 0 of 1\n"
                                         "# of write 2 it keeps none of 71\n"
                                         "# of write 3 it keeps bytes 0 to 41 of 42\n"
-                                        "find /c is NotFound\n";
+                                        "find /c # is NotFound\n";
     struct run run = {.forgets = NOTHING};
     char *text = NULL;
     tell(is_text(explore(&run, "xfs", two_names), "/c is lost"), "the second edit may be lost");
     tell(is_text(script_of(&run, two_names, &text), "/c is lost"), "the same run again");
     tell(text != NULL && strcmp(text, expected) == 0, text == NULL ? "no script" : text);
+    FILE *file = path == NULL || text == NULL ? NULL : fopen(path, "w");
+    if (file != NULL) tell(fputs(text, file) >= 0 && fclose(file) == 0, "the script is written");
     free(text);
     blobcrash_free_paths(&run.paths);
 }
@@ -317,9 +320,9 @@ static const char *without_power(struct run *run) {
     return NULL;
 }
 
-int main(void) {
+int main(int count, char **arguments) {
     bugs();
-    scripts();
+    scripts(count > 1 ? arguments[1] : NULL);
     limits();
     struct run run = {.paths = {.power_losses = 1}};
     tell(explore(&run, "ext4", without_power) == NULL && run.paths.runs == 2 && run.is_done, "what is made without power");

@@ -18,12 +18,14 @@
  * aren't made and return BLOBCRASH_POWER_LOSS, until the files have crashed: a crash of files recovers them too. A SETTLE or a COMMIT is no
  * such call, and a CLOSE only if an open has truncated a file since the last crash. explore_files.c has examples.
  *
- * `paths.script` gets a line for each explored call, to be read by people: no program makes these calls again.
+ * `paths.script` gets a script: with blobcrash_repeat_run the words, the settings and a line for each explored call of the run, with which
+ * `blobcrash files` makes the same calls, to the same outcome. A comment says what a call opened or was refused, and what a crash kept.
  */
 #ifndef BLOBCRASH_EXPLORE_FILES_H
 #define BLOBCRASH_EXPLORE_FILES_H
 
 #include "blobcrash_files.h"
+#include "blobcrash_files_lines.h"
 #include "explore.h"
 
 /* What the files of a run begin with, as a mount does, if no setting is one of writes: a crash keeps half of the unsynced sectors. */
@@ -99,62 +101,34 @@ static inline bool blobcrash_file_call_changes(const struct blobcrash_paths *pat
     }
 }
 
-/* Prints a path as one token: `\xNN` for a byte that isn't printable ASCII, a space or a backslash. */
-static inline void blobcrash_print_path(FILE *script, const uint8_t *path, size_t len) {
-    fputs(len == 0 ? " \"\"" : " ", script);
-    for (size_t i = 0; i < len; i++) {
-        if (path[i] > ' ' && path[i] <= '~' && path[i] != '\\') fputc(path[i], script);
-        else fprintf(script, "\\x%02x", path[i]);
-    }
-}
-
 /* Prints what a line says of a status. */
 static inline void blobcrash_print_refusal(FILE *script, uint32_t status) {
     static const char *const names[] = {"Exists", "NotFound", "NotEmpty", "IsDirectory", "NotDirectory", "NameTooLong", "InvalidName",
                                         "TooManyLinks", "Stale", "NoSpace", "Loop", "Crashed"};
     if (status == BLOBCRASH_DONE) return;
-    if (status >= BLOBCRASH_F_EXISTS && status <= BLOBCRASH_F_CRASHED) fprintf(script, " is %s", names[status - BLOBCRASH_F_EXISTS]);
-    else if (status == BLOBCRASH_E_INJECTED) fputs(" is Injected", script);
-    else if (status == BLOBCRASH_E_MEMORY) fputs(" is Memory", script);
-    else fprintf(script, " is %" PRIu32, status);
+    if (status >= BLOBCRASH_F_EXISTS && status <= BLOBCRASH_F_CRASHED) fprintf(script, " # is %s", names[status - BLOBCRASH_F_EXISTS]);
+    else if (status == BLOBCRASH_E_INJECTED) fputs(" # is Injected", script);
+    else if (status == BLOBCRASH_E_MEMORY) fputs(" # is Memory", script);
+    else fprintf(script, " # is %" PRIu32, status);
 }
 
-/* The word of a call by a path. */
-static inline const char *blobcrash_file_word(uint32_t kind) {
-    static const char *const words[] = {"create", "open", "open_truncated", "link", "unlink", "rename", "mkdir", "rmdir", "listdir",
-                                        "fsync_directory", "find"};
-    static const char *const at[] = {"create_at", "link_at", "unlink_at", "rename_at", "mkdir_at", "rmdir_at", "listdir_at",
-                                     "fsync_directory_at", "find_at", "open_inode", "open_inode_truncated"};
-    static const char *const by[] = {"close", "truncate", "size", "fsync", "fdatasync", "inode_of"};
-    static const char *const whole[] = {"sync", "settle", "crash", "tree", "commit"};
-    if (kind <= BLOBCRASH_F_FIND) return words[kind];
-    if (kind >= BLOBCRASH_F_CREATE_AT && kind <= BLOBCRASH_F_OPEN_INODE_TRUNCATED) return at[kind - BLOBCRASH_F_CREATE_AT];
-    if (kind >= BLOBCRASH_F_CLOSE && kind <= BLOBCRASH_F_INODE_OF) return by[kind - BLOBCRASH_F_CLOSE];
-    if (kind >= BLOBCRASH_F_SYNC_ALL && kind <= BLOBCRASH_F_COMMIT) return whole[kind - BLOBCRASH_F_SYNC_ALL];
-    return "unknown";
-}
-
-/* Prints the line of a call. */
-static inline void blobcrash_print_file_call(FILE *script, const struct blobcrash_file_call *asked, struct blobcrash_file_reply reply,
-                                             const uint8_t *path, size_t path_len, const uint8_t *to, size_t to_len) {
-    static const char *const how[] = {"", " noreplace", " exchange"};
+/* Prints the line of a call. Without memory for it the run doesn't count. */
+static inline void blobcrash_print_file_call(struct blobcrash_paths *paths, const struct blobcrash_file_call *asked,
+                                             struct blobcrash_file_reply reply, const uint8_t *path, size_t path_len, const uint8_t *to,
+                                             size_t to_len) {
     uint32_t kind = asked->kind;
-    bool renames = kind == BLOBCRASH_F_RENAME || kind == BLOBCRASH_F_RENAME_AT;
-    uint64_t replaces = kind == BLOBCRASH_F_RENAME ? asked->first : asked->last;
-    fputs(blobcrash_file_word(kind), script);
-    if (kind >= BLOBCRASH_F_CREATE_AT && kind < BLOBCRASH_F_SYNC_ALL) fprintf(script, " %" PRIu64, asked->number);
-    if (kind < BLOBCRASH_F_OPEN_INODE && kind != BLOBCRASH_F_LIST_AT && kind != BLOBCRASH_F_SYNC_DIRECTORY_AT) {
-        blobcrash_print_path(script, path, path_len);
+    bool opens = kind <= BLOBCRASH_F_OPEN_TRUNCATED || kind == BLOBCRASH_F_CREATE_AT || kind == BLOBCRASH_F_OPEN_INODE ||
+                 kind == BLOBCRASH_F_OPEN_INODE_TRUNCATED;
+    char *line = (char *)malloc(blobcrash_file_line_most(path_len, to_len));
+    if (line == NULL) {
+        paths->has_no_memory = true;
+        return;
     }
-    if (kind == BLOBCRASH_F_LINK_AT || kind == BLOBCRASH_F_RENAME_AT || kind == BLOBCRASH_F_TRUNCATE) fprintf(script, " %" PRIu64, asked->first);
-    if (kind == BLOBCRASH_F_LINK || renames) blobcrash_print_path(script, to, to_len);
-    if (renames && replaces <= 2) fputs(how[replaces], script);
-    if (reply.status != BLOBCRASH_DONE) blobcrash_print_refusal(script, reply.status);
-    else if (kind <= BLOBCRASH_F_OPEN_TRUNCATED || kind == BLOBCRASH_F_CREATE_AT || kind == BLOBCRASH_F_OPEN_INODE ||
-             kind == BLOBCRASH_F_OPEN_INODE_TRUNCATED) {
-        fprintf(script, " is %" PRIu64, reply.number);
-    }
-    fputc('\n', script);
+    fwrite(line, 1, (size_t)(blobcrash_put_file_call(line, asked, path, path_len, to, to_len) - line), paths->script);
+    free(line);
+    blobcrash_print_refusal(paths->script, reply.status);
+    if (reply.status == BLOBCRASH_DONE && opens) fprintf(paths->script, " # is %" PRIu64, reply.number);
+    fputc('\n', paths->script);
 }
 
 /* Prints what the last call, a CRASH, kept. */
@@ -182,7 +156,7 @@ static inline struct blobcrash_file_reply blobcrash_explored_apply(struct blobcr
     if (crashes) blobcrash_count_files_call(paths, files);
     else if (blobcrash_files_power_fails(paths, files, blobcrash_file_call_changes(paths, asked->kind))) return none;
     struct blobcrash_file_reply reply = blobcrash_files_apply(files, asked, path, path_len, to, to_len);
-    if (paths->script != NULL) blobcrash_print_file_call(paths->script, asked, reply, path, path_len, to, to_len);
+    if (paths->script != NULL) blobcrash_print_file_call(paths, asked, reply, path, path_len, to, to_len);
     if (asked->kind == BLOBCRASH_F_OPEN_TRUNCATED || asked->kind == BLOBCRASH_F_OPEN_INODE_TRUNCATED) paths->has_truncated = true;
     if (crashes && reply.status == BLOBCRASH_DONE) {
         paths->is_off = paths->has_truncated = false;

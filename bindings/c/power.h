@@ -124,9 +124,10 @@ static inline struct blobcrash_ran blobcrash_explored_call(struct blobcrash_path
     while (first < len && line[first] == ' ') first++;
     bool is_made_anyway = crashes || first == len || line[first] == '#' || blobcrash_has_word(line, len, "config ") ||
                           (paths->has_crashed && (reopens || blobcrash_has_word(line, len, "close ")));
+    struct blobcrash_ran none = {BLOBCRASH_POWER_LOSS, 0};
     bool changes = blobcrash_has_word(line, len, "open loose admit write writes resize sync startsync finish remove ");
     if (is_made_anyway) blobcrash_count_call(paths, session);
-    else if (blobcrash_power_fails(paths, session, changes)) return (struct blobcrash_ran){BLOBCRASH_POWER_LOSS, 0};
+    else if (blobcrash_power_fails(paths, session, changes)) return none;
     struct blobcrash_resize_made resize = blobcrash_before_resize(session, line, len);
     struct blobcrash_ran ran = blobcrash_call(session, line, len, reply, reply_room);
     if (!blobcrash_was_made(ran.status)) return ran;

@@ -45,7 +45,7 @@ def copy(source, target):
 def add_rust(tree, library):
     """Adds the Rust crate, which links the static library that `lib` in it is a link to."""
     crate = tree / "share/blobcrash/rust"
-    for name in ("Cargo.toml", "build.rs", "src", "examples"):
+    for name in ("Cargo.toml", "build.rs", "src", "examples", "proptest"):
         copy(TOP / "bindings/rust" / name, crate / name)
     (crate / "lib").mkdir()
     target = os.path.relpath(tree / library, crate / "lib")

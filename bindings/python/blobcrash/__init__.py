@@ -18,6 +18,7 @@ argument that isn't one raises `TypeError` or `ValueError`, and nothing is sent.
 again. Its lines and replies are those of docs/FORMATS.md. A store belongs to one thread.
 
 `Files(seed=7, profile="ext4")` is a file system that crashes, with the calls of `os` and the library (docs/FILES.md).
+`patched(files, "/disk")` lets unmodified code that calls `open` and `os` run on it.
 
 To use the package without installing it, copy this folder: it needs nothing but Python 3.8 or later.
 """
@@ -54,11 +55,12 @@ from .errors import (
     WriteFailed,
     WrongThread,
 )
-from .exploration import explore
+from .exploration import explore as _explore
 from .failures import Failed, TooLong
 from .file_calls import Kept
 from .file_follow import ExploredFiles
 from .file_library import FilesLibrary
+from .file_settings import PROFILES, Profile
 from .file_system import Files, FileStatus
 from .files import BlobFile
 from .follow import ExploredStore, NotDeterministic
@@ -66,13 +68,19 @@ from .foreign import TOP, is_proved, library
 from .judging import acknowledgement, judge
 from .layers import Library, Program, Reply, explain, program, run
 from .open_file import OpenFile
+from .patching import patched
 from .power import PowerLoss
 from .results import Explored, Seeded
-from .seeding import SeededFiles, SeededStore, seeds
+from .seeding import SeededFiles, SeededStore
+from .seeding import seeds as _seeds
 from .shrinking import shrink
+from .signatures import Explores, Seeds
 from .spread import LostWork
 from .states import CrashState, CrashStates
 from .store import Store
+
+explore: Explores = _explore
+seeds: Seeds = _seeds
 
 __version__ = "0.3.0"
 
@@ -119,9 +127,11 @@ __all__ = [
     "NotMade",
     "OffsetOverflow",
     "OpenFile",
+    "PROFILES",
     "PartitionMissing",
     "PartitionNameInvalid",
     "PowerLoss",
+    "Profile",
     "Program",
     "ProgramEnded",
     "ReadFailed",
@@ -145,6 +155,7 @@ __all__ = [
     "is_proved",
     "judge",
     "library",
+    "patched",
     "program",
     "run",
     "seeds",

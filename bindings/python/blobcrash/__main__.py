@@ -6,6 +6,7 @@
 """
 
 import sys
+from typing import List
 
 from .commands import OutputFailed, check_command, judge_command, read, shrink_command, version_command, write
 from .errors import BadLine
@@ -37,7 +38,7 @@ docs/GUIDE.md has more, docs/FORMATS.md the lines and the replies.
 """
 
 
-def main(arguments: list) -> int:
+def main(arguments: List[str]) -> int:
     command = _COMMANDS.get(arguments[0]) if arguments else None
     is_help = command is not states_command and arguments[0 if command is None else 1 :] == ["--help"]
     if command not in _OWN and len(arguments) > (1 if command is None else 2):
@@ -59,7 +60,7 @@ def main(arguments: list) -> int:
         return 3
 
 
-def run_command(arguments: list) -> int:
+def run_command(arguments: List[str]) -> int:
     """Runs a script, and prints the replies."""
     script = read(arguments)
     try:

@@ -4,9 +4,9 @@ from __future__ import annotations
 
 import functools
 import inspect
-from typing import Any, Callable
+from typing import Any, Callable, Tuple
 
-_KINDS = (
+_KINDS: Tuple[Tuple[Callable[[Any], bool], str], ...] = (
     (inspect.iscoroutinefunction, "an `async def`"),
     (inspect.isasyncgenfunction, "an asynchronous generator"),
     (inspect.isgeneratorfunction, "a generator: it has a `yield`"),

@@ -7,6 +7,7 @@ from typing import Any, Optional
 
 from .file_calls import FileCall
 from .file_system import Files
+from .shared import Shared
 from .store import Store
 
 # How many calls, and how many choices, an explored run has at most if no other limit is given.
@@ -54,7 +55,7 @@ class Bounds:
         raise RunEnded
 
 
-class Bounded:
+class Bounded(Shared):
     """What counts its calls. It stands before the class that makes them."""
 
     _bounds: Bounds

@@ -3,7 +3,7 @@
 from __future__ import annotations
 
 import errno
-from typing import Any, Dict, Iterable, Optional, Tuple, Type
+from typing import Any, Dict, Iterable, List, Optional, Tuple, Type
 
 
 class StorageError(Exception):
@@ -21,7 +21,7 @@ class StorageError(Exception):
         self.fields = self._fields_of(reply.split(" ", 4)[2:])
 
     @staticmethod
-    def _fields_of(texts: list) -> Tuple[str, ...]:
+    def _fields_of(texts: List[str]) -> Tuple[str, ...]:
         return tuple(texts)
 
 
@@ -29,7 +29,7 @@ class _OfBlob(StorageError):
     """A refusal that names a blob: its partition and its name in hex."""
 
     @staticmethod
-    def _fields_of(texts: list) -> Tuple[str, ...]:
+    def _fields_of(texts: List[str]) -> Tuple[str, ...]:
         if texts[1:2] == ["-"]:
             texts[1] = ""
         return tuple(texts)

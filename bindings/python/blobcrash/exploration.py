@@ -25,7 +25,7 @@ from typing import Any, Callable, Dict, Iterable, List, NamedTuple, Optional, Tu
 from .bodies import check_body, check_result
 from .bounds import CALLS_PER_RUN, FIRST_RUN, Bounds, RunEnded
 from .errors import NoRuns
-from .failures import Failed, TooLong, reason_of, reporter
+from .failures import Failed, TooLong, one_traceback, reason_of, reporter
 from .file_calls import FileCall
 from .file_follow import ExploredFiles
 from .file_library import files_way
@@ -88,6 +88,7 @@ class Part(NamedTuple):
     unsynced: int = 0
 
 
+@one_traceback
 def explore(
     body: Body,
     *,
@@ -271,7 +272,7 @@ class _Visitor:
             raise NotDeterministic.by(f"it made {along.made} choices where it had made {run.planned}") from error
         if error is not None:
             self._confirm(run, error)
-            raise Failed(text_of(run.taken), store.script, reason_of(error), self.runs) from error
+            raise Failed.of(error, text_of(run.taken), store.script, self.runs)
         if outcome is not None:
             self._tally(outcome)
         return run

@@ -2,7 +2,10 @@
 
 from __future__ import annotations
 
-from typing import Any, Callable, Dict, List, Optional
+import functools
+import importlib
+from types import TracebackType
+from typing import Any, Callable, Dict, List, Optional, TypeVar, cast
 
 from .layers import explain, run
 from .paths import legend_of
@@ -11,13 +14,14 @@ from .power import PowerLoss
 # A longer script is cut in the middle: `script` has all of it. So is a path with more characters.
 _MOST_LINES = 80
 _MOST_CHARACTERS = 2000
+_Search = TypeVar("_Search", bound=Callable[..., Any])
 
 
 class Failed(AssertionError):
-    """A run of a body failed. `__cause__` is what it raised.
+    """A run of a body failed. `cause` is what it raised; that of a worker in another process is a text, with its traceback.
 
-    `script` are the lines that make the same calls again, to run or to explain; of files, lines to read. `path` names the run: `explore(body, under=[path])`
-    makes it again. Of a run by a seed it is `seed N`. `reason` is what the body raised, as a text. `stopped` is a text if `shrink` returns
+    `script` are the lines that make the same calls again, to run or to explain; of files, lines to read. `path` names the run:
+    `explore(body, under=[path])` makes it again. Of a run by a seed it is `seed N`. `reason` is what the body raised, as a text. `stopped` is a text if `shrink` returns
     it and stopped at a limit: there may be a smaller run. `profiles` has what a search in all profiles came to in each: a `Failed`, or its
     result. The other fields are then those of the first that failed.
     """
@@ -30,6 +34,14 @@ class Failed(AssertionError):
         lines = [f"run {run} failed: {reason}", *_of_profiles(self.profiles), *([stopped] if stopped else []), *_named(path)]
         heading = "its calls:" if _is_of_files(script) else "its script, to explain with `blobcrash explain`:"
         super().__init__("\n".join([*lines, heading, *_shown(script)]))
+        self.cause: Optional[BaseException] = None
+
+    @classmethod
+    def of(cls, cause: BaseException, path: str, script: List[str], run: int) -> Failed:
+        """The failure of a run that raised this."""
+        failed = cls(path, script, reason_of(cause), run)
+        failed.cause = cause
+        return failed
 
     def __reduce__(self) -> Any:
         return Failed, (self.path, self.script, self.reason, self.run, self.stopped, self.profiles)
@@ -85,6 +97,34 @@ def _shown(script: List[str]) -> List[str]:
     return ["    " + (line if len(line) <= _MOST_CHARACTERS else line[:_MOST_CHARACTERS] + " ..") for line in script]
 
 
+def one_traceback(search: _Search) -> _Search:
+    """A search of which a failure has one traceback: that of what the body raised, without the frames of the search."""
+
+    @functools.wraps(search)
+    def searched(*arguments: Any, **named: Any) -> Any:
+        __tracebackhide__ = True
+        try:
+            return search(*arguments, **named)
+        except Failed as failed:
+            cause = failed.cause
+            if cause is None or isinstance(cause, Trace):
+                # That of a worker in another process is a text, which Python shows before.
+                raise failed.with_traceback(None)
+            failed.__cause__, failed.__context__ = cause.__cause__, cause.__context__
+            failed.__suppress_context__ = cause.__suppress_context__
+            raise failed.with_traceback(_of_body(cause.__traceback__))
+
+    return cast(_Search, searched)
+
+
+def _of_body(trace: Optional[TracebackType]) -> Optional[TracebackType]:
+    """A traceback from the frame of the body on."""
+    first = trace
+    while trace is not None and trace.tb_frame.f_globals.get("__package__") == __package__:
+        trace = trace.tb_next
+    return trace or first
+
+
 class Trace(Exception):
     """The traceback of an error in another process."""
 
@@ -106,7 +146,7 @@ def page_writer(wanted_by: str) -> Callable[[str, List[str], str], None]:
     Raises `ImportError` if pages can't be made. `wanted_by` names the option that needs them.
     """
     try:
-        from blobcrash_page import page
+        page = importlib.import_module("blobcrash_page").page
     except ImportError:
         raise ImportError(f"`{wanted_by}` needs the package `blobcrash_page`, which lies beside `blobcrash` in bindings/python") from None
 
@@ -129,4 +169,5 @@ def reporter(path: Optional[str], is_of_files: bool = False) -> Callable[[Failed
     if is_of_files:
         raise ValueError("a page shows a store: there is no `report` of files")
     write = page_writer("report")
-    return lambda failed: write(path, failed.script, f"{failed.path or 'no choices'}: {failed.reason}")
+    page = path
+    return lambda failed: write(page, failed.script, f"{failed.path or 'no choices'}: {failed.reason}")

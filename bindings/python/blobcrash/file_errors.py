@@ -14,5 +14,5 @@ def error_of(refused: Refusal, path: Any = None, to: Optional[Any] = None) -> OS
         error: OSError = Injected("error Injected")
     else:
         error = OSError(refused.number, f"{refused.name}: {refused.text}", *(() if path is None else (path, None, to)))
-    error.refusal = refused.name
+    setattr(error, "refusal", refused.name)
     return error

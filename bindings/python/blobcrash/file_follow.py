@@ -37,7 +37,7 @@ class _FollowedFiles:
 class ExploredFiles(OnPath, BoundedFiles):
     """The files of one run."""
 
-    def __init__(self, run: Run, settings: Iterable[str], profile: str, by: Any = None) -> None:
+    def __init__(self, run: Run, settings: Iterable[str], profile: Any, by: Any = None) -> None:
         self._run = run
         self._bounds = run.bounds
 

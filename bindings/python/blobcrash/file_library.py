@@ -140,7 +140,7 @@ class FilesLibrary:
     def _ran(self, name: str, *arguments: int) -> int:
         ran = getattr(self._functions, "blobcrash_files_" + name)(self._at, *arguments)
         _check(ran.status)
-        return ran.len
+        return int(ran.len)
 
 
 def _check(status: int) -> None:
@@ -151,4 +151,4 @@ def _check(status: int) -> None:
     if status == ENDLESS:
         raise ValueError("a seed gives words without end")
     if status != DONE:
-        raise MemoryError if status == NO_ROOM else RuntimeError(f"the library returned the status {status}")
+        raise MemoryError() if status == NO_ROOM else RuntimeError(f"the library returned the status {status}")

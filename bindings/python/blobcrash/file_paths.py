@@ -116,7 +116,7 @@ def _kind_of(files: Files, name: bytes, *paths: Path) -> Optional[int]:
     if is_root(name) or not name:
         return IS_DIRECTORY if name else None
     try:
-        return files._call(FileCall("find", path=name.rstrip(b"/")), paths[0], False, *paths[1:]).kind
+        return int(files._call(FileCall("find", path=name.rstrip(b"/")), paths[0], False, *paths[1:]).kind)
     except FileNotFoundError:
         return None
 

@@ -2,13 +2,16 @@
 
 from __future__ import annotations
 
-from typing import Any, Iterable, List, Optional, Tuple
+from typing import Any, Iterable, List, Literal, Optional, Tuple
 
 from .errors import BadLine
 from .grammar import needs_draws, setting_tokens, text_of
 from .shapes import MAX
 
-PROFILES = ("ext4", "xfs", "btrfs", "posix")
+Profile = Literal["ext4", "xfs", "btrfs", "posix"]
+# What a search may be asked for.
+Asked = Literal["ext4", "xfs", "btrfs", "posix", "all"]
+PROFILES: Tuple[Profile, ...] = ("ext4", "xfs", "btrfs", "posix")
 # Asks a search for a run of each.
 ALL = "all"
 # What the files of a search begin with, as a mount does, if no setting is one of writes: a crash keeps half of the unsynced sectors.
@@ -19,11 +22,11 @@ _SWITCHES = {"failed_sync": ("keeps", "drops"), "syncs": ("honest", "lie"), "fai
 
 def profile_of(profile: Any) -> str:
     """The name of a profile. Raises `TypeError` or `ValueError`."""
-    profile = text_of(profile, "a profile")
-    if profile not in PROFILES:
-        also = ", or `all` of a search" if profile == ALL else ""
-        raise ValueError(f"{profile!r} is no profile: it is one of {', '.join(PROFILES)}{also}")
-    return profile
+    name = text_of(profile, "a profile")
+    if name not in PROFILES:
+        also = ", or `all` of a search" if name == ALL else ""
+        raise ValueError(f"{name!r} is no profile: it is one of {', '.join(PROFILES)}{also}")
+    return name
 
 
 def profile_asked(profile: Any, files: Any) -> Optional[str]:

@@ -4,7 +4,7 @@ from __future__ import annotations
 
 import os
 from threading import get_ident
-from typing import Any, Callable, Dict, Iterable, List, NamedTuple, Optional, Tuple, Union
+from typing import Any, Callable, Dict, Iterable, List, NamedTuple, Optional, Tuple, TypeVar, Union
 
 from .errors import BadLine, Interrupted, NeedsSeed, NotMade, WrongThread
 from .file_calls import FileCall, Kept, reply_text
@@ -12,13 +12,14 @@ from .file_errors import error_of
 from .file_library import files_way
 from .file_paths import Path, bytes_of, check_link, check_one, check_rename, is_plain, is_root, named
 from .file_power import FileSupply
-from .file_settings import file_setting_line, profile_of
+from .file_settings import Profile, file_setting_line, profile_of
 from .foreign_files import EXCHANGES, IS_DIRECTORY, REFUSES, REPLACES, Refusal
 from .grammar import comment_lines, number, text_of
 from .open_file import OpenFile, plain_mode
 from .power import PowerLoss, Supply
 from .unkept_files import FOLLOWED, UnsyncedFiles
 
+_Own = TypeVar("_Own", bound="Files")
 # The refusals by which a path has no file.
 _MISSING = frozenset(("NotFound", "NotDirectory", "InvalidName", "NameTooLong"))
 
@@ -51,7 +52,7 @@ class Files:
         self,
         seed: Optional[int] = None,
         *,
-        profile: str = "ext4",
+        profile: Profile = "ext4",
         words: Iterable[int] = (),
         settings: Iterable[str] = (),
         by: Any = None,
@@ -70,6 +71,8 @@ class Files:
         self._lines: List[Union[str, Tuple[FileCall, str]]] = list(lines)
         # The files that were opened and not closed, by their descriptors.
         self._opened: Dict[int, OpenFile] = {}
+        # How often `restart` has ended a process.
+        self._restarts = 0
         self._thread = get_ident()
         # Whether a call can't be made: one is under way, or was cut short, or the files are closed.
         self._busy = False
@@ -77,7 +80,7 @@ class Files:
         self._cause: Optional[BaseException] = None
         self._layer = files_way(by)("\n".join([*self._words_line(), *lines, ""]).encode())
 
-    def __enter__(self) -> Files:
+    def __enter__(self: _Own) -> _Own:
         return self
 
     def __exit__(self, *_: object) -> None:
@@ -183,7 +186,7 @@ class Files:
 
     def listdir(self, path: Path = "/") -> List[Any]:
         """Returns the names in a directory, sorted by their bytes: as `bytes` if the path is one, else as `str`."""
-        names = self._on("listdir", path)
+        names: List[Any] = self._on("listdir", path)
         if isinstance(os.fspath(path), bytes):
             return names
         return [name.decode("utf-8", "surrogateescape") for name in names]
@@ -237,7 +240,7 @@ class Files:
         """Loses what isn't durable, except what the draws keep, and recovers. Returns what was kept. All open files are stale."""
         if self._draws_edits and not self._has_draws:
             raise NeedsSeed("a crash draws which edits it keeps: give the files a seed, `Files(seed=7)`, words, or the setting `keep 1 1`")
-        kept = self._call(FileCall("crash"))
+        kept: Kept = self._call(FileCall("crash"))
         self._lines += kept.lines()
         self._opened.clear()
         return kept
@@ -248,6 +251,7 @@ class Files:
         kept = self.crash()
         for file in opened:
             file._end()
+        self._restarts += 1
         return kept
 
     def crash_after(self, calls: int) -> None:
@@ -380,6 +384,7 @@ class Files:
             self._busy = False
         elif isinstance(error, (BadLine, NotMade)):
             self._busy = False
-        elif is_shown:
-            self._lines.append((asked, ""))
-        self._cause = error
+        else:
+            self._lines += [(asked, "")] if is_shown else []
+            # Only of a call that ends the files: its traceback has objects of the code under test, which must not outlive their run.
+            self._cause = error

@@ -21,6 +21,14 @@ class BlobFile(io.RawIOBase):
         self.blob = blob
         self._at = 0
 
+    if TYPE_CHECKING:
+
+        def read(self, __size: int = -1) -> bytes:
+            ...
+
+        def readall(self) -> bytes:
+            ...
+
     def readable(self) -> bool:
         return True
 

@@ -10,6 +10,7 @@ from .layers import Library
 from .met import Met, State, blobs_of, durable_blobs, frozen, place, settings_of
 from .paths import CHOICE, DRAW, POWER, SIZE, Choice, draws_of
 from .power import Supply
+from .shared import Shared
 from .traversal import Traversal
 
 
@@ -131,7 +132,7 @@ class _Followed:
         self._run = run
         self._left = layer.words_left if run.seed is None else None
 
-    def call(self, line: bytes) -> bytes:
+    def call(self, line: bytes) -> Any:
         self._run.calls.append(line)
         tokens = line.split() if self._left is not None else []
         if len(tokens) == 3 and tokens[0] == b"resize" and tokens[1].isdigit() and int(tokens[1]) <= MAX:
@@ -140,7 +141,7 @@ class _Followed:
         self._count()
         return reply
 
-    def _resize(self, line: bytes, tokens: List[bytes]) -> bytes:
+    def _resize(self, line: bytes, tokens: List[bytes]) -> Any:
         """Makes the call of a resize. If it fails and the size is another one, that was drawn from those between the old one and the new."""
         before = self._size(tokens[1])
         reply = self._layer.call(line)
@@ -164,7 +165,7 @@ class _Followed:
         self._count()
         return found
 
-    def close(self) -> int:
+    def close(self) -> Any:
         return self._layer.close()
 
     def state(self, images: Iterable[Tuple[str, bytes, bytes]]) -> State:
@@ -177,7 +178,7 @@ class _Followed:
             self._run.count(self._left(), sizes)
 
 
-class OnPath:
+class OnPath(Shared):
     """What the stores and the files of explored runs share. It stands before the class that makes the calls."""
 
     _run: Run

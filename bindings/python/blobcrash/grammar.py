@@ -11,7 +11,9 @@ from functools import lru_cache
 from typing import List, Optional, Tuple
 
 from .errors import BadLine
-from .shapes import LAST_VERSION, MAX, misplaced, reason_of, shown, usual_tokens, value_of
+from .shapes import LAST_VERSION as LAST_VERSION
+from .shapes import MAX as MAX
+from .shapes import misplaced, reason_of, shown, usual_tokens, value_of
 
 _NAME = re.compile(r"[A-Za-z0-9_-]+")
 # One token that is no partition name, so that a call with it makes the draw and gets the refusal of every such name.

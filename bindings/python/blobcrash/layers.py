@@ -57,7 +57,7 @@ class Reply(NamedTuple):
     line: str
 
 
-def line_of(handle: int, offset: int, what: Union[int, bytes], sync: Optional[bool] = None) -> str:
+def line_of(handle: int, offset: int, what: Any, sync: Optional[bool] = None) -> str:
     """The line of a read, or of a write if `sync` is given."""
     if sync is None:
         return f"read {handle} {offset} {what}"
@@ -91,8 +91,10 @@ class Program:
         environment = {**os.environ, "BLOBCRASH_TOLD": "1"} if Program._is_told else None
         Program._is_told = True
         # In a session of its own, so that Ctrl-C at a terminal reaches this process alone.
-        pipes = {"stdin": subprocess.PIPE, "stdout": subprocess.PIPE}
-        self._run = subprocess.Popen([program()], env=environment, start_new_session=True, **pipes)
+        pipe = subprocess.PIPE
+        self._run = run = subprocess.Popen([program()], env=environment, stdin=pipe, stdout=pipe, start_new_session=True)
+        assert run.stdin is not None and run.stdout is not None
+        self._in, self._out = run.stdin, run.stdout
         self._is_parents = False
         _programs.add(self)
         # Why no call can be made any more.
@@ -143,7 +145,7 @@ class Program:
                 self._run.kill()
         if self._lost is None:
             self._lost = ValueError("the store is closed")
-        if not self._run.stdin.closed:
+        if not self._in.closed:
             self._flush()
             self._run.communicate()
         return self._run.returncode
@@ -153,7 +155,7 @@ class Program:
         self._is_parents = True
         self._lost = ValueError("the program is the parent process's: open a store after the fork")
         null = os.open(os.devnull, os.O_RDWR)
-        for stream in (self._run.stdin, self._run.stdout):
+        for stream in (self._in, self._out):
             if not stream.closed:
                 os.dup2(null, stream.fileno())
         os.close(null)
@@ -168,7 +170,7 @@ class Program:
         if line.strip(b" ")[:1] in (b"", b"#"):
             return b""
         self._flush()
-        reply = self._run.stdout.readline()
+        reply = self._out.readline()
         if reply.endswith(b"\n"):
             return reply[:-1]
         status = self._run.wait()
@@ -178,18 +180,18 @@ class Program:
 
     def _send(self, line: bytes) -> None:
         try:
-            self._run.stdin.write(line + b"\n")
+            self._in.write(line + b"\n")
         except BrokenPipeError:
             pass  # It has ended, and gives no reply.
 
     def _flush(self) -> None:
         try:
-            self._run.stdin.flush()
+            self._in.flush()
         except (BrokenPipeError, ValueError):
             pass
 
 
-_programs: weakref.WeakSet = weakref.WeakSet()
+_programs: weakref.WeakSet[Program] = weakref.WeakSet()
 
 
 def _leave_programs() -> None:
@@ -232,7 +234,7 @@ class Library:
         self._length.value = len(line)
         ran = self._c_call(self._at, line, self._length, self._room_at, self._capacity)
         if ran.status == DONE:
-            return self._room[: ran.len]
+            return bytes(self._room[: ran.len])
         if ran.status in (NO_ROOM, UNPRINTED):
             return self._reply(ran)
         _check(ran.status, line)
@@ -265,7 +267,7 @@ class Library:
         if ran.status == ENDLESS:
             raise ValueError("a seed gives words without end")
         _check(ran.status)
-        return ran.len
+        return int(ran.len)
 
     def push_words(self, words: List[int]) -> None:
         """Inserts words before those that the generator has."""
@@ -323,7 +325,7 @@ class Library:
                 self._grow(ran.len)
             ran = self._functions.blobcrash_reply(self._at, self._room, len(self._room))
         _check(ran.status)
-        return self._room[: ran.len]
+        return bytes(self._room[: ran.len])
 
 
 def _check(status: int, line: bytes = b"") -> None:

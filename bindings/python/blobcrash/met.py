@@ -4,7 +4,8 @@ from __future__ import annotations
 
 import ctypes
 import sys
-from typing import Any, Dict, Iterable, List, Set, Tuple
+from types import FrameType
+from typing import Any, Dict, Iterable, List, Optional, Set, Tuple
 
 from .foreign import DONE, E_BLOB_MISSING, NO_ROOM, Ran, Session
 from .grammar import unhex
@@ -76,7 +77,8 @@ def settings_of(calls: Iterable[Any]) -> Tuple[Tuple[bytes, ...], ...]:
 
 def place() -> State:
     """Returns where the body is: the code of each frame from here up to the search, and the position in it."""
-    frames, frame = [], sys._getframe(1)
+    frames: List[Tuple[Any, int]] = []
+    frame: Optional[FrameType] = sys._getframe(1)
     while frame is not None and frame.f_globals.get("__name__") != f"{__package__}.exploration":
         frames.append((frame.f_code, frame.f_lasti))
         frame = frame.f_back

@@ -43,6 +43,14 @@ class OpenFile(io.RawIOBase):
         self._plain = mode.replace("b", "", 1)
         self._at = 0
 
+    if TYPE_CHECKING:
+
+        def read(self, __size: int = -1) -> bytes:
+            ...
+
+        def readall(self) -> bytes:
+            ...
+
     def readable(self) -> bool:
         return self._plain[0] == "r" or "+" in self._plain
 
@@ -94,7 +102,7 @@ class OpenFile(io.RawIOBase):
     def size(self) -> int:
         """Returns the size in bytes."""
         self._check_open()
-        return self._ask("size").size
+        return int(self._ask("size").size)
 
     def truncate(self, size: Optional[int] = None) -> int:
         """Truncates or extends the file, by default to the position. The position doesn't move."""

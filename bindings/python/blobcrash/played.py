@@ -2,7 +2,7 @@
 
 from __future__ import annotations
 
-from typing import Dict, List, NamedTuple, Optional, Tuple
+from typing import Dict, List, NamedTuple, Optional, Sequence, Tuple
 
 from .grammar import MAX
 from .layers import Library
@@ -127,5 +127,5 @@ class _Player:
             raise _OtherRows(at, drawn)
 
 
-def _kind(reply: Tuple[str, ...]) -> Tuple[str, ...]:
+def _kind(reply: Sequence[str]) -> Tuple[str, ...]:
     return tuple(reply[:2]) if reply[0] == "error" else tuple(reply[:1])

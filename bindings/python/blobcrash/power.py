@@ -42,7 +42,7 @@ class Supply:
             raise ValueError("the power is off already: let the store crash and reopen first")
         self._left = calls
 
-    def call(self, line: bytes) -> bytes:
+    def call(self, line: Any) -> Any:
         word = line.lstrip(b" ").split(b" ", 1)[0]
         if word == b"crash":
             reply = self._layer.call(line)

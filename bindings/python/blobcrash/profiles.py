@@ -31,7 +31,9 @@ def in_each(search: Search, profiles: Iterable[str], seconds: float, nothing: Ca
             found[profile] = nothing(none.rest)
     for each in found.values():
         if isinstance(each, Failed):
-            raise Failed(each.path, each.script, each.reason, each.run, each.stopped, found) from each.__cause__
+            first = Failed(each.path, each.script, each.reason, each.run, each.stopped, found)
+            first.cause = each.cause
+            raise first from each.__cause__
     if not any(each.runs for each in found.values()):
         raise NoRuns(tuple(rest_of(found)))
     return found

@@ -17,7 +17,7 @@ of the command line come before the mark. At the end a line names each test that
 from __future__ import annotations
 
 import argparse
-from typing import Any, Dict, Iterator, List, Sequence
+from typing import Any, Dict, Iterator, List, Sequence, Tuple
 
 import pytest
 
@@ -29,7 +29,7 @@ from .seeding import SeededFiles, SeededStore
 from .unkept import note_of
 
 # The fixtures, each with what a test gets. The mark with its arguments has the same name.
-_FIXTURES = {"blobcrash": SeededStore, "blobcrash_files": SeededFiles}
+_FIXTURES: Dict[str, Any] = {"blobcrash": SeededStore, "blobcrash_files": SeededFiles}
 _SEEDS = 20
 _SECONDS = 10.0
 
@@ -76,7 +76,7 @@ def pytest_configure(config: Any) -> None:
             raise pytest.UsageError(str(error)) from None
 
 
-def _arguments(node: Any, fixture: str) -> dict:
+def _arguments(node: Any, fixture: str) -> Dict[str, Any]:
     marker = node.get_closest_marker(fixture)
     if marker is not None and marker.args:
         raise pytest.UsageError(f"{node.nodeid}: the arguments of the mark `{fixture}` have names, as `seeds=50`")
@@ -162,16 +162,19 @@ def blobcrash_files(request: Any) -> Iterator[SeededFiles]:
     yield from _opened(request, "blobcrash_files")
 
 
-@pytest.hookimpl(hookwrapper=True)
-def pytest_runtest_makereport(item: Any, call: Any) -> Iterator[None]:
-    outcome = yield
+def _with_report(item: Any, call: Any) -> Iterator[None]:
+    outcome: Any = yield
     report = outcome.get_result()
-    fixture, store = getattr(item, "_blobcrash", (None, None))
+    made: Tuple[Any, Any] = getattr(item, "_blobcrash", (None, None))
+    fixture, store = made
     if fixture is not None and call.when in ("setup", "call") and report.failed:
         lines: List[str] = show(item, call, fixture, store, _arguments(item, fixture))
         report.sections.append(("blobcrash", "\n".join(lines)))
     elif store is not None and call.when == "call" and report.passed:
         report.blobcrash_met = store._unsynced.met
+
+
+pytest_runtest_makereport = pytest.hookimpl(hookwrapper=True)(_with_report)
 
 
 def pytest_terminal_summary(terminalreporter: Any) -> None:

@@ -7,17 +7,17 @@ import hashlib
 import io
 import os
 import re
-from typing import Any, Callable, List, Optional, Set
+from typing import Any, Callable, Dict, List, Optional, Set
 
 import pytest
 
 from .bounds import RunEnded
 from .failures import Failed, page_writer, reason_of
-from .file_system import Files
 from .follow import MoreWords
 from .foreign import library
 from .layers import explain
 from .power import PowerLoss
+from .seeding import SeededFiles
 from .shrinking import shrink
 
 # A longer picture is cut here: all of it can be drawn from the script.
@@ -32,7 +32,7 @@ _tried: Set[Any] = set()
 _PASSES_ON = (KeyboardInterrupt, GeneratorExit, MoreWords, RunEnded, PowerLoss, pytest.exit.Exception)
 
 
-def show(item: Any, call: Any, fixture: str, store: Any, arguments: dict) -> List[str]:
+def show(item: Any, call: Any, fixture: str, store: Any, arguments: Dict[str, Any]) -> List[str]:
     """The lines of the report of a failure. What can't be written or drawn is a line of it. Of files there is no page and no picture."""
     reason = call.excinfo.exconly().split("\n")[0] if call.excinfo is not None else "failed"
     script, lines = store.script, []
@@ -41,7 +41,7 @@ def show(item: Any, call: Any, fixture: str, store: Any, arguments: dict) -> Lis
     if smaller is not None:
         script = smaller.script
         lines.append(_written(item, ".short.script", script, f"a smaller run that fails, of {_calls(script)} calls"))
-    if isinstance(store, Files):
+    if isinstance(store, SeededFiles):
         return lines
     if item.config.getoption("--blobcrash-report") is not None:
         lines.append(_page(item, store.script, reason))
@@ -96,7 +96,7 @@ def _picture(script: List[str]) -> List[str]:
     return lines if len(lines) <= MOST_LINES else [*lines[:MOST_LINES], ".."]
 
 
-def _shrunk(item: Any, call: Any, fixture: str, store: Any, arguments: dict, lines: List[str]) -> Optional[Failed]:
+def _shrunk(item: Any, call: Any, fixture: str, store: Any, arguments: Dict[str, Any], lines: List[str]) -> Optional[Failed]:
     """A smaller run that fails in the same way. `None` if none is looked for; a line says why, if one might be expected."""
     seconds = item.config.getoption("--blobcrash-shrink")
     test = (item.parent.nodeid, getattr(item, "originalname", None) or item.name, getattr(store, "profile", None))
@@ -108,7 +108,7 @@ def _shrunk(item: Any, call: Any, fixture: str, store: Any, arguments: dict, lin
         lines.append(f"no smaller run is looked for: {why}")
         return None
     given = {name: arguments[name] for name in ("settings", "images", "allow_stale") if name in arguments}
-    if isinstance(store, Files):
+    if isinstance(store, SeededFiles):
         given["profile"] = store.profile
     failed = Failed(f"seed {store.seed}", store.script, _reason_of(call.excinfo.value), 1)
     try:
@@ -122,7 +122,7 @@ def _shrunk(item: Any, call: Any, fixture: str, store: Any, arguments: dict, lin
     return found
 
 
-def _unshrinkable(item: Any, fixture: str, arguments: dict) -> Optional[str]:
+def _unshrinkable(item: Any, fixture: str, arguments: Dict[str, Any]) -> Optional[str]:
     """Why a test can't be called again with another store, or `None`."""
     info = getattr(item, "_fixtureinfo", None)
     if info is None or not callable(getattr(item, "obj", None)) or fixture not in info.argnames:
@@ -136,7 +136,7 @@ def _unshrinkable(item: Any, fixture: str, arguments: dict) -> Optional[str]:
     return None
 
 
-def _users_of(name: str, definitions: dict) -> Set[str]:
+def _users_of(name: str, definitions: Dict[str, Any]) -> Set[str]:
     """The fixtures that use one, by others too."""
     users = {name}
     while True:

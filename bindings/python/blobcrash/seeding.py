@@ -5,26 +5,27 @@ from __future__ import annotations
 import random
 import time
 from functools import partial
-from typing import Any, Callable, Iterable, List, NamedTuple, Optional, Tuple, Union
+from typing import Any, Callable, Dict, Iterable, List, NamedTuple, Optional, Tuple, Union
 
 from .bodies import check_body, check_result
 from .bounds import FIRST_RUN, BoundedFiles, BoundedStore, Bounds, RunEnded
 from .errors import NoRuns
 from .exploration import seconds_of
-from .failures import Failed, reason_of, reporter
+from .failures import Failed, one_traceback, reporter
 from .file_settings import ALL, PROFILES, profile_asked, torn_unless_set
 from .file_system import Files
 from .grammar import number, number_of_branches
 from .power import PowerLoss
 from .profiles import in_each, rest_of
 from .results import Seeded, of_profiles, with_note
+from .shared import Shared
 from .store import Store
 
 # How many seeds a task has at most.
 _CHUNK = 16
 
 
-class BySeed:
+class BySeed(Shared):
     """What the stores and the files of runs by seeds share. It stands before the class that makes the calls."""
 
     def __init__(self, seed: int, **arguments: Any) -> None:
@@ -78,10 +79,11 @@ class _Runs(NamedTuple):
     """A body, and the arguments of its stores."""
 
     body: Callable[..., Any]
-    arguments: dict
+    arguments: Dict[str, Any]
     files: Optional[str] = None
 
 
+@one_traceback
 def seeds(
     body: Callable[..., Any],
     which: Union[int, Iterable[int]],
@@ -162,7 +164,7 @@ def _visit(runs: _Runs, every: List[int], before: int, until: float, first_until
                 result = None
             except (Exception, PowerLoss) as error:
                 if not _is_late(store):
-                    raise Failed(f"seed {seed}", store.script, reason_of(error), before + at + 1) from error
+                    raise Failed.of(error, f"seed {seed}", store.script, before + at + 1)
                 result = None
             if _is_late(store):
                 return _Part(at, tuple(every[at:]), unsynced)

@@ -170,7 +170,8 @@ class Replay(Run):
 
     def choices(self) -> Choices:
         """What decided this run."""
-        losses, gap = [], 0
+        losses: List[int] = []
+        gap = 0
         for kind, branch, _ in self.taken:
             if kind == POWER:
                 losses, gap = ([*losses, gap], 0) if branch else (losses, gap + 1)
@@ -270,7 +271,8 @@ def _path_text(taken: List[Choice]) -> str:
 
 
 def _choices_of(path: List[Choice]) -> Choices:
-    losses, gap = [], 0
+    losses: List[int] = []
+    gap = 0
     for kind, branch, _ in path:
         if kind == POWER:
             losses, gap = ([*losses, gap], 0) if branch else (losses, gap + 1)

@@ -50,7 +50,7 @@ def told(key: str, task: Callable[..., Any], *arguments: Any) -> Told:
     try:
         return Told(task(*arguments))
     except Exception as error:
-        cause = error.__cause__ if isinstance(error, Failed) else error
+        cause = error.cause if isinstance(error, Failed) else error
         trace = "" if cause is None else "".join(traceback.format_exception(type(cause), cause, cause.__traceback__))
         return Told(None, error, trace)
 
@@ -69,7 +69,7 @@ class Spread:
             raise TypeError(f"the executor is one of `concurrent.futures`, not {type(executor).__name__}")
         self._executor = executor
         self.workers = getattr(executor, "_max_workers", None) or os.cpu_count() or 1
-        self._under_way: Dict[Future, Tuple[Any, bool, tuple]] = {}
+        self._under_way: Dict["Future[Any]", Tuple[Any, bool, Tuple[Any, ...]]] = {}
         self.lost: List[Any] = []
         self._cause: Optional[BaseException] = None
 
@@ -99,7 +99,10 @@ class Spread:
             if result.error is not None:
                 for other in self._under_way:
                     other.cancel()
-                raise result.error from Trace(result.trace)
+                trace = Trace(result.trace)
+                if isinstance(result.error, Failed) and result.error.cause is None:
+                    result.error.cause = trace
+                raise result.error from trace
             yield result.done
 
     def check(self, waiting: List[Any]) -> None:
@@ -116,7 +119,7 @@ class Spread:
         self.lost += part
         self._cause = self._cause or error
 
-    def _ready(self) -> List[Future]:
+    def _ready(self) -> List["Future[Any]"]:
         """The tasks that are done, of which there is at least one. An executor's futures may be of a class of its own."""
         futures = list(self._under_way)
         if all(isinstance(future, Future) for future in futures):
@@ -130,7 +133,10 @@ class Spread:
 
 def _is_unsent(error: BaseException) -> bool:
     """Whether a task failed because it couldn't be pickled."""
-    return isinstance(error, pickle.PicklingError) or (isinstance(error, (AttributeError, TypeError)) and "pickle" in str(error))
+    said = str(error)
+    # Python 3.13 says of a function in another one that it can't get a local object.
+    is_said = "pickle" in said or "local object" in said
+    return isinstance(error, pickle.PicklingError) or (isinstance(error, (AttributeError, TypeError)) and is_said)
 
 
 def visit_with(executor: Any, tree: Tree, subtrees: List[str], most: int, until: float) -> Part:
@@ -153,13 +159,13 @@ def visit_with(executor: Any, tree: Tree, subtrees: List[str], most: int, until:
             spread.submit(part, _visited, tree, part, quota, min(length, until - now), until - now)
         if not len(spread):
             break
-        for quota, part in spread.done():
+        for quota, done in spread.done():
             promised -= quota
-            runs += part.runs
-            met += part.met
-            unsynced |= part.unsynced
-            waiting += part.rest
-            for outcome, count in part.outcomes.items():
+            runs += done.runs
+            met += done.met
+            unsynced |= done.unsynced
+            waiting += done.rest
+            for outcome, count in done.outcomes.items():
                 outcomes[outcome] = outcomes.get(outcome, 0) + count
             length = _SLICE
     spread.check(waiting)

@@ -217,16 +217,16 @@ class _Crash:
             before = len(self._known)
             yield from self._new(path, rest)
             made += len(self._known) - before
-        path: Optional[Words] = _next(self._known[()])
-        while path is not None:
-            taken = self._known.get(path)
+        along: Optional[Words] = _next(self._known[()])
+        while along is not None:
+            taken = self._known.get(along)
             if taken is None:
                 if limit is not None and made >= limit:
                     self._of.complete = False
                     return
-                taken = yield from self._new(path, 0)
+                taken = yield from self._new(along, 0)
                 made += 1
-            path = _next(taken)
+            along = _next(taken)
 
     def _extremes(self, kept: Words) -> Iterator[Tuple[Words, int]]:
         for at in range(len(kept)):

@@ -56,7 +56,7 @@ class _Checks:
     def __init__(self, command: List[str], out: str, jobs: int, work: str) -> None:
         self._command, self._out, self._jobs, self._work = command, out, jobs, work
         self._executor = ThreadPoolExecutor(jobs)
-        self._under_way: Dict[Future, CrashState] = {}
+        self._under_way: Dict["Future[int]", CrashState] = {}
         self._count = 0
         self.failures = 0
 
@@ -79,7 +79,7 @@ class _Checks:
         finally:
             shutil.rmtree(folder, ignore_errors=True)
 
-    def _take(self, done: Set[Future]) -> None:
+    def _take(self, done: Set["Future[int]"]) -> None:
         for future in done:
             state = self._under_way.pop(future)
             status = future.result()

@@ -3,7 +3,7 @@
 from __future__ import annotations
 
 from threading import get_ident
-from typing import Any, Callable, Dict, Iterable, List, Optional, Tuple
+from typing import Any, Callable, Dict, Iterable, List, Optional, Tuple, TypeVar
 
 from .blob import Blob
 from .errors import BadLine, Interrupted, NeedsSeed, NotMade, WrongThread, refusal
@@ -30,6 +30,7 @@ Versions = Optional[Tuple[int, int]]
 Rows = List[Tuple[int, str]]
 # The word after all that are pushed. It isn't zero, so that the library can tell how many words are left.
 _LAST_WORD = 1
+_Own = TypeVar("_Own", bound="Store")
 
 
 class Store:
@@ -88,7 +89,7 @@ class Store:
             raise ValueError("words can be pushed with `by=Library` alone")
         self._layer = way("\n".join([*self._words_line(), ""]).encode() + preamble)
 
-    def __enter__(self) -> Store:
+    def __enter__(self: _Own) -> _Own:
         return self
 
     def __exit__(self, *_: object) -> None:
@@ -335,7 +336,7 @@ class Store:
         self._busy = True
         self._lines.append(line)
         try:
-            reply = self._layer.call(line)
+            reply: bytes = self._layer.call(line)
         except BaseException as error:
             self._ended(error)
             raise
@@ -350,14 +351,14 @@ class Store:
         self._busy = True
         self._lines.append((handle, offset, length))
         try:
-            found = self._layer.read(handle, offset, length)
+            found: Any = self._layer.read(handle, offset, length)
         except BaseException as error:
             self._ended(error)
             raise
         self._busy = False
-        if type(found) is Reply:
+        if isinstance(found, Reply):
             raise refusal(found.line)
-        return found
+        return bytes(found)
 
     def _write(self, handle: int, offset: int, data: bytes, sync: bool) -> None:
         if self._busy or get_ident() != self._thread:

@@ -3,7 +3,7 @@
 from __future__ import annotations
 
 import ctypes
-from typing import Any, List
+from typing import Any, List, Sequence
 
 from .errors import LibraryMissing
 from .foreign import NO_ROOM, Branch, Choice, Explorer, library, loaded
@@ -14,7 +14,7 @@ from .paths import Choice as Chosen
 class Traversal:
     """A path, below which the leaves of a tree are visited, and the choices of the run that follows it."""
 
-    def __init__(self, path: List[Chosen] = ()) -> None:
+    def __init__(self, path: Sequence[Chosen] = ()) -> None:
         self._functions = _functions()
         self._explorer = Explorer(root=len(path), len=len(path))
         self._at = ctypes.byref(self._explorer)
@@ -25,17 +25,17 @@ class Traversal:
     @property
     def planned(self) -> int:
         """How many choices the path has."""
-        return self._explorer.len
+        return int(self._explorer.len)
 
     @property
     def made(self) -> int:
         """How many choices the run has made."""
-        return self._explorer.taken
+        return int(self._explorer.taken)
 
     @property
     def differs(self) -> bool:
         """Whether the path has another choice than the run has made."""
-        return self._explorer.differs
+        return bool(self._explorer.differs)
 
     @property
     def path(self) -> List[Chosen]:
@@ -56,7 +56,7 @@ class Traversal:
         while True:
             chosen = self._functions.blobcrash_explorer_choose(self._at, self._choices, self._capacity, KINDS.index(kind), among)
             if chosen.status != NO_ROOM:
-                return chosen.branch
+                return int(chosen.branch)
             self._hold(2 * self._capacity)
 
     def count(self, left: int, sizes: int = 0) -> None:
@@ -66,16 +66,16 @@ class Traversal:
 
     def _counted(self, left: int, sizes: int) -> int:
         if sizes:
-            return self._functions.blobcrash_explorer_count_size(self._at, self._choices, self._capacity, left, sizes)
-        return self._functions.blobcrash_explorer_count(self._at, self._choices, self._capacity, left)
+            return int(self._functions.blobcrash_explorer_count_size(self._at, self._choices, self._capacity, left, sizes))
+        return int(self._functions.blobcrash_explorer_count(self._at, self._choices, self._capacity, left))
 
     def end(self) -> bool:
         """Ends the run. Returns whether it made the choices of the path, and no fewer."""
-        return self._functions.blobcrash_explorer_end(self._at)
+        return bool(self._functions.blobcrash_explorer_end(self._at))
 
     def advance(self) -> bool:
         """Makes the path that of the next leaf. Returns `False` for the last one."""
-        return self._functions.blobcrash_explorer_next(self._at, self._choices, self._capacity)
+        return bool(self._functions.blobcrash_explorer_next(self._at, self._choices, self._capacity))
 
     def rest(self) -> List[str]:
         """The subtrees that are left, from that of the path on, as texts."""

@@ -1,6 +1,9 @@
 //! The choices of an explored run: its draws, its branches and its power losses.
 use crate::Error;
+use crate::expecting::{State, States};
+use crate::path_text::text_of;
 use crate::paths::{Kind, Path};
+use crate::replay::Replay;
 use std::panic::resume_unwind;
 
 /// The choices of a run, and its limits. It is public since `Explorable` has it, in a private module.
@@ -14,20 +17,30 @@ pub struct Choices {
     calls: u64,
     most: u64,
     is_long: bool,
+    /// What decides the run in place of the path.
+    replay: Option<Replay>,
+    /// The states that runs came to by restarts, and whether this one was ended in one of them.
+    states: States,
+    is_met: bool,
 }
 
-/// What a run that is too long unwinds with.
-struct TooLong;
+/// What a run unwinds with that an exploration ends.
+struct Ended;
 
 /// Unwinds to the exploration from a run that is too long, without the message of a panic. While a panic unwinds already, returns an error.
 pub(crate) fn too_long() -> Result<(), Error> {
+    if cfg!(panic = "abort") && !std::thread::panicking() {
+        eprintln!("a run of an exploration is too long: {BOUND_IT}");
+    }
+    end_run()
+}
+
+/// Unwinds to the exploration, as `too_long` does.
+pub(crate) fn end_run() -> Result<(), Error> {
     if std::thread::panicking() {
         return Err(Error::PowerLoss);
     }
-    if cfg!(panic = "abort") {
-        eprintln!("a run of an exploration is too long: {BOUND_IT}");
-    }
-    resume_unwind(Box::new(TooLong))
+    resume_unwind(Box::new(Ended))
 }
 
 /// Why a run is too long.
@@ -43,7 +56,70 @@ impl Choices {
             calls: 0,
             most,
             is_long: false,
+            replay: None,
+            states: States::default(),
+            is_met: false,
         }
+    }
+
+    /// The choices of a run that is made again.
+    pub(crate) fn again(replay: Replay, most: u64) -> Choices {
+        let mut choices = Choices::new(Path::default(), replay.losses(), most);
+        choices.replay = Some(replay);
+        choices
+    }
+
+    /// The choices of the next run, with the states that earlier ones came to.
+    pub(crate) fn with_states(mut self, states: States) -> Choices {
+        self.states = states;
+        self
+    }
+
+    /// Returns the states that runs came to.
+    pub(crate) fn take_states(&mut self) -> States {
+        std::mem::take(&mut self.states)
+    }
+
+    /// How many more times the power may fail, if the run is one of a search that ends runs at a restart: not of a run by given choices,
+    /// nor within the path, of which all runs are made.
+    pub(crate) fn searched_losses(&self) -> Option<u64> {
+        let is_whole = self.path.made() >= self.path.planned() && !self.is_short;
+        (self.replay.is_none() && is_whole).then_some(self.losses)
+    }
+
+    /// Returns whether the run must end, since another one came to this state.
+    pub(crate) fn arrive<V>(&mut self, state: State, expected: V) -> bool
+    where
+        V: PartialEq + Send + 'static,
+    {
+        self.is_met = self.states.has_met(state, expected, self.path.taken());
+        self.is_met
+    }
+
+    /// Whether the run was ended in a state that an earlier one came to.
+    pub(crate) fn is_met(&self) -> bool {
+        self.is_met
+    }
+
+    pub(crate) fn replay(&self) -> Option<&Replay> {
+        self.replay.as_ref()
+    }
+
+    /// How many calls the run has.
+    pub(crate) fn calls(&self) -> u64 {
+        self.calls
+    }
+
+    /// The words of the draws that the run has made.
+    pub(crate) fn drawn(&self) -> Vec<u64> {
+        let again = self.replay.as_ref();
+        again.map_or_else(|| self.path.drawn(), |replay| replay.words().to_vec())
+    }
+
+    /// The path of the run, as a text.
+    pub(crate) fn path_text(&self) -> String {
+        let again = self.replay.as_ref();
+        again.map_or_else(|| text_of(self.path.taken()), Replay::path)
     }
 
     /// Counts a call. Returns whether the run may have it.
@@ -65,8 +141,12 @@ impl Choices {
         std::mem::take(&mut self.is_long)
     }
 
-    /// Begins the run. Returns the words of the path, then `more` zeros and a last word that isn't zero.
+    /// Begins the run. Returns the words of the path, then `more` zeros and a last word that isn't zero; of a run that is made again those
+    /// that it is given, and as many that make draws false.
     pub(crate) fn words(&mut self, more: usize) -> Vec<u64> {
+        if let Some(replay) = &mut self.replay {
+            return replay.begin(more);
+        }
         let mut words = self.path.words();
         words.resize(words.len() + more, 0);
         words.push(u64::MAX);
@@ -76,6 +156,9 @@ impl Choices {
 
     /// Takes the next branch of a choice.
     pub(crate) fn take(&mut self, kind: Kind, of: usize) -> usize {
+        if let Some(replay) = &mut self.replay {
+            return replay.take(kind, of);
+        }
         let branch = self.path.choose(kind, of);
         self.is_long |= self.path.made() as u64 > self.most;
         branch
@@ -84,6 +167,9 @@ impl Choices {
     /// Counts the draws up to here, after which `left` words are left.
     pub(crate) fn count(&mut self, left: usize) {
         self.is_short |= left == 0;
+        if let Some(replay) = &mut self.replay {
+            return replay.count(left, 0);
+        }
         self.path.count(left);
         self.is_long |= self.path.made() as u64 > self.most;
     }
@@ -91,6 +177,9 @@ impl Choices {
     /// Counts draws as `count` does, if the last one drew a size among `among`.
     pub(crate) fn count_size(&mut self, left: usize, among: u64) {
         self.is_short |= left == 0;
+        if let Some(replay) = &mut self.replay {
+            return replay.count(left, among);
+        }
         self.path.count_size(left, among);
         self.is_long |= self.path.made() as u64 > self.most;
     }

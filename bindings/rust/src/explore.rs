@@ -1,5 +1,7 @@
 //! Every outcome of a small run.
 use crate::choices::{BOUND_IT, Choices};
+use crate::expecting::States;
+use crate::path_text::choices_of;
 use crate::paths::Path;
 use crate::unsynced::Met;
 use crate::{Builder, Error, Explorable, Run};
@@ -31,6 +33,8 @@ pub struct Explored<T> {
     pub outcomes: BTreeMap<T, u64>,
     /// Whether these are all. They aren't if the limit was reached.
     pub is_complete: bool,
+    /// How many more runs were ended at a [`Run::restart_expecting`], since another one had come to the same state.
+    pub met: u64,
     /// A text if crashes met unsynced writes that they could not keep, as their retention was 0: then little of what a crash may leave was
     /// tried.
     ///
@@ -54,7 +58,15 @@ impl<T> fmt::Display for Explored<T> {
         } else {
             "not all of them"
         };
-        write!(f, "{} run{end}, {all}", self.runs)?;
+        write!(f, "{} run{end}", self.runs)?;
+        if self.met > 0 {
+            write!(
+                f,
+                ", and {} up to a restart in a state met before",
+                self.met
+            )?;
+        }
+        write!(f, ", {all}")?;
         if self.unkept.is_empty() {
             return Ok(());
         }
@@ -70,10 +82,12 @@ impl<T> fmt::Display for Explored<T> {
 ///     2 => Err("two"),
 ///     branch => Ok(branch),
 /// });
-/// let script = "# choose(3) is 2\n".to_owned();
-/// assert_eq!(failed, Err(ExploreError::Failed { error: "two", run: 3, script }));
+/// let (path, script) = (Box::new("2/3".to_owned()), "# choose(3) is 2\n".to_owned());
+/// assert_eq!(failed, Err(ExploreError::Failed { error: "two", run: 3, path, script }));
 /// ```
 #[derive(Clone, Debug, PartialEq, Eq)]
+// A box of a text has fewer bytes than the text: an error that is larger makes each result large.
+#[allow(clippy::box_collection)]
 pub enum ExploreError<E> {
     /// The body returned an error.
     Failed {
@@ -81,6 +95,8 @@ pub enum ExploreError<E> {
         error: E,
         /// The number of the run, from 1.
         run: u64,
+        /// The choices of the run, with which [`Exploration::under`] and [`shrink`](crate::shrink()) make it again; `seed N` of a seed.
+        path: Box<String>,
         /// The calls of the run, which make the same calls again; `blobcrash explain` shows them.
         script: String,
     },
@@ -108,8 +124,16 @@ impl<E> From<Error> for ExploreError<E> {
 impl<E: fmt::Display> fmt::Display for ExploreError<E> {
     fn fmt(&self, f: &mut fmt::Formatter<'_>) -> fmt::Result {
         match self {
-            ExploreError::Failed { error, run, script } => {
-                write!(f, "run {run} failed: {error}\nits script:\n{script}")
+            ExploreError::Failed {
+                error,
+                run,
+                path,
+                script,
+            } => {
+                write!(
+                    f,
+                    "run {run} failed: {error}\nits path: {path}\nits script:\n{script}"
+                )
             }
             ExploreError::TooLong { run, most, script } => {
                 write!(
@@ -155,6 +179,7 @@ pub struct Exploration<B = Builder> {
     limit: u64,
     losses: u64,
     calls: u64,
+    under: String,
 }
 
 impl<B: Explorable> Exploration<B> {
@@ -171,7 +196,20 @@ impl<B: Explorable> Exploration<B> {
             limit: u64::MAX,
             losses: 0,
             calls: CALLS_PER_RUN,
+            under: String::new(),
         }
+    }
+
+    /// Makes only the runs below a path: those that begin with its choices. With the path of a failure it is that run.
+    ///
+    /// ```
+    /// # use blobcrash::{Error, Exploration, Store};
+    /// let visited = Exploration::of(&Store::builder()).under("1/3").visit(|run| Ok::<_, Error>((run.choose(3), run.choose(2))));
+    /// assert_eq!(visited.unwrap().outcomes.into_keys().collect::<Vec<_>>(), [(1, 0), (1, 1)]);
+    /// ```
+    pub fn under(mut self, path: &str) -> Exploration<B> {
+        path.clone_into(&mut self.under);
+        self
     }
 
     /// Sets how many runs are made at most.
@@ -232,7 +270,8 @@ impl<B: Explorable> Exploration<B> {
     /// - `Failed` for the first run in which the body returns an error.
     /// - `TooLong` for a run with too many calls or draws.
     /// - `NotDeterministic`.
-    /// - `Store` with `Argument` if the limit is 0 or the builder has a seed or words; or with what [`Builder::open`] returns.
+    /// - `Store` with `Argument` if the limit is 0, the builder has a seed or words, or [`Exploration::under`] has no path; or with what
+    ///   [`Builder::open`] returns.
     ///
     /// ```
     /// # use blobcrash::{ExploreError, Exploration, Store};
@@ -246,20 +285,35 @@ impl<B: Explorable> Exploration<B> {
         if self.limit == 0 {
             return Err(nothing_to_run());
         }
-        let (mut path, mut words) = (Path::default(), WORDS);
+        let (mut path, mut words) = (Path::below(choices_of(&self.under)?), WORDS);
         let mut visited = Explored {
             runs: 0,
             outcomes: BTreeMap::new(),
             is_complete: false,
+            met: 0,
             unkept: "",
         };
+        let mut states = States::default();
         let mut met = Met::default();
         while visited.runs < self.limit {
-            let run = self.begin(path, words, visited.runs + 1)?;
+            let run = self.begin(path, states, words, visited.runs + 1)?;
             let result = catch_unwind(AssertUnwindSafe(|| body(&run)));
             if run.choices(Choices::end) {
                 let (run, script, most) = (visited.runs + 1, run.script(), self.calls);
                 return Err(ExploreError::TooLong { run, most, script });
+            }
+            states = run.choices(Choices::take_states);
+            if run.choices(|choices| choices.is_met()) {
+                visited.met += 1;
+                path = run.choices(|choices| std::mem::take(&mut choices.path));
+                if !path.end() {
+                    return Err(ExploreError::NotDeterministic);
+                }
+                if !path.advance() {
+                    visited.is_complete = true;
+                    break;
+                }
+                continue;
             }
             let result = result.unwrap_or_else(|panic| resume_unwind(panic));
             if run.choices(|choices| choices.is_short()) {
@@ -275,8 +329,16 @@ impl<B: Explorable> Exploration<B> {
             match result {
                 Ok(outcome) => *visited.outcomes.entry(outcome).or_insert(0) += 1,
                 Err(error) => {
-                    let (run, script) = (visited.runs, run.script());
-                    return Err(ExploreError::Failed { error, run, script });
+                    let (path, script) = (
+                        run.choices(|choices| Box::new(choices.path_text())),
+                        run.script(),
+                    );
+                    return Err(ExploreError::Failed {
+                        error,
+                        run: visited.runs,
+                        path,
+                        script,
+                    });
                 }
             }
             path = run.choices(|choices| std::mem::take(&mut choices.path));
@@ -289,8 +351,14 @@ impl<B: Explorable> Exploration<B> {
         Ok(visited)
     }
 
-    fn begin(&self, path: Path, words: usize, number: u64) -> Result<Run<B::Opened>, Error> {
-        let choices = Choices::new(path, self.losses, self.calls);
+    fn begin(
+        &self,
+        path: Path,
+        states: States,
+        words: usize,
+        number: u64,
+    ) -> Result<Run<B::Opened>, Error> {
+        let choices = Choices::new(path, self.losses, self.calls).with_states(states);
         let opened = self.builder.explored(choices, words)?;
         Ok(Run::new(opened, number))
     }

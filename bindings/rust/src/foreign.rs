@@ -95,7 +95,7 @@ pub(crate) struct KeptRun {
 
 /// A choice of a run: which branch it takes, and among how many.
 #[repr(C)]
-#[derive(Clone, Copy, Debug, Default)]
+#[derive(Clone, Copy, Debug, Default, PartialEq, Eq)]
 pub(crate) struct Choice {
     pub(crate) kind: u32,
     pub(crate) branch: u64,

@@ -27,6 +27,17 @@ pub(crate) struct Path {
 }
 
 impl Path {
+    /// A traversal of the leaves below a path.
+    pub(crate) fn below(choices: Vec<Choice>) -> Path {
+        let len = choices.len();
+        let explorer = Explorer {
+            root: len,
+            len,
+            ..Explorer::default()
+        };
+        Path { explorer, choices }
+    }
+
     /// Begins the run of the path, with this many words.
     pub(crate) fn begin(&mut self, given: usize) {
         // SAFETY: the explorer is borrowed for the call.
@@ -78,6 +89,16 @@ impl Path {
         self.explorer.taken
     }
 
+    /// Returns how many choices the path has.
+    pub(crate) fn planned(&self) -> usize {
+        self.explorer.len
+    }
+
+    /// Returns the choices that the run has made.
+    pub(crate) fn taken(&self) -> &[Choice] {
+        &self.choices[..self.explorer.taken]
+    }
+
     /// Returns the words of the draws on the path.
     pub(crate) fn words(&self) -> Vec<u64> {
         words_of(&self.choices[..self.explorer.len])
@@ -85,7 +106,7 @@ impl Path {
 
     /// Returns the words of the draws that the run has made.
     pub(crate) fn drawn(&self) -> Vec<u64> {
-        words_of(&self.choices[..self.explorer.taken])
+        words_of(self.taken())
     }
 
     /// Reserves capacity for more choices.
@@ -98,7 +119,7 @@ impl Path {
 }
 
 /// Returns the words that make draws have their outcomes.
-fn words_of(choices: &[Choice]) -> Vec<u64> {
+pub(crate) fn words_of(choices: &[Choice]) -> Vec<u64> {
     choices.iter().filter_map(word_of).collect()
 }
 

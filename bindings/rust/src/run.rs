@@ -1,6 +1,7 @@
 //! One run of an exploration, or of a seed.
 use crate::choices::Choices;
 use crate::limits::Limited;
+use crate::path_text::word_text;
 use crate::unsynced::Met;
 use crate::{Error, Store};
 use std::ops::Deref;
@@ -115,13 +116,11 @@ impl<S: Limited> Run<S> {
 
 /// Returns the line with the words of a run's draws. It is empty if there are none.
 fn drawn_line(choices: &Choices) -> String {
-    let words = choices.path.drawn();
+    let words = choices.drawn();
     if words.is_empty() {
         return String::new();
     }
-    let texts = words
-        .iter()
-        .map(|word| if *word == 0 { "0" } else { "max" });
+    let texts = words.into_iter().map(word_text);
     format!("words {}\n", texts.collect::<Vec<_>>().join(" "))
 }
 

@@ -39,6 +39,7 @@ pub fn seeds<B: Explorable, T: Ord, E>(
         runs: 0,
         outcomes: BTreeMap::new(),
         is_complete: false,
+        met: 0,
         unkept: "",
     };
     let mut met = Met::default();
@@ -50,8 +51,14 @@ pub fn seeds<B: Explorable, T: Ord, E>(
         match result {
             Ok(outcome) => *visited.outcomes.entry(outcome).or_insert(0) += 1,
             Err(error) => {
-                let (run, script) = (visited.runs, run.script());
-                return Err(ExploreError::Failed { error, run, script });
+                let (path, script) = (Box::new(format!("seed {seed}")), run.script());
+                let run = visited.runs;
+                return Err(ExploreError::Failed {
+                    error,
+                    run,
+                    path,
+                    script,
+                });
             }
         }
     }

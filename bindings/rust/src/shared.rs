@@ -353,12 +353,14 @@ impl State {
                 self.limits.unsynced.set(&self.config);
             }
             ["write", handle, _, bytes] if bytes != "-" => {
-                self.key_of(handle)
-                    .map(|key| self.limits.unsynced.write(key));
+                if let Some(key) = self.key_of(handle) {
+                    self.limits.unsynced.write(key);
+                }
             }
             ["sync" | "startsync", handle] => {
-                self.key_of(handle)
-                    .map(|key| self.limits.unsynced.sync(key));
+                if let Some(key) = self.key_of(handle) {
+                    self.limits.unsynced.sync(key);
+                }
             }
             _ => {}
         }

@@ -75,7 +75,10 @@ fn a_failure_has_its_script() {
             _ => Ok(()),
         }
     });
-    let Err(ExploreError::Failed { error, run, script }) = failed else {
+    let Err(ExploreError::Failed {
+        error, run, script, ..
+    }) = failed
+    else {
         panic!("{failed:?}");
     };
     assert_eq!((error, run), ("torn", 2));
@@ -344,7 +347,10 @@ fn a_seed_that_fails() {
             _ => Ok(()),
         }
     });
-    let Err(ExploreError::Failed { error, run, script }) = found else {
+    let Err(ExploreError::Failed {
+        error, run, script, ..
+    }) = found
+    else {
         panic!("{found:?}");
     };
     let seed = 5 + run - 1;

@@ -67,7 +67,9 @@ fn explored_with(
             assert!(visited.is_complete);
             Ok(visited.runs)
         }
-        Err(ExploreError::Failed { error, run, script }) => {
+        Err(ExploreError::Failed {
+            error, run, script, ..
+        }) => {
             assert!(
                 script.contains("\nwrite ") && script.contains("\ncrash\n"),
                 "{script}"

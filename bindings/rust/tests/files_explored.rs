@@ -138,7 +138,10 @@ fn a_failure_has_its_words_and_calls() {
             Ok(())
         }
     });
-    let Err(ExploreError::Failed { error, run, script }) = failed else {
+    let Err(ExploreError::Failed {
+        error, run, script, ..
+    }) = failed
+    else {
         panic!("{failed:?}");
     };
     assert_eq!((error, run), (Error::Loop, 3));

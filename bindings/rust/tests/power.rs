@@ -141,7 +141,10 @@ fn a_body_that_forgets_to_recover() {
         run.open("p", b"b")?;
         run.scan("p")
     });
-    let Err(ExploreError::Failed { error, run, script }) = visited else {
+    let Err(ExploreError::Failed {
+        error, run, script, ..
+    }) = visited
+    else {
         panic!("{visited:?}");
     };
     assert_eq!(
