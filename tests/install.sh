@@ -39,6 +39,7 @@ include/blobcrash/explore.h
 include/blobcrash/explore_files.h
 include/blobcrash/fork.h
 include/blobcrash/power.h
+include/blobcrash/unkept.h
 lib/libblobcrash.a
 lib/libblobcrash.so
 lib/libblobcrash.so.${release%.*}

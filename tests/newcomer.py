@@ -54,9 +54,11 @@ class Clone:
         command, printed = next(pair for pair in commands(self.lines) if pair[0].startswith(beginning))
         return command, lambda lines: lines == [line.rstrip() for line in printed if line.strip()]
 
-    def skip(self, what):
+    def skip(self, what, is_package=True):
+        """Leaves something out. With CI=true that fails if a package of .ci/packages is missing."""
         print(f"newcomer.py: skipped: {what}")
-        self.skipped, self.failed = self.skipped + 1, self.failed + (os.environ.get("CI") == "true")
+        fails = is_package and os.environ.get("CI") == "true"
+        self.skipped, self.failed = self.skipped + (not fails), self.failed + fails
 
 
 def _processor_seconds():
@@ -89,9 +91,12 @@ def rust(clone):
 
 
 def mount(clone):
-    ways = (shutil.which("fusermount3"), os.access("/dev/fuse", os.R_OK | os.W_OK), shutil.which("cc"), shutil.which("pkg-config"))
-    if not all(ways) or subprocess.run(["pkg-config", "--atleast-version=3.10", "fuse3"], check=False).returncode:
+    tools = (shutil.which("fusermount3"), shutil.which("cc"), shutil.which("pkg-config"))
+    if not all(tools) or subprocess.run(["pkg-config", "--atleast-version=3.10", "fuse3"], check=False).returncode:
         clone.skip("the mount: libfuse 3 is missing")
+        return 0
+    if not os.access("/dev/fuse", os.R_OK | os.W_OK):
+        clone.skip("the mount: there is no /dev/fuse", is_package=False)
         return 0
     # The crash keeps what was synced, and the name of the other file.
     found = re.compile(r" *4 \S*/synced$"), re.compile(r" *0 \S*/unsynced$")

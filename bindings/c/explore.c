@@ -250,6 +250,58 @@ static void a_refused_restart(void) {
     blobcrash_close(&session);
 }
 
+/* The lines of a run, up to NULL. */
+static const char *const *lines_of_run;
+
+static void make_lines(struct blobcrash_paths *paths, struct blobcrash_session *session) {
+    for (const char *const *line = lines_of_run; *line != NULL; line++) is_done(paths, session, *line);
+}
+
+static void write_and_crash(struct blobcrash_paths *paths, struct blobcrash_session *session) {
+    is_done(paths, session, "open p 62");
+    blobcrash_explored_write(paths, session, 0, 0, (const uint8_t *)"abc", 3, lines_of_run != NULL);
+    is_done(paths, session, "crash");
+}
+
+#define NONE "; no unsynced write could be kept: set `write 0 1 1 2 sectors 512`"
+#define SOME "; some unsynced writes could not be kept: set `write 0 1 1 2 sectors 512`"
+#define HALF "config write 0 1 1 2 prefix"
+
+/* What is said of writes that no crash could keep. */
+static void unkept(void) {
+    static const struct { const char *settings, *lines[6], *said; } rows[] = {
+        {"", {"open p 62", "write 0 0 61", "crash"}, NONE},
+        {"config write 0 1 000 1 prefix\n", {"open p 62", "write 0 0 61", "crash"}, NONE},
+        {HALF "\n", {"open p 62", "write 0 0 61", "crash"}, ""},
+        {" config  write 0 1 1 2 prefix\n", {"open p 62", "write 0 0 61", "crash"}, ""},
+        {HALF "\nconfig clear\n", {"open p 62", "write 0 0 61", "crash"}, NONE},
+        {"", {"open p 62", "write 0 0 61", "sync 0", "crash"}, ""},
+        {"", {"open p 62", " write  0 0 61", "startsync  0", "crash"}, ""},
+        {"config sync 1 1\n", {"open p 62", "write 0 0 61", "sync 0", "crash"}, NONE},
+        {"", {"open p 62", "writes 0 0 61", "crash"}, ""},
+        {"", {"open p 62", "write 0 0 -", "crash"}, ""},
+        {"", {"open p 62", "write 0 0 61", "reopen", "crash"}, ""},
+        {"", {"open p 62", "write 0 0 61", HALF, "write 0 1 62", "crash"}, SOME},
+        {HALF "\n", {"open p 62", "config clear", "write 0 1 62", "crash"}, NONE},
+    };
+    for (size_t row = 0; row < sizeof rows / sizeof *rows; row++) {
+        struct blobcrash_paths paths = {0};
+        char what[160];
+        lines_of_run = rows[row].lines;
+        int status = explore(&paths, rows[row].settings, make_lines);
+        snprintf(what, sizeof what, "row %zu of unkept: status %d, `%s`", row, status, blobcrash_unkept(&paths));
+        tell(status == BLOBCRASH_EXPLORE_END && strcmp(blobcrash_unkept(&paths), rows[row].said) == 0, what);
+        blobcrash_free_paths(&paths);
+    }
+    for (int syncs = 0; syncs < 2; syncs++) {
+        struct blobcrash_paths paths = {0};
+        lines_of_run = syncs ? rows[0].lines : NULL;
+        tell(explore(&paths, "", write_and_crash) == BLOBCRASH_EXPLORE_END, "explored writes");
+        tell(strcmp(blobcrash_unkept(&paths), syncs ? "" : NONE) == 0, "what is said of explored writes");
+        blobcrash_free_paths(&paths);
+    }
+}
+
 int main(void) {
     outcomes(8);
     outcomes(150);
@@ -259,6 +311,7 @@ int main(void) {
     drawn_sizes();
     what_is_made_without_power();
     a_refused_restart();
+    unkept();
     printf("%d passed, %d failed\n", passed, failed);
     return failed != 0;
 }

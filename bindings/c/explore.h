@@ -31,6 +31,7 @@
 #define BLOBCRASH_EXPLORE_H
 
 #include "blobcrash.h"
+#include "unkept.h"
 
 #include <inttypes.h>
 #include <stdio.h>
@@ -81,7 +82,16 @@ struct blobcrash_paths {
     bool is_long;           /* it has too many calls */
     uint64_t calls;         /* how many explored calls it has */
     size_t kept;            /* how many words were left when it got too long */
+    struct blobcrash_unsynced unsynced;
 };
+
+/* What to print after `all of them` of the runs so far: nothing, or that crashes met unsynced writes that they could not keep, since the
+ * retention was 0. Then little of what a crash may leave was tried. */
+static inline const char *blobcrash_unkept(const struct blobcrash_paths *paths) {
+    if ((paths->unsynced.met & BLOBCRASH_NEVER_KEPT) == 0) return "";
+    if (paths->unsynced.met == BLOBCRASH_NEVER_KEPT) return "; no unsynced write could be kept: set `write 0 1 1 2 sectors 512`";
+    return "; some unsynced writes could not be kept: set `write 0 1 1 2 sectors 512`";
+}
 
 /* How many explored calls, and how many choices, a run has at most. */
 static inline uint64_t blobcrash_most_calls(const struct blobcrash_paths *paths) {
@@ -183,6 +193,7 @@ static inline int blobcrash_begin_run(struct blobcrash_paths *paths, uint32_t op
     paths->has_no_memory = paths->is_long = false;
     paths->is_running = true;
     paths->calls = 0;
+    blobcrash_unsynced_begin(&paths->unsynced, settings);
     size_t given = 2 * paths->room;
     for (size_t i = 0; i < paths->explorer.len; i++) given += blobcrash_is_draw(&paths->choices[i]);
     blobcrash_explorer_begin(&paths->explorer, given);
@@ -271,6 +282,7 @@ static inline void blobcrash_repeat_run(struct blobcrash_paths *paths, FILE *scr
 /* Frees the memory of the path. */
 static inline void blobcrash_free_paths(struct blobcrash_paths *paths) {
     free(paths->choices);
+    free(paths->unsynced.keys);
     memset(paths, 0, sizeof *paths);
 }
 

@@ -308,6 +308,45 @@ static void limits(void) {
     }
 }
 
+/* What syncs the only write of a run. */
+enum syncs { NO_SYNC, THE_SYNC, BY_ANOTHER, OF_ANOTHER, OF_ALL, A_SETTLE };
+
+static enum syncs syncs_by;
+
+static const char *write_and_sync(struct run *run) {
+    uint64_t file = on(run, BLOBCRASH_F_CREATE, "/f").number, other = on(run, BLOBCRASH_F_CREATE, "/g").number;
+    write_at(run, file, 0, run->found);
+    if (syncs_by == THE_SYNC) by(run, BLOBCRASH_F_SYNC, file);
+    if (syncs_by == BY_ANOTHER) by(run, BLOBCRASH_F_SYNC_DATA, on(run, BLOBCRASH_F_OPEN, "/f").number);
+    if (syncs_by == OF_ANOTHER) by(run, BLOBCRASH_F_SYNC, other);
+    if (syncs_by == OF_ALL) by(run, BLOBCRASH_F_SYNC_ALL, 0);
+    if (syncs_by == A_SETTLE) by(run, BLOBCRASH_F_SETTLE, 0);
+    by(run, BLOBCRASH_F_CRASH, 0);
+    return NULL;
+}
+
+/* What is said of writes that no crash could keep. */
+static void unkept(void) {
+    static const struct { const char *settings; enum syncs by; bool is_said; } rows[] = {
+        {"", NO_SYNC, false}, {"config write 0 1 0 1 prefix\n", NO_SYNC, true}, {"config write 0 1 0 1 prefix\n", THE_SYNC, false},
+        {"config write 0 1 0 1 prefix\n", BY_ANOTHER, false}, {"config write 0 1 0 1 prefix\n", OF_ANOTHER, true},
+        {"config write 0 1 0 1 prefix\n", OF_ALL, false}, {"config write 0 1 0 1 prefix\n", A_SETTLE, false},
+        {"syncs lie\nconfig write 0 1 0 1 prefix\n", THE_SYNC, true}, {"syncs lie\nconfig write 0 1 0 1 prefix\n", OF_ALL, true},
+        {"syncs lie\nconfig write 0 1 0 1 prefix\n", A_SETTLE, false},
+    };
+    for (size_t row = 0; row < sizeof rows / sizeof *rows; row++) {
+        struct run run = {0};
+        uint64_t again = 0;
+        char what[160];
+        syncs_by = rows[row].by;
+        int status = status_of(&run, rows[row].settings, write_and_sync, &again);
+        snprintf(what, sizeof what, "row %zu of unkept: status %d, `%s`", row, status, blobcrash_unkept(&run.paths));
+        bool is_said = strncmp(blobcrash_unkept(&run.paths), "; no unsynced write could be kept", 33) == 0;
+        tell(status == BLOBCRASH_EXPLORE_END && is_said == rows[row].is_said, what);
+        blobcrash_free_paths(&run.paths);
+    }
+}
+
 /* While the power is off nothing is made but the crash. */
 static const char *without_power(struct run *run) {
     uint8_t into[1] = {'?'};
@@ -324,6 +363,7 @@ int main(int count, char **arguments) {
     bugs();
     scripts(count > 1 ? arguments[1] : NULL);
     limits();
+    unkept();
     struct run run = {.paths = {.power_losses = 1}};
     tell(explore(&run, "ext4", without_power) == NULL && run.paths.runs == 2 && run.is_done, "what is made without power");
     blobcrash_free_paths(&run.paths);

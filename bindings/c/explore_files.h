@@ -147,6 +147,23 @@ static inline void blobcrash_print_kept(FILE *script, struct blobcrash_files *fi
     }
 }
 
+/* Returns the inode of an open file. */
+static inline uint64_t blobcrash_explored_inode(struct blobcrash_files *files, uint64_t descriptor) {
+    struct blobcrash_file_call asked = {BLOBCRASH_F_INODE_OF, descriptor, 0, 0};
+    const uint8_t none = 0;
+    return blobcrash_files_apply(files, &asked, &none, 0, &none, 0).number;
+}
+
+/* Follows which files have unsynced writes, after a call that was made. */
+static inline void blobcrash_follow_apply(struct blobcrash_paths *paths, struct blobcrash_files *files, uint32_t kind, uint64_t number) {
+    struct blobcrash_unsynced *unsynced = &paths->unsynced;
+    if (kind == BLOBCRASH_F_CRASH) blobcrash_unsynced_crash(unsynced);
+    else if (kind == BLOBCRASH_F_SETTLE || (kind == BLOBCRASH_F_SYNC_ALL && !unsynced->syncs_lie)) unsynced->count = 0;
+    else if (unsynced->count > 0 && (kind == BLOBCRASH_F_SYNC || kind == BLOBCRASH_F_SYNC_DATA)) {
+        blobcrash_unsynced_sync(unsynced, blobcrash_explored_inode(files, number));
+    }
+}
+
 /* As blobcrash_files_apply, or POWER_LOSS. A CRASH is always made, and turns the power on. */
 static inline struct blobcrash_file_reply blobcrash_explored_apply(struct blobcrash_paths *paths, struct blobcrash_files *files,
                                                                    const struct blobcrash_file_call *asked, const uint8_t *path,
@@ -158,6 +175,7 @@ static inline struct blobcrash_file_reply blobcrash_explored_apply(struct blobcr
     struct blobcrash_file_reply reply = blobcrash_files_apply(files, asked, path, path_len, to, to_len);
     if (paths->script != NULL) blobcrash_print_file_call(paths, asked, reply, path, path_len, to, to_len);
     if (asked->kind == BLOBCRASH_F_OPEN_TRUNCATED || asked->kind == BLOBCRASH_F_OPEN_INODE_TRUNCATED) paths->has_truncated = true;
+    if (reply.status == BLOBCRASH_DONE) blobcrash_follow_apply(paths, files, asked->kind, asked->number);
     if (crashes && reply.status == BLOBCRASH_DONE) {
         paths->is_off = paths->has_truncated = false;
         if (paths->script != NULL) blobcrash_print_kept(paths->script, files, reply);
@@ -186,6 +204,7 @@ static inline uint32_t blobcrash_explored_files_write(struct blobcrash_paths *pa
                                                       uint64_t offset, const uint8_t *bytes, size_t len) {
     if (blobcrash_files_power_fails(paths, files, true)) return BLOBCRASH_POWER_LOSS;
     uint32_t status = blobcrash_files_write(files, descriptor, offset, bytes, len);
+    if (status == BLOBCRASH_DONE && len > 0) blobcrash_unsynced_write(&paths->unsynced, blobcrash_explored_inode(files, descriptor));
     if (paths->script != NULL) {
         fprintf(paths->script, "write %" PRIu64 " %" PRIu64 " %s", descriptor, offset, len == 0 ? "-" : "");
         for (size_t i = 0; i < len; i++) fprintf(paths->script, "%02x", bytes[i]);

@@ -121,7 +121,7 @@ static int explore(struct log *log, const char *script) {
         blobcrash_end_run(&log->paths, &log->session);
         return fclose(log->paths.script) == 0 ? 1 : 2;
     }
-    printf("%" PRIu64 " runs, all of them\n", log->paths.runs);
+    printf("%" PRIu64 " runs, all of them%s\n", log->paths.runs, blobcrash_unkept(&log->paths));
     return status == BLOBCRASH_EXPLORE_END ? 0 : 2;
 }
 

@@ -115,6 +115,21 @@ static inline void blobcrash_after_resize(struct blobcrash_paths *paths, struct 
     blobcrash_count_size(paths, blobcrash_words_left(session), (from < to ? to - from : from - to) - 1);
 }
 
+/* Follows which handles have unsynced writes, after the call of a line. */
+static inline void blobcrash_follow_line(struct blobcrash_paths *paths, struct blobcrash_session *session, const uint8_t *line, size_t len) {
+    struct blobcrash_unsynced *unsynced = &paths->unsynced;
+    size_t at = 0;
+    if (blobcrash_has_word(line, len, "config ")) blobcrash_unsynced_set(unsynced, (const char *)line, len);
+    if (!blobcrash_has_word(line, len, "write sync startsync crash reopen ") || blobcrash_last(session).status != BLOBCRASH_DONE) return;
+    while (at < len && line[at] == ' ') at++;
+    while (at < len && line[at] != ' ') at++;
+    uint64_t handle = blobcrash_number_at(line, len, &at);
+    if (blobcrash_has_word(line, len, "crash ")) blobcrash_unsynced_crash(unsynced);
+    else if (blobcrash_has_word(line, len, "reopen ")) unsynced->count = 0;
+    else if (!blobcrash_has_word(line, len, "write ")) blobcrash_unsynced_sync(unsynced, handle);
+    else if (line[len - 1] != '-') blobcrash_unsynced_write(unsynced, handle);
+}
+
 /* As blobcrash_call. POWER_LOSS if the power is off: then only `crash`, settings, comments and, after the crash, `close` and `reopen` are
  * made. */
 static inline struct blobcrash_ran blobcrash_explored_call(struct blobcrash_paths *paths, struct blobcrash_session *session,
@@ -132,6 +147,7 @@ static inline struct blobcrash_ran blobcrash_explored_call(struct blobcrash_path
     struct blobcrash_ran ran = blobcrash_call(session, line, len, reply, reply_room);
     if (!blobcrash_was_made(ran.status)) return ran;
     blobcrash_after_resize(paths, session, &resize);
+    blobcrash_follow_line(paths, session, line, len);
     /* A refused crash has lost nothing, and a refused reopening hasn't reopened. */
     bool is_refused = (crashes || reopens) && blobcrash_last(session).status != BLOBCRASH_DONE;
     if (crashes && !is_refused) paths->has_crashed = paths->is_off;
@@ -157,6 +173,7 @@ static inline uint32_t blobcrash_explored_write(struct blobcrash_paths *paths, s
                                                 uint64_t offset, const uint8_t *bytes, size_t len, bool sync) {
     if (blobcrash_power_fails(paths, session, true)) return BLOBCRASH_POWER_LOSS;
     uint32_t status = blobcrash_write(session, handle, offset, bytes, len, sync);
+    if (status == BLOBCRASH_DONE && !sync && len > 0) blobcrash_unsynced_write(&paths->unsynced, handle);
     if (paths->script != NULL && status != BLOBCRASH_CLOSED) {
         fprintf(paths->script, "%s %zu %" PRIu64 " %s", sync ? "writes" : "write", handle, offset, len == 0 ? "-" : "");
         for (size_t i = 0; i < len; i++) fprintf(paths->script, "%02x", bytes[i]);
