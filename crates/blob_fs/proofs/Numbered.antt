@@ -11,7 +11,7 @@ use Rattle.blob_fs.specs.Acts.{number_act}
 use Rattle.blob_fs.specs.Calls.{ByResult, Does, Makes}
 use Rattle.blob_fs.specs.Files.{fresh_inode}
 use Rattle.blob_fs.specs.Fixed.{KeepsUnreached}
-use Rattle.blob_fs.specs.Performs.{IsDone, IsInode, IsOpened, Performs, is_refused}
+use Rattle.blob_fs.specs.Performs.{Effect, IsDone, IsInode, IsOpened, is_refused}
 use Rattle.blob_fs.proofs.Calls.{leaves}
 
 -- by the reply
@@ -49,7 +49,7 @@ by_inode (Tree entries) P S Q t h = absurd h
 by_inode (Crashed crash) P S Q t h = absurd h
 by_inode (Refused error) P S Q t h = h
 
-pub does_number : {R : Type 0} (c : NumberCall) (reply : Reply) (fs fs' : FileSystem R) → Performs (number_act c) reply fs fs' → Does c (not (is_refused reply)) fs fs'
+pub does_number : {R : Type 0} (c : NumberCall) (reply : Reply) (fs fs' : FileSystem R) → Effect (number_act c) reply fs fs' → Does c (not (is_refused reply)) fs fs'
 does_number (call.Create d name) reply fs fs' h = by_opened reply _ _ _ (λ f made. made.1) h.1
 does_number (call.MakeDirectory d name) reply fs fs' h =
     by_inode reply _ _ _ (λ n made. subst (λ (m : ℕ). Makes (binds d name.now (directory_at m)) fs fs') made.0 made.1.1) h.1
@@ -69,7 +69,7 @@ does_number (call.SyncDirectory d) reply fs fs' h = (h.0, by_done reply _ _ _ (�
 does_number call.SyncAll reply fs fs' h = (h.0, by_done reply _ _ _ (λ settled honest. (settled honest).0) h.2)
 does_number call.Settle reply fs fs' h = (h.0, by_done reply _ _ _ (λ settled. settled.0) h.2)
 
-pub keeps_unreached : {R : Type 0} (c : NumberCall) (reply : Reply) (fs fs' : FileSystem R) → Performs (number_act c) reply fs fs' → KeepsUnreached c fs fs'
+pub keeps_unreached : {R : Type 0} (c : NumberCall) (reply : Reply) (fs fs' : FileSystem R) → Effect (number_act c) reply fs fs' → KeepsUnreached c fs fs'
 keeps_unreached (call.Create d name) reply fs fs' h = λ inode at byte below spared fixed. h.0 inode at byte below fixed
 keeps_unreached (call.MakeDirectory d name) reply fs fs' h = λ inode at byte below spared fixed. h.0 inode at byte below fixed
 keeps_unreached (call.Link inode d name) reply fs fs' h = λ inode at byte below spared fixed. h.0 inode at byte below fixed

@@ -8,7 +8,7 @@ pub returns-clause-does : goal.returns-clause-does
 returns-clause-does g c =
     let fs : FileSystem g.row.R.Denot = c.args.self.now in
     let fs' : FileSystem g.row.R.Denot = c.by_number.new.fs in
-    subst (λ (b : Bool). Does c.args.call.now (not b) fs fs') (sym c.is_refused.ensures) (does_number c.args.call.now c.by_number.result fs fs' c.by_number.ensures)
+    subst (λ (b : Bool). Does c.args.call.now (not b) fs fs') (sym c.is_refused.ensures) (does_number c.args.call.now c.by_number.result fs fs' c.by_number.ensures.effect)
 
 pub returns-clause-fixed : goal.returns-clause-fixed
-returns-clause-fixed g c = keeps_unreached c.args.call.now c.by_number.result c.args.self.now c.by_number.new.fs c.by_number.ensures
+returns-clause-fixed g c = keeps_unreached c.args.call.now c.by_number.result c.args.self.now c.by_number.new.fs c.by_number.ensures.effect
