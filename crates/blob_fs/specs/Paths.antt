@@ -5,10 +5,11 @@ use Rattle.blob_directory.specs.declared.edit.Binding.{Binding}
 use Rattle.blob_directory.specs.Names.{Edit, Names, binds, directory_at, entry, file, frees}
 use Rattle.blob_directory.specs.Paths.{IsPlace, LeadsTo}
 use Rattle.blob_directory.specs.Tables.{HasAll, HasOnly}
+use Rattle.blob_fs.specs.declared.file_system.Descriptor.{Descriptor}
 use Rattle.blob_fs.specs.declared.file_system.FileSystem.{FileSystem}
 use Rattle.blob_fs.specs.declared.renames.Rename.{Rename}
 use Rattle.blob_fs.specs.Calls.{Makes, RenamesAt}
-use Rattle.blob_fs.specs.Files.{SyncsDirectory, fresh_inode, names_of}
+use Rattle.blob_fs.specs.Files.{SyncsDirectory, fresh_inode, inode_opened, names_of}
 
 -- what a path is bound to
 pub record IsBound (names : Names) (path : List ℕ) (to : Binding) : Type 0 where
@@ -16,6 +17,12 @@ pub record IsBound (names : Names) (path : List ℕ) (to : Binding) : Type 0 whe
   pub name : List ℕ
   pub place : IsPlace names path directory name
   pub bound : names (entry directory name) ≡ Some to
+
+-- this descriptor is open, of what a path was bound to
+pub record OpensPath {R : Type 0} (path : List ℕ) (fs : FileSystem R) (f : Descriptor) (fs' : FileSystem R) : Type 0 where
+  pub to : Binding
+  pub bound : IsBound (names_of fs) path to
+  pub opened : inode_opened fs' f ≡ Some to.inode
 
 -- the edit of the name that a path has, in the directory that it leads to
 pub record MakesAt {R : Type 0} (path : List ℕ) (edit : ℕ → List ℕ → Edit) (fs fs' : FileSystem R) : Type 0 where

@@ -1,5 +1,5 @@
 -- What each call on files does, and with which reply.
-use Rattle.std.specs.Prelude.{◌≡◌, ◌<◌, ℕ, Bool, true, false, List, length, Err, Ok, None, Result, Some, Vec}
+use Rattle.std.specs.Prelude.{◌≡◌, ◌<◌, ◌≤◌, ℕ, IsSome, Bool, true, false, List, length, Err, Ok, None, Result, Some, Vec}
 use Rattle.std.specs.Global.{Global}
 use Rattle.blob_directory.specs.declared.edit.Binding.{Binding}
 use Rattle.blob_directory.specs.Names.{Edit, binds, directory_at, entry, file, frees}
@@ -14,10 +14,10 @@ use Rattle.blob_fs.specs.declared.whole.TreeEntry.{TreeEntry}
 use Rattle.blob_fs.specs.Bytes.{FindsBytes, FindsEdits, FindsKnown, HasNoOrphan}
 use Rattle.blob_fs.specs.Calls.{Leaves, Makes, MaySettle, RenamesAt}
 use Rattle.blob_fs.specs.Errors.{IsExhaustedError, next_number}
-use Rattle.blob_fs.specs.Files.{Commits, FindsKept, FindsTold, GivesTold, KeepsNames, KeepsTold, MayResize, MayResizeSome, MayTruncate, SameNames, SettlesSome, SyncsAll, SyncsDirectory, SyncsFile, fresh_inode, inode_opened, journaled_of, names_of, syncs_of}
+use Rattle.blob_fs.specs.Files.{Commits, FindsKept, FindsTold, GivesTold, KeepsNames, KeepsOptions, KeepsTold, MayResize, MayResizeSome, MayTruncate, SameNames, SettlesSome, SyncsAll, SyncsDirectory, SyncsFile, fresh_inode, inode_opened, journaled_of, names_of, syncs_of}
 use Rattle.blob_fs.specs.Fixed.{FindsFixed, FixesAll, FixesFile, FixesFound, KeepsFixed, KeepsFixedBut, KeepsSpared}
 use Rattle.blob_fs.specs.Noted.{HasSize, NotesTruncation}
-use Rattle.blob_fs.specs.Paths.{CreatesAt, FreesAt, IsBound, LinksAt, Lists, MakesDirectoryAt, RenamesPath, SyncsPath}
+use Rattle.blob_fs.specs.Paths.{CreatesAt, FreesAt, IsBound, LinksAt, Lists, MakesDirectoryAt, OpensPath, RenamesPath, SyncsPath}
 use Rattle.blob_fs.specs.Places.{FindsPlaces}
 use Rattle.blob_fs.specs.Writes.{RecordsWrite, failed_write_of}
 use Rattle.blob_journal.specs.Fixed.{IsBeside}
@@ -107,54 +107,59 @@ pub record Crashes {R : Type 0} (crash : Crash) (fs fs' : FileSystem R) : Type 0
 abbrev pub FailsToCrash : {R : Type 0} → FsError → FileSystem R → FileSystem R → Type 0
 FailsToCrash error fs fs' = KeepsEdits fs fs' × IsExhaustedError (next_number (journaled_of fs')) error
 
--- a call with this reply, by what the file system was before and is after it
-abbrev pub Performs : {R : Type 0} → Act → Reply → FileSystem R → FileSystem R → Type 0
-Performs (acts.Create path) reply fs fs' = IsOpened reply (λ f. CreatesAt path fs fs') (Leaves fs fs')
-Performs (acts.Open path) reply fs fs' = KeepsEdits fs fs' × IsOpened reply (λ f. Unit {0}) (Unit {0})
-Performs (acts.OpenTruncated path) reply fs fs' = KeepsNames fs fs' × MayResizeSome fs fs' × IsOpened reply (λ f. Unit {0}) (Unit {0})
-Performs (acts.Link path to) reply fs fs' = IsDone reply (LinksAt path to fs fs') (Leaves fs fs')
-Performs (acts.Unlink path) reply fs fs' = IsDone reply (FreesAt path fs fs') (Leaves fs fs')
-Performs (acts.Move path to how) reply fs fs' = IsDone reply (RenamesPath how path to fs fs') (Leaves fs fs')
-Performs (acts.MakeDirectory path) reply fs fs' = IsDone reply (MakesDirectoryAt path fs fs') (Leaves fs fs')
-Performs (acts.RemoveDirectory path) reply fs fs' = IsDone reply (FreesAt path fs fs') (Leaves fs fs')
-Performs (acts.ListNames path) reply fs fs' = (fs' ≡ fs) × IsNames reply (λ found. Lists (names_of fs) path found) (Unit {0})
-Performs (acts.SyncDirectory path) reply fs fs' = MaySettle fs fs' × IsDone reply (syncs_of fs ≡ Honest → SyncsPath path fs fs') (Unit {0})
-Performs (acts.Find path) reply fs fs' = (fs' ≡ fs) × IsBinding reply (λ to. IsBound (names_of fs) path to) (Unit {0})
-Performs (acts.CreateAt d name) reply fs fs' = KeepsFixed fs fs' × IsOpened reply (λ f. Binds d name (file (fresh_inode fs)) fs fs') (Leaves fs fs')
-Performs (acts.MakeDirectoryAt d name) reply fs fs' =
+-- what a call with this reply does to names, edits, fixed bytes and descriptors
+abbrev pub Effect : {R : Type 0} → Act → Reply → FileSystem R → FileSystem R → Type 0
+Effect (acts.Create path) reply fs fs' = IsOpened reply (λ f. CreatesAt path fs fs') (Leaves fs fs')
+Effect (acts.Open path) reply fs fs' = KeepsEdits fs fs' × IsOpened reply (λ f. OpensPath path fs f fs') (Unit {0})
+Effect (acts.OpenTruncated path) reply fs fs' = KeepsNames fs fs' × MayResizeSome fs fs' × IsOpened reply (λ f. Unit {0}) (Unit {0})
+Effect (acts.Link path to) reply fs fs' = IsDone reply (LinksAt path to fs fs') (Leaves fs fs')
+Effect (acts.Unlink path) reply fs fs' = IsDone reply (FreesAt path fs fs') (Leaves fs fs')
+Effect (acts.Move path to how) reply fs fs' = IsDone reply (RenamesPath how path to fs fs') (Leaves fs fs')
+Effect (acts.MakeDirectory path) reply fs fs' = IsDone reply (MakesDirectoryAt path fs fs') (Leaves fs fs')
+Effect (acts.RemoveDirectory path) reply fs fs' = IsDone reply (FreesAt path fs fs') (Leaves fs fs')
+Effect (acts.ListNames path) reply fs fs' = (fs' ≡ fs) × IsNames reply (λ found. Lists (names_of fs) path found) (Unit {0})
+Effect (acts.SyncDirectory path) reply fs fs' = MaySettle fs fs' × IsDone reply (syncs_of fs ≡ Honest → SyncsPath path fs fs') (Unit {0})
+Effect (acts.Find path) reply fs fs' = (fs' ≡ fs) × IsBinding reply (λ to. IsBound (names_of fs) path to) (Unit {0})
+Effect (acts.CreateAt d name) reply fs fs' = KeepsFixed fs fs' × IsOpened reply (λ f. Binds d name (file (fresh_inode fs)) fs fs') (Leaves fs fs')
+Effect (acts.MakeDirectoryAt d name) reply fs fs' =
     KeepsFixed fs fs' × IsInode reply (λ inode. (inode ≡ fresh_inode fs) × Binds d name (directory_at inode) fs fs') (Leaves fs fs')
-Performs (acts.LinkAt inode d name) reply fs fs' = KeepsFixed fs fs' × IsDone reply (Binds d name (file inode) fs fs') (Leaves fs fs')
-Performs (acts.UnlinkAt d name) reply fs fs' = KeepsFixed fs fs' × IsDone reply (Makes (frees d name) fs fs') (Leaves fs fs')
-Performs (acts.RemoveDirectoryAt d name) reply fs fs' = KeepsFixed fs fs' × IsDone reply (Makes (frees d name) fs fs') (Leaves fs fs')
-Performs (acts.MoveAt from old to new how) reply fs fs' = KeepsFixed fs fs' × IsDone reply (RenamesAt how from old to new fs fs') (Leaves fs fs')
-Performs (acts.ListAt d) reply fs fs' =
+Effect (acts.LinkAt inode d name) reply fs fs' = KeepsFixed fs fs' × IsDone reply (Binds d name (file inode) fs fs') (Leaves fs fs')
+Effect (acts.UnlinkAt d name) reply fs fs' = KeepsFixed fs fs' × IsDone reply (Makes (frees d name) fs fs') (Leaves fs fs')
+Effect (acts.RemoveDirectoryAt d name) reply fs fs' = KeepsFixed fs fs' × IsDone reply (Makes (frees d name) fs fs') (Leaves fs fs')
+Effect (acts.MoveAt from old to new how) reply fs fs' = KeepsFixed fs fs' × IsDone reply (RenamesAt how from old to new fs fs') (Leaves fs fs')
+Effect (acts.ListAt d) reply fs fs' =
     (fs' ≡ fs) × IsNames reply (λ found. HasOnly (names_of fs) d found × HasAll (names_of fs) d found) (Unit {0})
-Performs (acts.SyncDirectoryAt d) reply fs fs' =
+Effect (acts.SyncDirectoryAt d) reply fs fs' =
     MaySettle fs fs' × KeepsFixed fs fs' × IsDone reply (syncs_of fs ≡ Honest → SyncsDirectory fs d fs') (Unit {0})
-Performs (acts.FindAt d name) reply fs fs' = (fs' ≡ fs) × IsBinding reply (λ to. names_of fs (entry d name) ≡ Some to) (Unit {0})
-Performs (acts.OpenInode inode) reply fs fs' = KeepsAll fs fs' × IsOpened reply (λ f. inode_opened fs' f ≡ Some inode) (Unit {0})
-Performs (acts.OpenInodeTruncated inode) reply fs fs' =
+Effect (acts.FindAt d name) reply fs fs' = (fs' ≡ fs) × IsBinding reply (λ to. names_of fs (entry d name) ≡ Some to) (Unit {0})
+Effect (acts.OpenInode inode) reply fs fs' = KeepsAll fs fs' × IsOpened reply (λ f. inode_opened fs' f ≡ Some inode) (Unit {0})
+Effect (acts.OpenInodeTruncated inode) reply fs fs' =
     KeepsNames fs fs' × MayResize inode fs fs' × KeepsFixedBut inode fs fs' × IsOpened reply (λ f. Unit {0}) (Unit {0})
-Performs (acts.Close f) reply fs fs' = KeepsAll fs fs' × IsDone reply (Unit {0}) (Unit {0})
-Performs (acts.Truncate f length) reply fs fs' =
+Effect (acts.Close f) reply fs fs' = KeepsAll fs fs' × IsDone reply (IsSome (inode_opened fs f)) (Unit {0})
+Effect (acts.Truncate f length) reply fs fs' =
     KeepsNames fs fs' × MayTruncate f fs fs' × KeepsSpared f (λ at. at < length) fs fs'
     × IsDone reply (NotesTruncation f length fs fs' × HasSize fs' f length) (Unit {0})
-Performs (acts.Size f) reply fs fs' = (fs' ≡ fs) × IsSize reply (λ size. HasSize fs f size) (Unit {0})
-Performs (acts.Sync f) reply fs fs' =
+Effect (acts.Size f) reply fs fs' = (fs' ≡ fs) × IsSize reply (λ size. HasSize fs f size) (Unit {0})
+Effect (acts.Sync f) reply fs fs' =
     MaySettle fs fs' × KeepsFixed fs fs' × IsDone reply (syncs_of fs ≡ Honest → SyncsFile fs f fs' × FixesFile fs f fs') (Unit {0})
-Performs (acts.SyncData f) reply fs fs' =
+Effect (acts.SyncData f) reply fs fs' =
     MaySettle fs fs' × KeepsFixed fs fs' × IsDone reply (syncs_of fs ≡ Honest → SyncsFile fs f fs' × FixesFile fs f fs') (Unit {0})
-Performs (acts.InodeOf f) reply fs fs' = (fs' ≡ fs) × IsInode reply (λ inode. inode_opened fs f ≡ Some inode) (Unit {0})
-Performs (acts.Read f offset len) reply fs fs' = KeepsAll fs fs' × IsSize reply (λ n. Unit {0}) (Unit {0})
-Performs (acts.Write f offset bytes) reply fs fs' =
+Effect (acts.InodeOf f) reply fs fs' = (fs' ≡ fs) × IsInode reply (λ inode. inode_opened fs f ≡ Some inode) (Unit {0})
+Effect (acts.Read f offset len) reply fs fs' = KeepsAll fs fs' × IsSize reply (λ n. IsSome (inode_opened fs f) × (n ≤ len)) (Unit {0})
+Effect (acts.Write f offset bytes) reply fs fs' =
     KeepsEdits fs fs' × KeepsSpared f (IsBeside offset (length bytes)) fs fs'
     × IsDone reply (failed_write_of fs ≡ ByMode → RecordsWrite f offset bytes fs fs') (Unit {0})
-Performs acts.SyncAll reply fs fs' =
+Effect acts.SyncAll reply fs fs' =
     MaySettle fs fs' × KeepsFixed fs fs' × IsDone reply (syncs_of fs ≡ Honest → SyncsAll fs fs' × FixesAll fs fs') (Unit {0})
-Performs acts.Settle reply fs fs' = MaySettle fs fs' × KeepsFixed fs fs' × IsDone reply (SyncsAll fs fs' × FixesAll fs fs') (Unit {0})
-Performs acts.Commit reply fs fs' = SameNames fs fs' × KeepsFixed fs fs' × IsDone reply (Commits fs fs') (SettlesSome fs fs')
-Performs acts.Crash reply fs fs' = IsCrashed reply (λ crash. Crashes crash fs fs') (λ error. FailsToCrash error fs fs')
-Performs acts.Tree reply fs fs' = KeepsEdits fs fs' × IsTree reply
+Effect acts.Settle reply fs fs' = MaySettle fs fs' × KeepsFixed fs fs' × IsDone reply (SyncsAll fs fs' × FixesAll fs fs') (Unit {0})
+Effect acts.Commit reply fs fs' = SameNames fs fs' × KeepsFixed fs fs' × IsDone reply (Commits fs fs') (SettlesSome fs fs')
+Effect acts.Crash reply fs fs' = IsCrashed reply (λ crash. Crashes crash fs fs') (λ error. FailsToCrash error fs fs')
+Effect acts.Tree reply fs fs' = KeepsEdits fs fs' × IsTree reply
+
+-- a call with this reply, by what the file system was before and is after it; the options stay
+pub record Performs {R : Type 0} (act : Act) (reply : Reply) (fs fs' : FileSystem R) : Type 0 where
+  pub options : KeepsOptions fs fs'
+  pub effect : Effect act reply fs fs'
 
 -- The reply that a result of the code becomes.
 

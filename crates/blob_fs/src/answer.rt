@@ -1,6 +1,7 @@
 //! Any call, and its reply.
+ghost use Rattle.std.specs.Prelude.{◌≤◌, IfOk, IsSome, OnOk};
 ghost use Rattle.blob_fs.specs.Acts.{act_of, look_act, number_act, path_act};
-ghost use Rattle.blob_fs.specs.Files.{KeepsNames, KeepsTold};
+ghost use Rattle.blob_fs.specs.Files.{KeepsNames, KeepsOptions, KeepsTold, inode_opened};
 ghost use Rattle.blob_fs.specs.Fixed.{KeepsFixed};
 ghost use Rattle.blob_fs.specs.Performs.{Performs, RepliesFound};
 
@@ -50,6 +51,9 @@ fn read_some<R: Rng + Drop>(
     ensures names { KeepsNames fs.old fs.new }
     ensures told { KeepsTold fs.old fs.new }
     ensures fixed { KeepsFixed fs.old fs.new }
+    ensures options { KeepsOptions fs.old fs.new }
+    ensures open { OnOk result (IsSome (inode_opened fs.old file)) }
+    ensures count { IfOk result (λ n. n ≤ len) }
 {
     let mut bytes = Vec::new(fs.alloc);
     bytes.resize(len, 0)?;

@@ -1,5 +1,5 @@
 //! Open files: their bytes and sizes.
-ghost use Rattle.std.specs.Prelude.{◌≡◌, [], false, length, IfOk, IsSome, None, Some, OnOk};
+ghost use Rattle.std.specs.Prelude.{◌≡◌, ◌≤◌, [], false, length, IfOk, IsSome, None, Some, OnOk};
 ghost use Rattle.blob_fs.specs.declared.switches.FailedWrite.TheVariants.{ByMode};
 ghost use Rattle.blob_fs.specs.Writes.{RecordsWrite, failed_write_of};
 ghost use Rattle.blob_fs.specs.Fixed.{KeepsFixed, KeepsFixedBut, KeepsSpared};
@@ -281,6 +281,7 @@ impl<R: Rng + Drop> FileSystem<R> {
         ensures fixed { KeepsFixed self.old self.new }
         ensures options { KeepsOptions self.old self.new }
         ensures open { OnOk result (IsSome (inode_opened self.old file)) }
+        ensures count { IfOk result (λ n. n ≤ length buf.old) }
     {
         self.begin_call()?;
         let inode = self.inode_of(file)?;

@@ -5,7 +5,7 @@ ghost use Rattle.blob_directory.specs.Paths.{IsPlace, LeadsTo};
 ghost use Rattle.blob_fs.specs.declared.switches.Syncs.TheVariants.{Honest};
 ghost use Rattle.blob_fs.specs.Calls.{Leaves};
 ghost use Rattle.blob_fs.specs.Files.{KeepsNames, KeepsOptions, KeepsTold, MayResizeSome, SettlesSome, names_of, syncs_of};
-ghost use Rattle.blob_fs.specs.Paths.{CreatesAt, FreesAt, IsBound, LinksAt, Lists, MakesDirectoryAt, RenamesPath, SyncsPath};
+ghost use Rattle.blob_fs.specs.Paths.{CreatesAt, FreesAt, IsBound, LinksAt, Lists, MakesDirectoryAt, OpensPath, RenamesPath, SyncsPath};
 
 use crate::error::FsError;
 use crate::file_system::{Descriptor, FileSystem, ROOT};
@@ -83,6 +83,7 @@ impl<R: Rng + Drop> FileSystem<R> {
 
     /// Opens a file that is there. The errors are those of `directory_of` and of `open_inode`.
     pub fn open(&mut self, path: &[u8]) -> Result<Descriptor, FsError>
+        ensures opened { IfOk result (λ f. OpensPath path.now self.old f self.new) }
         ensures names { KeepsNames self.old self.new }
         ensures told { KeepsTold self.old self.new }
         ensures options { KeepsOptions self.old self.new }
