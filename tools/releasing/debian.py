@@ -112,15 +112,16 @@ def development_package(tree, version, library, folder):
     return package
 
 
-def program_package(kit, tree, folder):
+def program_package(kit, tree, version, library, folder):
     """Makes the package of the programs, out of what the other packages have left."""
     page = tree / "share/man/man1/blobcrash.1"
     page.with_name("blobcrash.1.gz").write_bytes(gzipped(page.read_text(encoding="utf-8")))
     page.unlink()
+    (tree / "share/zsh/site-functions").rename(tree / "share/zsh/vendor-completions")
     # Debian has the licence already.
     (tree / "share/doc/blobcrash/LICENSE").unlink()
     needs = "libc6 (>= {}.{})".format(*glibc_of(kit, *binaries(tree))[:2])
-    fields = {"Section": "devel", "Depends": f"{needs}, python3:any (>= 3.8)", "Recommends": "fuse3",
+    fields = {"Section": "devel", "Depends": f"{library} (= {version}), {needs}, python3:any (>= 3.8)", "Recommends": "fuse3",
               "Description": SUMMARY}
     about = "This package has the programs, which run scripts, and a mount for any program."
     package = Package("blobcrash", about, fields, folder / "blobcrash")
@@ -132,7 +133,7 @@ def write_packages(kit, tree, version, soname, commit, work, folder):
     """Writes the packages of a tree, which they take apart."""
     move_libraries(tree)
     library = library_package(kit, tree, version, soname, work)
-    for package in (library, development_package(tree, version, library.name, work), program_package(kit, tree, work)):
+    for package in (library, development_package(tree, version, library.name, work), program_package(kit, tree, version, library.name, work)):
         package.document(version, commit)
         package.write_control(version, commit.author)
         set_modes(package.folder)

@@ -13,13 +13,13 @@ from .states_command import states_command
 
 _COMMANDS = {"check": check_command, "judge": judge_command, "shrink": shrink_command, "states": states_command}
 # Those that have a usage of their own.
-_OWN = (shrink_command, states_command)
+_OWN = (check_command, shrink_command, states_command)
 USAGE = "usage: python -m blobcrash [check|judge] [FILE], or shrink SCRIPT [COMMAND ..], or states [options] SCRIPT -- CHECK .."
 HELP = f"""{USAGE}
 
 Runs a script, from a file or from standard input, and prints its replies.
 
-  check   prints which lines aren't calls, and why
+  check   prints which lines aren't calls, and why; with --files of a script of files, with --explored of one for `explore`
   judge   prints what acknowledged content the script loses
   shrink  prints a short script that still fails: COMMAND ends with a status other than 0, or `judge` finds a loss
   states  runs CHECK on each state in which a crash could have left the run; `states --help` has the options
@@ -30,7 +30,7 @@ docs/GUIDE.md has more, docs/FORMATS.md the lines and the replies.
 
 def main(arguments: list) -> int:
     command = _COMMANDS.get(arguments[0]) if arguments else None
-    is_help = command is not states_command and arguments[0 if command is None else 1 :] == ["--help"]
+    is_help = command is not states_command and arguments[0 if command is None else 1 :] in (["--help"], ["-h"])
     if command not in _OWN and len(arguments) > (1 if command is None else 2):
         print(USAGE, file=sys.stderr)
         return 2
