@@ -67,6 +67,7 @@ from .judging import acknowledgement, judge
 from .layers import Library, Program, Reply, explain, program, run
 from .open_file import OpenFile
 from .power import PowerLoss
+from .progress import counted
 from .seeding import Seeded, SeededFiles, SeededStore, seeds
 from .shrinking import shrink
 from .spread import LostWork
@@ -131,6 +132,7 @@ __all__ = [
     "WrongThread",
     "acknowledgement",
     "check",
+    "counted",
     "cut",
     "cut_lines",
     "explain",

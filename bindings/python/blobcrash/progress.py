@@ -4,7 +4,8 @@ from __future__ import annotations
 
 import sys
 import time
-from typing import Any, Callable, Iterable, Iterator, Optional
+from contextlib import contextmanager
+from typing import Any, Callable, Iterable, Iterator, List, Optional
 
 # After how many seconds the line is first shown, and again.
 _FIRST, _EVERY = 1.0, 0.2
@@ -45,20 +46,61 @@ class Progress:
         _write(f"{self._name}: {text}\n")
 
 
-def counted(items: Iterable[Any], count: int, name: str, of: str = "seeds") -> Iterator[Any]:
-    """Yields the items, and shows how many of them were taken. After Ctrl-C it says how many that were."""
+def counted(items: Iterable[Any], count: int, name: str) -> Iterator[Any]:
+    """Yields the items of long work, of which there are `count`. If standard error is a terminal, it shows there how many were taken."""
     progress = Progress(name)
-    done = 0
     try:
-        for item in items:
+        for done, item in enumerate(items):
+            progress.show(lambda: f"{done} of {count}")
             yield item
-            done += 1
-            progress.show(lambda: f"{done} of {count} {of}")
-    except KeyboardInterrupt:
-        progress.tell(f"interrupted after {done} of {count} {of}, {progress.seconds} s")
+    finally:
+        progress.clear()
+
+
+@contextmanager
+def interrupted_exploration(explored: Callable[..., Any]) -> Iterator[Progress]:
+    """Gives the progress of an exploration. After Ctrl-C it prints what was visited, and how to go on."""
+    progress = Progress("explore")
+    try:
+        yield progress
+    except KeyboardInterrupt as error:
+        part = getattr(error, "part", None)
+        if part is not None:
+            error.explored = explored(part.runs, part.outcomes, tuple(part.rest), part.met)  # type: ignore[attr-defined]
+            paths = "".join(f"    {path!r},\n" for path in part.rest)
+            done = f"interrupted after {plural(part.runs, 'run')}, {progress.seconds} s; none failed"
+            progress.tell(f"{done}. To go on: explore(.., under=[\n{paths}])")
         raise
     finally:
         progress.clear()
+
+
+@contextmanager
+def interrupted_seeds() -> Iterator[Progress]:
+    """The same for seeds, of which a `KeyboardInterrupt` has the number as `made` and the others as `rest`."""
+    progress = Progress("seeds")
+    try:
+        yield progress
+    except KeyboardInterrupt as error:
+        rest: Optional[List[int]] = getattr(error, "rest", None)
+        if rest is not None:
+            done = f"interrupted after {plural(error.made, 'seed')}, {progress.seconds} s; none failed"  # type: ignore[attr-defined]
+            progress.tell(f"{done}. To go on: seeds(.., {_as_list(rest)})")
+        raise
+    finally:
+        progress.clear()
+
+
+def _as_list(numbers: List[int]) -> str:
+    """Ascending numbers as Python's list of them, runs as ranges."""
+    runs: List[List[int]] = []
+    for number in numbers:
+        if runs and runs[-1][1] == number:
+            runs[-1][1] = number + 1
+        else:
+            runs.append([number, number + 1])
+    texts = [str(first) if end == first + 1 else f"*range({first}, {end})" for first, end in runs]
+    return texts[0][1:] if len(texts) == 1 and texts[0].startswith("*") else f"[{', '.join(texts)}]"
 
 
 def plural(count: int, noun: str) -> str:

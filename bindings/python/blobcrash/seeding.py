@@ -15,6 +15,7 @@ from .file_settings import files_of
 from .file_system import Files
 from .grammar import number, number_of_branches
 from .power import PowerLoss
+from .progress import Progress, interrupted_seeds
 from .store import Store
 
 # How many seeds a task has at most.
@@ -101,6 +102,8 @@ def seeds(
     Raises `Failed`, with a script, if the body raises: for the first such seed, or by an executor for one of them. `report` is a file
     for a page that shows it. `NoRuns` if the time is over before a run has ended, `ValueError` for no seeds. `TypeError` for a body that
     hasn't run when it returns: a generator or a coroutine.
+
+    If standard error is a terminal, it shows there how many seeds are done. After Ctrl-C it prints that, and which are left.
     """
     check_body(body)
     for name in ("seed", "words", "pushed"):
@@ -120,10 +123,11 @@ def seeds(
     show = reporter(report, profile is not None)
     runs = _Runs(body, arguments, profile)
     try:
-        if executor is None:
-            made = Seeded(*_visit(runs, every, 0, until, max(until, now + FIRST_RUN)))
-        else:
-            made = Seeded(*_visit_with(executor, runs, every, until))
+        with interrupted_seeds() as progress:
+            if executor is None:
+                made = Seeded(*_visit(runs, every, 0, until, max(until, now + FIRST_RUN), progress))
+            else:
+                made = Seeded(*_visit_with(executor, runs, every, until, progress))
     except Failed as failed:
         show(failed)
         raise
@@ -132,24 +136,38 @@ def seeds(
     return made
 
 
-def _visit(runs: _Runs, every: List[int], before: int, until: float, first_until: float) -> Tuple[int, Tuple[int, ...]]:
+def _visit(
+    runs: _Runs, every: List[int], before: int, until: float, first_until: float, progress: Optional[Progress] = None
+) -> Tuple[int, Tuple[int, ...]]:
     """Makes the run of each seed until it is too late, for the first one `first_until`. `before` is how many runs there were."""
-    for at, seed in enumerate(every):
-        if at and time.monotonic() >= until:
-            return at, tuple(every[at:])
-        with _store(runs, seed, until if at else first_until) as store:
-            try:
-                result = runs.body(store)
-            except RunEnded:
-                result = None
-            except (Exception, PowerLoss) as error:
-                if not _is_late(store):
-                    raise Failed(f"seed {seed}", store.script, reason_of(error), before + at + 1) from error
-                result = None
-            if _is_late(store):
+    at = 0
+    try:
+        for at, seed in enumerate(every):
+            if progress is not None:
+                progress.show(lambda: f"{at} of {len(every)}")
+            if (at and time.monotonic() >= until) or not _is_made(runs, seed, before + at, until if at else first_until):
                 return at, tuple(every[at:])
-            check_result(result)
+    except KeyboardInterrupt as error:
+        error.made, error.rest = at, every[at:]  # type: ignore[attr-defined]
+        raise
     return len(every), ()
+
+
+def _is_made(runs: _Runs, seed: int, before: int, until: float) -> bool:
+    """Makes the run of a seed. Returns whether it ended in time."""
+    with _store(runs, seed, until) as store:
+        try:
+            result = runs.body(store)
+        except RunEnded:
+            result = None
+        except (Exception, PowerLoss) as error:
+            if not _is_late(store):
+                raise Failed(f"seed {seed}", store.script, reason_of(error), before + 1) from error
+            result = None
+        if _is_late(store):
+            return False
+        check_result(result)
+    return True
 
 
 def _store(runs: _Runs, seed: int, until: float) -> Any:
@@ -163,23 +181,28 @@ def _is_late(store: Any) -> bool:
     return isinstance(store, _Timed) and store._bounds.is_late
 
 
-def _visit_with(executor: Any, runs: _Runs, every: List[int], until: float) -> Tuple[int, Tuple[int, ...]]:
+def _visit_with(executor: Any, runs: _Runs, every: List[int], until: float, progress: Progress) -> Tuple[int, Tuple[int, ...]]:
     """Makes the runs by workers."""
     from .spread import Spread
 
     spread = Spread(executor)
     chunk = min(_CHUNK, max(1, len(every) // (4 * spread.workers)))
     done, at, rest = 0, 0, []
-    while at < len(every) or len(spread):
-        while at < len(every) and len(spread) < 2 * spread.workers and time.monotonic() < until:
-            part = every[at : at + chunk]
-            spread.submit(part, _visit_for, runs, part, at, max(0.0, until - time.monotonic()))
-            at += len(part)
-        if not len(spread):
-            break
-        for made, left in spread.done():
-            done += made
-            rest += left
+    try:
+        while at < len(every) or len(spread):
+            while at < len(every) and len(spread) < 2 * spread.workers and time.monotonic() < until:
+                part = every[at : at + chunk]
+                spread.submit(part, _visit_for, runs, part, at, max(0.0, until - time.monotonic()))
+                at += len(part)
+            if not len(spread):
+                break
+            for made, left in spread.done():
+                done += made
+                rest += left
+            progress.show(lambda: f"{done} of {len(every)}")
+    except KeyboardInterrupt as error:
+        error.made, error.rest = done, sorted([*rest, *spread.under_way(), *every[at:]])  # type: ignore[attr-defined]
+        raise
     rest += every[at:]
     spread.check(rest)
     return done, tuple(sorted(rest))
