@@ -35,8 +35,9 @@ def show(seed, reason, script):
 
 
 def leave_interrupts():
-    """Leaves Ctrl-C to the first process, which ends the others."""
+    """Leaves Ctrl-C to the first process, which ends the others. They end their programs."""
     signal.signal(signal.SIGINT, signal.SIG_IGN)
+    signal.signal(signal.SIGTERM, lambda *_: sys.exit())
 
 
 def main(arguments):

@@ -131,6 +131,14 @@ search() {
     esac
 }
 
+# is_at_start FD: whether a file is read from its start.
+is_at_start() {
+    while read -r key value; do
+        [ "$key" != pos: ] || [ "$value" != 0 ] || return 0
+    done <"/proc/$$/fdinfo/$1"
+    return 1
+} 2>/dev/null
+
 # tell_why KIND PROGRAM [WORD ..]: becomes the program. If its script is a file, it isn't replaced, so that after a bad line a line more says
 # why it is bad. KIND are the options of tools/check for the script.
 tell_why() {
@@ -138,14 +146,14 @@ tell_why() {
     shift
     if [ ! -f /dev/stdin ] || ! command -v python3 >/dev/null; then exec "$@"; fi
     exec 3<&0
-    "$@" <&3 3<&- &
-    runs_for=$!
+    if ! is_at_start 3; then exec "$@" 3<&-; fi
     for signal in HUP:129 INT:130 TERM:143; do
         # shellcheck disable=SC2064
-        trap "kill $runs_for 2>/dev/null; wait $runs_for 2>/dev/null; exit ${signal#*:}" "${signal%:*}"
+        trap "kill \${!:-} 2>/dev/null; wait 2>/dev/null || true; exit ${signal#*:}" "${signal%:*}"
     done
+    "$@" <&3 3<&- &
     status=0
-    wait "$runs_for" || status=$?
+    wait "$!" || status=$?
     trap - HUP INT TERM
     if [ "$status" -eq 2 ]; then
         # shellcheck disable=SC2086

@@ -261,7 +261,7 @@ def main(words, executor=None):
             totals.run(own or executor, at_once)
     except (Broken, Failed) as error:
         print(f"crash_run: {error}", file=sys.stderr)
-        return 3 if "docker run" in str(error) else 2
+        return 3 if "docker run" in str(error) or "fusermount3" in str(error) else 2
     except KeyboardInterrupt:
         done = sum(totals.counts.values())
         totals.progress.tell(f"interrupted after {totals}. To go on: --first {options.first + done} --seeds {options.seeds - done}")

@@ -31,8 +31,9 @@ docs/GUIDE.md has more, docs/FORMATS.md the lines and the replies.
 def main(arguments: list) -> int:
     command = _COMMANDS.get(arguments[0]) if arguments else None
     is_help = command is not states_command and arguments[0 if command is None else 1 :] in (["--help"], ["-h"])
-    if command not in _OWN and len(arguments) > (1 if command is None else 2):
-        print(USAGE, file=sys.stderr)
+    most = 1 if command is None else 2
+    if command not in _OWN and len(arguments) > most:
+        print(f"`{arguments[most]}` is an argument too many\n{USAGE}", file=sys.stderr)
         return 2
     try:
         if is_help:

@@ -73,6 +73,10 @@ class _Checks:
         folder = os.path.join(self._work, str(self._count))
         self._under_way[self._executor.submit(self._checked, state, folder)] = state
 
+    def first_line(self, line: int) -> int:
+        """The least line of a crash of which a check is under way, or this one."""
+        return min([line, *(state.line for state in self._under_way.values())])
+
     def end(self) -> None:
         """Waits for all checks."""
         self._take(wait(self._under_way).done)
@@ -149,7 +153,7 @@ def _run(script: str, options: argparse.Namespace, command: List[str]) -> int:
             checks.end()
         except KeyboardInterrupt:
             counts = f"crash {states.crashes} of {states.places}, {states.states} states, {checks.failures} fail"
-            progress.tell(f"interrupted after {progress.seconds} s: {counts}. To go on: --since {states.line}")
+            progress.tell(f"interrupted after {progress.seconds} s: {counts}. To go on: --since {checks.first_line(states.line)}")
             return 130
     progress.clear()
     if options.json:
