@@ -1,4 +1,4 @@
-"""Searches of `blobcrash` on a terminal and in a pipe: what they show, what is left of them after Ctrl-C, and their JSON, worked out by hand. The
+"""Searches of `blobcrash` on a terminal and in a pipe: what they show, what they print after Ctrl-C, and their JSON, worked out by hand. The
 last line is `N passed, M failed`."""
 
 import json
@@ -30,7 +30,7 @@ def check(name, is_right, shown=""):
 
 
 def wide(count):
-    """A script of which each of so many bytes is kept or lost: 2^count leaves."""
+    """A script in which each of `count` bytes is kept or lost: 2^count leaves."""
     return f"config write 0 1 1 2 subset\nopen p 62\nwrite 0 0 {'61' * count}\ncrash\nopen p 62\nsize 1\n"
 
 
@@ -92,11 +92,12 @@ def test_terminal(work):
     """It shows what was visited and removes that. It prints what it prints in a pipe."""
     wanted = piped(["explore", "--last"], wide(19)).stdout
     ran = on_terminal([BLOBCRASH, "explore", "--last"], work, written(work, wide(19)))
-    check("explore shows how far it is", re.search(r"\rexplore: at most \d+ leaves in this run, 100000 leaves, 1 outcome in the last one, \d+ s", ran.shown),
-          ran.shown[-300:])
+    check("explore shows how far it is", re.search(r"\rexplore: 100000 leaves, 1 outcome; now up to 1000000, \d+ s", ran.shown), ran.shown[-300:])
     check("and removes that", ran.status == 0 and ran.out == wanted and [line for line in ran.last if line] == [], (ran.status, ran.last))
     ran = on_terminal([BLOBCRASH, "explore", "--last"], work, written(work, PREFIX))
     check("a short run shows nothing", (ran.status, ran.shown) == (0, ""), ran.shown)
+    ran = on_terminal([BLOBCRASH, "explore", "--last"], work, written(work, wide(19)), kind="dumb")
+    check("a terminal that removes nothing", (ran.status, ran.shown) == (0, ""), ran.shown)
     for words in (["explore"], ["states"], ["files", "explore"], ["files"], ["explain"], []):
         ran = on_terminal([BLOBCRASH, *words], work, written(work, "wirte 0 0 61\n"))
         why = "blobcrash: line 1: `wirte`: no such call; did you mean `write`?"
@@ -106,13 +107,13 @@ def test_terminal(work):
 def test_ctrl_c(work):
     """After Ctrl-C the search prints the outcomes of the leaves that it counted, which are those with that limit."""
     place = written(work, wide(30))
-    ran = on_terminal([BLOBCRASH, "explore", "--last", "--limit", "1000000000"], work, place, until="100000 leaves")
+    ran = on_terminal([BLOBCRASH, "explore", "--last", "--limit", "1000000000"], work, place, until="100000 leaves, 1 outcome; now")
     found = re.search(r"explore: interrupted after \d+ s and (\d+) leaves, (\d+) outcomes?, as printed", ran.shown)
     check("explore: the counts", ran.status == 130 and found, (ran.status, ran.shown[-300:]))
     if found:
         wanted = piped(["explore", "--last", "--limit", found[1]], wide(30)).stdout
         check("explore: what is printed", ran.out == wanted and int(found[1]) >= 100000, ran.out[-200:])
-    ran = on_terminal([BLOBCRASH, "states", "--at", "3"], work, place, until=" in the last one")
+    ran = on_terminal([BLOBCRASH, "states", "--at", "3"], work, place, until="; now up to ")
     check("states: the counts", ran.status == 130 and re.search(r"states: interrupted after \d+ s and 1 crash, \d+ outcomes, \d+ states, as printed", ran.shown),
           (ran.status, ran.shown[-300:]))
     left = subprocess.run(["pgrep", "-f", "blobcrash_explore --last --limit 1000000000"], stdout=subprocess.PIPE, check=False)

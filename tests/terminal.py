@@ -19,22 +19,21 @@ class Ended:
         return [line.rpartition("\r")[2].replace("\x1b[K", "") for line in self.shown.replace("\r\n", "\n").split("\n") if line]
 
 
-def on_terminal(words, work, given=os.devnull, ctrl_c_after=None, until=None):
-    """Runs a command whose standard error is a terminal. Ctrl-C comes after so many seconds, or when the terminal shows the text `until`."""
+def on_terminal(words, work, given=os.devnull, until=None, kind="xterm"):
+    """Runs a command with a terminal as its standard error. Ctrl-C comes when the terminal shows the text `until`."""
     place = os.path.join(work, "stdout")
     child, terminal = pty.fork()
     if child == 0:
         os.dup2(os.open(given, os.O_RDONLY), 0)
         os.dup2(os.open(place, os.O_WRONLY | os.O_CREAT | os.O_TRUNC, 0o600), 1)
+        os.environ["TERM"] = kind
         os.execvp(words[0], words)
     began, shown, is_sent = time.monotonic(), b"", False
     while True:
-        passed = time.monotonic() - began
-        is_due = (ctrl_c_after is not None and passed > ctrl_c_after) or (until is not None and until.encode() in shown)
-        if is_due and not is_sent:
+        if until is not None and until.encode() in shown and not is_sent:
             os.write(terminal, b"\x03")
             is_sent = True
-        if passed > 120:
+        if time.monotonic() - began > 120:
             os.kill(child, signal.SIGKILL)
         try:
             data = os.read(terminal, 65536) if select.select([terminal], [], [], 0.05)[0] else None

@@ -1,5 +1,5 @@
-# shellcheck shell=sh disable=SC2154
-# Sourced by ./blobcrash and by the launcher of a release: the commands of `blobcrash`, by the table commands.txt beside this file. The
+# shellcheck shell=sh disable=SC2016,SC2154
+# Sourced by ./blobcrash and by the launcher of a release: the commands of `blobcrash`, by the table commands.txt in this folder. The
 # launcher sets `own` to the name by which its messages call it, `tools` to the folder of this file and `leaves_out` to a command that its
 # help doesn't list. It has these functions:
 #
@@ -67,8 +67,7 @@ is_number() {
     case $1 in '' | *[!0-9]*) return 1 ;; esac
     digits=$(printf %s "$1" | sed 's/^0*//')
     case ${#digits} in
-    ? | 1?) ;;
-    0) ;;
+    ?|1?) ;;
     20) [ "$(printf '%s\n' "$digits" 18446744073709551615 | LC_ALL=C sort | head -n 1)" = "$digits" ] ;;
     *) return 1 ;;
     esac
@@ -86,7 +85,8 @@ check_options() {
     given=' '
     while [ $# -gt 0 ]; do
         row=$(echo "$rows" | grep -m 1 -e "^$(echo "$1" | sed 's/[^a-zA-Z-]/./g')\( \|\$\)" || true)
-        [ -n "$row" ] && [ "${row%% *}" = "$1" ] || refuse "$(echo "$rows" | no_such "\`$of_command\` has no option" "$1")" "$of_usage"
+        if [ -z "$1" ] || [ "${row%% *}" != "$1" ]; then row=; fi
+        [ -n "$row" ] || refuse "$(echo "$rows" | no_such "\`$of_command\` has no option" "$1")" "$of_usage"
         case $given in *" $1 "*) refuse "\`$1\` is given twice" "$of_usage" ;; esac
         given="$given$1 "
         [ "$1" != --json ] || is_json=true

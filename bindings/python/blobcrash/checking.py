@@ -41,7 +41,7 @@ def check(script: Union[str, bytes], *, files: bool = False, explored: bool = Fa
 
 
 def _misplaced(word: str, has_calls: bool, has_seed: bool, explored: bool) -> Optional[str]:
-    """Why a preamble line can't be where it is."""
+    """Why a preamble line can't come after the lines before it."""
     if explored and word != "image":
         return f"{shown(word)}: `explore` draws the words itself"
     if has_calls:

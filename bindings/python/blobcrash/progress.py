@@ -2,6 +2,7 @@
 
 from __future__ import annotations
 
+import os
 import sys
 import time
 from contextlib import contextmanager
@@ -31,7 +32,7 @@ class Progress:
         if now >= self._next:
             self._next = now + _EVERY
             self._is_shown = True
-            _write(f"\r{self._name}: {text()}, {self.seconds} s\x1b[K")
+            _write(f"\r{f'{self._name}: {text()}, {self.seconds} s'[: _columns() - 1]}\x1b[K")
 
     def clear(self) -> None:
         """Removes the line."""
@@ -109,10 +110,19 @@ def plural(count: int, noun: str) -> str:
 
 
 def _is_terminal() -> bool:
+    """Whether standard error is a terminal on which a line can be removed."""
     try:
-        return sys.stderr is not None and sys.stderr.isatty()
+        return sys.stderr is not None and sys.stderr.isatty() and os.environ.get("TERM", "dumb") != "dumb"
     except ValueError:
         return False
+
+
+def _columns() -> int:
+    """How wide the terminal is. A longer line would break, and couldn't be removed."""
+    try:
+        return os.get_terminal_size(sys.stderr.fileno()).columns or 80
+    except (OSError, ValueError):
+        return 80
 
 
 def _write(text: str) -> None:

@@ -86,9 +86,8 @@ class _Watched:
                 run.communicate()
 
     def _so_far(self, limit: Optional[int]) -> str:
-        most = f"at most {_LIMIT if limit is None else limit}"
-        of = "" if self._command != "states" else " of each crash"
-        return f"{most} {self._unit()}{of} in this run" + (f", {_counts(self._ran.out)} in the last one" if self._ran else "")
+        done = f"{_counts(self._ran.out)}; now " if self._ran else ""
+        return f"{done}up to {_LIMIT if limit is None else limit}{' of each crash' if self._command == 'states' else ''}"
 
     def _unit(self) -> str:
         return "outcomes" if self._command == "states" else "leaves"
