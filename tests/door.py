@@ -1,6 +1,7 @@
 """Searches of `blobcrash` on a terminal and in a pipe: what they show, what they print after Ctrl-C, and their JSON, worked out by hand. The
 last line is `N passed, M failed`."""
 
+import functools
 import json
 import os
 import re
@@ -11,8 +12,10 @@ import tempfile
 import time
 
 TOP = os.path.dirname(os.path.dirname(os.path.abspath(__file__)))
-sys.path.insert(0, os.path.join(TOP, "bindings", "python"))
+PYTHON = os.path.join(TOP, "bindings", "python")
+sys.path.insert(0, PYTHON)
 
+from mount_calls import check, run_tests
 from terminal import on_terminal
 
 from blobcrash import explore, seeds
@@ -20,18 +23,16 @@ from blobcrash import explore, seeds
 BLOBCRASH = os.path.join(TOP, "blobcrash")
 # Two bytes over nothing, kept up to the first that is lost: three outcomes.
 PREFIX = "config write 0 1 1 2 prefix\nopen p 62\nwrite 0 0 6162\ncrash\nreopen\nopen p 62\nsize 1\n"
-counts = {"passed": 0, "failed": 0}
-
-
-def check(name, is_right, shown=""):
-    counts["passed" if is_right else "failed"] += 1
-    if not is_right:
-        print(f"door.py: {name}: {shown}")
 
 
 def wide(count):
     """A script in which each of `count` bytes is kept or lost: 2^count leaves."""
     return f"config write 0 1 1 2 subset\nopen p 62\nwrite 0 0 {'61' * count}\ncrash\nopen p 62\nsize 1\n"
+
+
+def overwritten(count):
+    """A script in which each of `count` writes of one byte is kept or lost: 2^count leaves, and two states."""
+    return "config write 0 1 1 2 subset\nopen p 62\n" + "write 0 0 61\n" * count
 
 
 def written(work, text):
@@ -83,20 +84,20 @@ def test_json_of_checks(work):
 
 def test_pipe(work):
     """A long run shows nothing in a pipe."""
-    for words in (["explore", "--last"], ["states"]):
-        ran = piped(words, wide(17))
+    for words, script in ((["explore", "--last"], wide(17)), (["states"], overwritten(15))):
+        ran = piped(words, script)
         check(f"{words[0]} in a pipe", ran.returncode == 0 and ran.stderr == "" and "\x1b" not in ran.stdout, (ran.returncode, ran.stderr))
 
 
 def test_terminal(work):
     """It shows what was visited and removes that. It prints what it prints in a pipe."""
-    wanted = piped(["explore", "--last"], wide(19)).stdout
-    ran = on_terminal([BLOBCRASH, "explore", "--last"], work, written(work, wide(19)))
+    wanted = piped(["explore", "--last"], wide(21)).stdout
+    ran = on_terminal([BLOBCRASH, "explore", "--last"], work, written(work, wide(21)))
     check("explore shows how far it is", re.search(r"\rexplore: 100000 leaves, 1 outcome; now up to 1000000, \d+ s", ran.shown), ran.shown[-300:])
     check("and removes that", ran.status == 0 and ran.out == wanted and [line for line in ran.last if line] == [], (ran.status, ran.last))
     ran = on_terminal([BLOBCRASH, "explore", "--last"], work, written(work, PREFIX))
     check("a short run shows nothing", (ran.status, ran.shown) == (0, ""), ran.shown)
-    ran = on_terminal([BLOBCRASH, "explore", "--last"], work, written(work, wide(19)), kind="dumb")
+    ran = on_terminal([BLOBCRASH, "explore", "--last"], work, written(work, wide(17)), kind="dumb")
     check("a terminal that removes nothing", (ran.status, ran.shown) == (0, ""), ran.shown)
     for words in (["explore"], ["states"], ["files", "explore"], ["files"], ["explain"], []):
         ran = on_terminal([BLOBCRASH, *words], work, written(work, "wirte 0 0 61\n"))
@@ -105,18 +106,22 @@ def test_terminal(work):
 
 
 def test_ctrl_c(work):
-    """After Ctrl-C the search prints the outcomes of the leaves that it counted, which are those with that limit."""
-    place = written(work, wide(30))
-    ran = on_terminal([BLOBCRASH, "explore", "--last", "--limit", "1000000000"], work, place, until="100000 leaves, 1 outcome; now")
-    found = re.search(r"explore: interrupted after \d+ s and (\d+) leaves, (\d+) outcomes?, as printed", ran.shown)
-    check("explore: the counts", ran.status == 130 and found, (ran.status, ran.shown[-300:]))
+    """After Ctrl-C a search tells what it counted, which is what it prints with that limit, and prints nothing."""
+    ran = on_terminal([BLOBCRASH, "explore", "--last", "--limit", "1000000000"], work, written(work, wide(30)), until="; now up to ")
+    found = re.search(r"explore: interrupted after \d+ s and (\d+) leaves, (\d+) outcomes?. To go on: --limit (\d+) prints them", ran.shown)
+    check("explore: the counts", ran.status == 130 and ran.out == "" and found and found[1] == found[3], (ran.status, ran.shown[-300:]))
     if found:
-        wanted = piped(["explore", "--last", "--limit", found[1]], wide(30)).stdout
-        check("explore: what is printed", ran.out == wanted and int(found[1]) >= 100000, ran.out[-200:])
-    ran = on_terminal([BLOBCRASH, "states", "--at", "3"], work, place, until="; now up to ")
-    check("states: the counts", ran.status == 130 and re.search(r"states: interrupted after \d+ s and 1 crash, \d+ outcomes, \d+ states, as printed", ran.shown),
-          (ran.status, ran.shown[-300:]))
-    left = subprocess.run(["pgrep", "-f", "blobcrash_explore --last --limit 1000000000"], stdout=subprocess.PIPE, check=False)
+        last = piped(["explore", "--last", "--limit", found[3]], wide(30)).stdout.splitlines()[-1]
+        check("explore: with the limit", re.match(rf"# {found[1]} leaves, not all of them: .*; {found[2]} outcome", last), last)
+    ran = on_terminal([BLOBCRASH, "states", "--at", "32"], work, written(work, overwritten(30)), until="; now up to ")
+    told = re.search(r"states: interrupted after \d+ s and 1 crash, (\d+) outcomes, 2 states. To go on: --limit (\d+) prints them", ran.shown)
+    check("states: the counts", ran.status == 130 and ran.out == "" and told and told[1] == told[2], (ran.status, ran.shown[-300:]))
+    with open(written(work, wide(30)), "rb") as given:
+        run = subprocess.Popen([BLOBCRASH, "explore", "--json", "--limit", "1000000000"], stdin=given, stdout=subprocess.DEVNULL)
+    time.sleep(1)
+    run.kill()
+    run.wait()
+    left = subprocess.run(["pgrep", "-f", "blobcrash_explore .*--limit 1000000000"], stdout=subprocess.PIPE, check=False)
     check("no program is left", left.stdout == b"", left.stdout)
 
 
@@ -152,14 +157,14 @@ def test_python(work):
     """`explore` and `seeds` show their counts. What is left after Ctrl-C and what was made are all 256 runs, and all 400 seeds."""
     place = written(work, SEARCHES)
     words = [sys.executable, place]
-    ran = on_terminal([*words, "explore", sys.path[0]], work, until=" runs, 2 s")
-    check("explore in Python", ran.status == 130 and re.search(r"\rexplore: \d+ runs, 1 s", ran.shown), (ran.status, ran.shown[-500:]))
+    ran = on_terminal([*words, "explore", PYTHON], work, until=" runs, ")
+    check("explore in Python", ran.status == 130 and re.search(r"\rexplore: \d+ runs, \d s", ran.shown), (ran.status, ran.shown[-500:]))
     runs, rest = eval(ran.out)
     shown = re.search(r"explore: interrupted after (\d+) runs, \d+ s; none failed. To go on: explore\(.., under=(\[.*?\])\)", ran.shown, re.S)
     check("it prints how to go on", shown and (int(shown[1]), eval(shown[2])) == (runs, rest), ran.shown[-500:])
     found = explore(body, settings=["write 0 1 1 2 subset"], under=rest)
     check("the rest is the rest", found.complete and runs + found.runs == 256 and runs > 0, (runs, found))
-    ran = on_terminal([*words, "seeds", sys.path[0]], work, until=" of 400, 2 s")
+    ran = on_terminal([*words, "seeds", PYTHON], work, until=" of 400, ")
     shown = re.search(r"seeds: interrupted after (\d+) seeds, \d+ s; none failed. To go on: seeds\(.., range\((\d+), 400\)\)", ran.shown)
     check("seeds in Python", ran.status == 130 and shown and shown[1] == shown[2] and int(shown[1]) > 0, ran.shown[-500:])
 
@@ -168,11 +173,11 @@ def test_by_workers(work):
     """The same with workers: nothing is shown in a pipe, and what is left isn't lost."""
     place = written(work, SEARCHES.replace("settings=settings)", "settings=settings, executor=pool)").replace("by=Library)", "by=Library, executor=pool)")
                     .replace("try:\n", "import concurrent.futures\npool = concurrent.futures.ThreadPoolExecutor(2)\ntry:\n"))
-    ran = on_terminal([sys.executable, place, "explore", sys.path[0]], work, until=" runs, 1 s")
+    ran = on_terminal([sys.executable, place, "explore", PYTHON], work, until=" runs, ")
     runs, rest = eval(ran.out)
     found = explore(body, settings=["write 0 1 1 2 subset"], under=rest)
     check("explore by workers", ran.status == 130 and runs > 0 and found.complete and runs + found.runs == 256, (runs, found))
-    ran = on_terminal([sys.executable, place, "seeds", sys.path[0]], work, until=" of 400, 1 s")
+    ran = on_terminal([sys.executable, place, "seeds", PYTHON], work, until=" of 400, ")
     shown = re.search(r"seeds: interrupted after (\d+) seeds, \d+ s; none failed. To go on: seeds\(.., (.*)\)", ran.shown)
     check("seeds by workers", ran.status == 130 and shown and len(eval(shown[2])) + int(shown[1]) == 400, ran.shown[-500:])
 
@@ -181,13 +186,13 @@ def test_checks(work):
     """tools/states and examples/seeds.py."""
     script = written(work, PREFIX.partition("crash")[0] + "".join(f"write 0 {at} 61\n" for at in range(2, 8)))
     words = [BLOBCRASH, "states", script, "--", "sleep", "0.05"]
-    ran = on_terminal(words, work, until=" fail, 1 s")
+    ran = on_terminal(words, work, until=" fail, ")
     shown = re.search(r"states: interrupted after \d+ s: crash (\d+) of (\d+), \d+ states, 0 fail. To go on: --since (\d+)", ran.shown)
     check("tools/states", ran.status == 130 and shown and 0 < int(shown[3]) < 9, (ran.status, ran.shown[-300:]))
     whole, rest = ([line.partition(":")[0] for line in subprocess.run([BLOBCRASH, "states", "--out", f"{work}/out", *since, script, "--", "false"],
                    stdout=subprocess.PIPE, text=True, check=False).stdout.splitlines()] for since in ([], ["--since", "7"]))
     check("--since", set(rest[:-1]) == {f"crash after line {line}" for line in (7, 8, 9)} < set(whole), rest)
-    ran = on_terminal([sys.executable, os.path.join(TOP, "examples", "seeds.py"), "100000"], work, until=" of 100000, 1 s")
+    ran = on_terminal([sys.executable, os.path.join(TOP, "examples", "seeds.py"), "100000"], work, until=" of 100000, ")
     shown = re.search(r"(\d+) seeds of 100000; to go on: --from (\d+)", ran.shown)
     check("examples/seeds.py", ran.status == 130 and shown and shown[1] == shown[2] and ran.out == f"{shown[1]} seeds, 0 fail: []\n", ran.shown[-300:])
     check("no traceback, no message of a worker", "Traceback" not in ran.shown and "output failed" not in ran.shown, ran.shown[-500:])
@@ -218,14 +223,11 @@ def test_reason(work):
     check("a script in a pipe", (ran.returncode, ran.stderr) == (2, "line 1: bad call\n"), ran)
 
 
-def main():
-    tests = [test for name, test in globals().items() if name.startswith("test_")]
-    for test in tests:
-        with tempfile.TemporaryDirectory() as work:
-            test(work)
-    print(f"{counts['passed']} passed, {counts['failed']} failed")
-    return int(counts["failed"] > 0)
+def in_folder(test):
+    """Runs a test with a folder of its own."""
+    with tempfile.TemporaryDirectory() as work:
+        test(work)
 
 
 if __name__ == "__main__":
-    sys.exit(main())
+    run_tests([functools.partial(in_folder, test) for name, test in list(globals().items()) if name.startswith("test_")])

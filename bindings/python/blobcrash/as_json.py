@@ -4,7 +4,7 @@ from __future__ import annotations
 
 import json
 import re
-from typing import Any, Dict, List
+from typing import Any, Dict, Iterable, Iterator
 
 _LEAVES = r"# (?P<leaves>\d+) (?:leaf|leaves)"
 _OUTCOME = re.compile(_LEAVES + r"(?:, which draws no words|, first: words (?P<words>.*))")
@@ -18,31 +18,33 @@ def line_of_json(found: Dict[str, Any]) -> str:
     return json.dumps(found, ensure_ascii=False) + "\n"
 
 
-def explored_as_json(text: str) -> str:
+def explored_as_json(lines: Iterable[str]) -> Iterator[str]:
     """An object for each outcome, and one with the counts."""
-    objects: List[Dict[str, Any]] = []
-    for line in text.splitlines():
+    found: Dict[str, Any] = {}
+    for line in lines:
         outcome, end = _OUTCOME.fullmatch(line), _EXPLORED.fullmatch(line)
+        if (outcome or end) and found:
+            yield line_of_json(found)
         if outcome:
-            objects.append({"leaves": int(outcome["leaves"]), "words": outcome["words"] or "", "replies": []})
+            found = {"leaves": int(outcome["leaves"]), "words": outcome["words"] or "", "replies": []}
         elif end:
-            objects.append({"leaves": int(end["leaves"]), "outcomes": int(end["outcomes"]), "complete": not end["rest"]})
+            yield line_of_json({"leaves": int(end["leaves"]), "outcomes": int(end["outcomes"]), "complete": not end["rest"]})
         else:
-            objects[-1]["replies"].append(line)
-    return "".join(map(line_of_json, objects))
+            found["replies"].append(line)
 
 
-def states_as_json(text: str) -> str:
+def states_as_json(lines: Iterable[str]) -> Iterator[str]:
     """An object for each state, and one with the counts."""
-    objects: List[Dict[str, Any]] = []
-    for line in text.splitlines():
+    found: Dict[str, Any] = {}
+    for line in lines:
         state, end = _STATE.fullmatch(line), _STATES.fullmatch(line)
+        if (state or end) and found:
+            yield line_of_json(found)
         if state:
-            objects.append({"call": int(state["call"]), "words": state["words"] or "", "blobs": []})
+            found = {"call": int(state["call"]), "words": state["words"] or "", "blobs": []}
         elif end:
             counts = {name: int(end[name]) for name in ("crashes", "outcomes", "states")}
-            objects.append({**counts, "complete": not end["rest"]})
+            yield line_of_json({**counts, "complete": not end["rest"]})
         else:
             _, partition, name, data = line.split(" ")
-            objects[-1]["blobs"].append({"partition": partition, "name": name, "bytes": data})
-    return "".join(map(line_of_json, objects))
+            found["blobs"].append({"partition": partition, "name": name, "bytes": data})

@@ -1,15 +1,19 @@
 """tools/watch PROGRAM COMMAND [ARGUMENT ..]: runs `blobcrash explore`, `files explore` or `states` for the launcher, which has compared the
 arguments with the table of commands. On a terminal it shows how far the run is. With --json it prints JSON.
 
-The program prints nothing before its end. So that there is something to show, and to print after Ctrl-C, it is run with the limits 1000,
-10000 and so on, as far as it needs. What it prints depends on the script and the limit alone, so the last run prints what a single one would.
+The program prints nothing before its end. So that there is something to show, it is run with the limits 1000, 10000 and so on, as far as it
+needs. What it prints depends on the script and the limit alone, so the last run prints what a single one would.
 """
 
 from __future__ import annotations
 
+import ctypes
+import os
+import signal
 import subprocess
 import sys
-from typing import List, NamedTuple, Optional
+import tempfile
+from typing import IO, Iterable, List, NamedTuple, Optional
 
 from .as_json import explored_as_json, states_as_json
 from .checking import check
@@ -19,14 +23,28 @@ from .progress import Progress
 # The limit of the program, and of the first run on a terminal.
 _LIMIT, _FIRST_LIMIT = 1_000_000, 1000
 _WAIT = 0.1
+_SET_PDEATHSIG = 1
+_BLOCK = 1 << 20
 
 
 class _Ran(NamedTuple):
-    """How a run ended."""
+    """How a run ended. What it printed is in a file, since that may be long."""
 
-    out: bytes
+    out: IO[bytes]
     errors: bytes
     status: int
+
+    @property
+    def last(self) -> str:
+        """The last line that it printed."""
+        self.out.seek(max(0, self.out.seek(0, os.SEEK_END) - 4096))
+        return self.out.read().rstrip(b"\n").rpartition(b"\n")[2].decode()
+
+    @property
+    def counts(self) -> str:
+        """What the last line counts."""
+        counts, _, more = self.last.lstrip("# ").partition(", not all of them: the limit was reached")
+        return f"{counts}{more.replace(';', ',')}"
 
 
 class _Watched:
@@ -44,13 +62,14 @@ class _Watched:
         self._rest = rest
         self._progress = Progress(command)
         self._ran: Optional[_Ran] = None
+        self._last_limit: Optional[int] = None
 
     def run(self) -> int:
         """Makes the runs and prints. Returns the status."""
         try:
             for limit in self._limits():
-                self._ran = self._run(limit)
-                if self._ran.status or _is_whole(self._ran.out):
+                self._last_limit, self._ran = limit, self._run(limit)
+                if self._ran.status or ", all of them" in self._ran.last:
                     break
         except KeyboardInterrupt:
             return self._interrupted()
@@ -70,13 +89,16 @@ class _Watched:
     def _run(self, limit: Optional[int]) -> _Ran:
         words = [self._program, *self._rest, *([] if limit is None else ["--limit", str(limit)])]
         # In a session of its own: Ctrl-C is for this process, which ends the program.
-        run = subprocess.Popen(words, stdin=subprocess.PIPE, stdout=subprocess.PIPE, stderr=subprocess.PIPE, start_new_session=True)
+        out = tempfile.TemporaryFile()
+        pipe = subprocess.PIPE
+        run = subprocess.Popen(words, stdin=pipe, stdout=out, stderr=pipe, start_new_session=True, preexec_fn=_end_with_parent)
         given: Optional[bytes] = self._script
         try:
             while True:
                 try:
-                    out, errors = run.communicate(given, _WAIT)
-                    return _Ran(out, errors, run.returncode)
+                    errors = run.communicate(given, _WAIT)[1]
+                    # As a shell tells a signal.
+                    return _Ran(out, errors, run.returncode if run.returncode >= 0 else 128 - run.returncode)
                 except subprocess.TimeoutExpired:
                     given = None
                     self._progress.show(lambda: self._so_far(limit))
@@ -86,28 +108,28 @@ class _Watched:
                 run.communicate()
 
     def _so_far(self, limit: Optional[int]) -> str:
-        done = f"{_counts(self._ran.out)}; now " if self._ran else ""
+        done = f"{self._ran.counts}; now " if self._ran else ""
         return f"{done}up to {_LIMIT if limit is None else limit}{' of each crash' if self._command == 'states' else ''}"
 
-    def _unit(self) -> str:
-        return "outcomes" if self._command == "states" else "leaves"
-
     def _interrupted(self) -> int:
+        seconds = f"interrupted after {self._progress.seconds} s"
         if self._ran is None:
-            self._progress.tell(f"interrupted after {self._progress.seconds} s, before its first {_FIRST_LIMIT} {self._unit()}")
-            return 130
-        counts = _counts(self._ran.out)
-        self._progress.tell(f"interrupted after {self._progress.seconds} s and {counts}, as printed; a higher --limit goes on from there")
-        self._show(self._ran)
+            self._progress.tell(f"{seconds}, before the first {_FIRST_LIMIT} were visited")
+        else:
+            again = f"--limit {self._last_limit} prints them, and a higher one goes on from there"
+            self._progress.tell(f"{seconds} and {self._ran.counts}. To go on: {again}")
         return 130
 
     def _show(self, ran: Optional[_Ran]) -> int:
         assert ran is not None
+        ran.out.seek(0)
         if self._is_json and not ran.status:
-            text = ran.out.decode()
-            write((states_as_json if self._command == "states" else explored_as_json)(text).encode())
+            lines = (line.decode().rstrip("\n") for line in ran.out)
+            parts: Iterable[bytes] = (text.encode() for text in (states_as_json if self._command == "states" else explored_as_json)(lines))
         else:
-            write(ran.out)
+            parts = iter(lambda: ran.out.read(_BLOCK), b"")
+        for part in parts:
+            write(part)
         sys.stderr.write(ran.errors.decode(errors="backslashreplace"))
         if ran.status == 2:
             self._tell_why()
@@ -119,17 +141,9 @@ class _Watched:
             print(f"blobcrash: line {faults[0].line}: {faults[0].why}", file=sys.stderr)
 
 
-def _is_whole(out: bytes) -> bool:
-    """Whether a run visited everything: its last line says so, and doesn't say `not all of them`."""
-    last = out.rstrip(b"\n").rpartition(b"\n")[2]
-    return b", all of them" in last
-
-
-def _counts(out: bytes) -> str:
-    """What the last line of a run counts."""
-    last = out.rstrip(b"\n").rpartition(b"\n")[2].decode()
-    counts, _, more = last.lstrip("# ").partition(", not all of them: the limit was reached")
-    return f"{counts}{more.replace(';', ',')}"
+def _end_with_parent() -> None:
+    """Ends the program if this process is killed."""
+    ctypes.CDLL(None).prctl(_SET_PDEATHSIG, signal.SIGKILL, 0, 0, 0)
 
 
 def watch_command(arguments: List[str]) -> int:
