@@ -146,14 +146,18 @@ def _run(script: str, options: argparse.Namespace, command: List[str]) -> int:
     states, progress = CrashStates(script, since=options.since, **of), Progress("states")
     with tempfile.TemporaryDirectory(dir=_IN_MEMORY if os.path.isdir(_IN_MEMORY) else None) as work:
         checks = _Checks(command, options, work, progress)
+
+        def so_far() -> str:
+            return f"crash {states.crashes} of {states.places}, {states.states} states, {checks.failures} fail"
+
         try:
             for state in states:
                 checks.add(state)
-                progress.show(lambda: f"crash {states.crashes} of {states.places}, {states.states} states, {checks.failures} fail")
+                progress.show(so_far)
             checks.end()
         except KeyboardInterrupt:
-            counts = f"crash {states.crashes} of {states.places}, {states.states} states, {checks.failures} fail"
-            progress.tell(f"interrupted after {progress.seconds} s: {counts}. To go on: --since {checks.first_line(states.line)}")
+            again = f"--since {checks.first_line(states.line)}"
+            progress.tell(f"interrupted after {progress.seconds} s: {so_far()}. To go on: {again}")
             return 130
     progress.clear()
     if options.json:

@@ -68,13 +68,14 @@ class _Watched:
         """Makes the runs and prints. Returns the status."""
         try:
             for limit in self._limits():
-                self._last_limit, self._ran = limit, self._run(limit)
-                if self._ran.status or ", all of them" in self._ran.last:
+                ran = self._ran = self._run(limit)
+                self._last_limit = limit
+                if ran.status or ", all of them" in ran.last:
                     break
         except KeyboardInterrupt:
             return self._interrupted()
         self._progress.clear()
-        return self._show(self._ran)
+        return self._show(ran)
 
     def _limits(self) -> List[Optional[int]]:
         if not sys.stderr.isatty():
@@ -120,8 +121,7 @@ class _Watched:
             self._progress.tell(f"{seconds} and {self._ran.counts}. To go on: {again}")
         return 130
 
-    def _show(self, ran: Optional[_Ran]) -> int:
-        assert ran is not None
+    def _show(self, ran: _Ran) -> int:
         ran.out.seek(0)
         if self._is_json and not ran.status:
             lines = (line.decode().rstrip("\n") for line in ran.out)
