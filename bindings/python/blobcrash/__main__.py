@@ -33,7 +33,7 @@ def main(arguments: list) -> int:
     is_help = command is not states_command and arguments[0 if command is None else 1 :] in (["--help"], ["-h"])
     most = 1 if command is None else 2
     if command not in _OWN and len(arguments) > most:
-        print(f"`{arguments[most]}` is an argument too many\n{USAGE}", file=sys.stderr)
+        print(f"`{arguments[most]}` is an argument too many; {USAGE}", file=sys.stderr)
         return 2
     try:
         if is_help:
