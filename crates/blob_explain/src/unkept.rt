@@ -91,7 +91,10 @@ impl Unkept {
                 let name = hex::encode(*text.allocator(), &writes.name)?;
                 let partition = &writes.partition;
                 let noun = if count == 1 { "write" } else { "writes" };
-                writeln!(text, "{partition} {name}: {count} {noun} lost at retention 0")?;
+                writeln!(
+                    text,
+                    "{partition} {name}: {count} {noun} lost at retention 0"
+                )?;
             }
         }
         Ok(())

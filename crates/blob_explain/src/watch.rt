@@ -178,12 +178,23 @@ impl Watch {
         }
         for (start, bytes) in durable_ranges(alloc, step)? {
             let end = start.saturating_add(bytes.len() as u64);
-            self.unkept.forget(&opened.partition, &opened.name, start, end);
+            self.unkept
+                .forget(&opened.partition, &opened.name, start, end);
         }
-        if let Call::Write { offset, bytes, sync, .. } = step.call {
-            if is_unsynced(step, *sync) && retained(self.config.write_rate).is_none() && !bytes.is_empty() {
+        if let Call::Write {
+            offset,
+            bytes,
+            sync,
+            ..
+        } = step.call
+        {
+            if is_unsynced(step, *sync)
+                && retained(self.config.write_rate).is_none()
+                && !bytes.is_empty()
+            {
                 let end = offset.saturating_add(bytes.len() as u64);
-                self.unkept.add(alloc, &opened.partition, &opened.name, (*offset, end))?;
+                self.unkept
+                    .add(alloc, &opened.partition, &opened.name, (*offset, end))?;
             }
         }
         Ok(())
@@ -192,7 +203,8 @@ impl Watch {
     /// Forgets the writes of a handle's blob, which a sync made durable.
     fn forget_unkept(&mut self, handle: usize) {
         if let Some(opened) = self.handles.get(handle) {
-            self.unkept.forget(&opened.partition, &opened.name, 0, u64::MAX);
+            self.unkept
+                .forget(&opened.partition, &opened.name, 0, u64::MAX);
         }
     }
 
