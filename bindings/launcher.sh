@@ -33,7 +33,7 @@ find_tool() {
     case $1 in
     mount | mountctl | crash_run)
         if [ ! -x "$program" ]; then
-            echo "blobcrash: the mount isn't installed: the package blobcrash-mount of a release has it, or an installation with libfuse 3" >&2
+            echo "blobcrash: the mount isn't installed (the package blobcrash-mount of a release)" >&2
             exit 127
         fi
         ;;

@@ -182,6 +182,41 @@ def test_by_workers(work):
     check("seeds by workers", ran.status == 130 and shown and len(eval(shown[2])) + int(shown[1]) == 400, ran.shown[-500:])
 
 
+PROFILES = """
+import sys, time
+sys.path.insert(0, sys.argv[2])
+from blobcrash import explore, seeds
+
+def body(files):
+    time.sleep(0.02)
+    if files.choose(100) == 3 and sys.argv[3] == files.profile:
+        raise ValueError("lost")
+
+try:
+    explore(body, profile="all") if sys.argv[1] == "explore" else seeds(body, 100, profile="all")
+except KeyboardInterrupt as error:
+    explored = getattr(error, "explored", None)
+    print(repr((explored.runs, list(explored.rest)) if explored else None))
+"""
+
+
+def test_profiles(work):
+    """A search in all profiles: Ctrl-C in the second one leaves its rest and the others, and what failed before is told."""
+    place = written(work, PROFILES)
+    for failing, result, runs_before in (("none", "none failed", 100), ("ext4", "ext4 failed: ValueError: lost (3/100)", 0)):
+        ran = on_terminal([sys.executable, place, "explore", PYTHON, failing], work, until="explore in xfs: ")
+        runs, rest = eval(ran.out)
+        told = re.search(r"explore: interrupted after (\d+) runs, \d+ s; (.*). To go on: explore\(.., under=(\[.*?\])\)", ran.shown, re.S)
+        check("explore in all profiles", told and (int(told[1]), told[2], eval(told[3])) == (runs, result, rest), ran.shown[-500:])
+        rest_of_all = explore(lambda files: files.choose(100) and None, profile="all", under=rest)
+        check("its rest", runs > runs_before and runs - runs_before + rest_of_all.runs == 300 and "ext4" not in rest_of_all.profiles, (runs, rest))
+    ran = on_terminal([sys.executable, place, "seeds", PYTHON, "none"], work, until="seeds in xfs: ")
+    calls = re.findall(r"\n    seeds\(.., range\((\d+), 100\), profile='([a-z0-9]*)'\)", ran.shown.replace("\r\n", "\n"))
+    told = re.search(r"seeds: interrupted after (\d+) runs, \d+ s; none failed. To go on:", ran.shown)
+    check("seeds in all profiles", told and [(0, "btrfs"), (0, "posix")] == [(int(first), name) for first, name in calls[1:]], ran.shown[-500:])
+    check("their counts", calls[0][1] == "xfs" and int(told[1]) == 100 + int(calls[0][0]), ran.shown[-500:])
+
+
 def test_checks(work):
     """tools/states and examples/seeds.py."""
     script = written(work, PREFIX.partition("crash")[0] + "".join(f"write 0 {at} 61\n" for at in range(2, 8)))

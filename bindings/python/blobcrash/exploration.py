@@ -36,8 +36,8 @@ from .layers import Library, line_of
 from .met import Met
 from .paths import Choice, path_of, text_of
 from .power import PowerLoss
-from .profiles import in_each, paths_of, rest_of
-from .progress import Progress, interrupted_exploration, plural
+from .profiles import Kind, in_each, paths_of, rest_of
+from .progress import Progress, interrupted_exploration, plural, tell_explored
 from .results import Explored, of_profiles, with_note
 from .traversal import Traversal
 
@@ -157,7 +157,7 @@ def explore(
     until = now + seconds_of(seconds)
     show = reporter(report, asked is not None)
     try:
-        with interrupted_exploration(Explored) as progress:
+        with interrupted_exploration() as progress:
             if executor is None:
                 part = visit(tree, subtrees, most, Times(until, max(until, now + FIRST_RUN), until), progress)
             else:
@@ -190,17 +190,21 @@ def _check(tree: Tree) -> None:
 def _explore_all(search: Callable[..., Explored], under: Union[str, Iterable[str]], seconds: Optional[float]) -> Explored:
     """Explores each profile, by a function that explores one."""
     paths = paths_of(under)
-    found = in_each(
-        lambda profile, share: search(profile=profile, seconds=share, under=paths[profile]),
-        paths,
-        seconds_of(seconds),
-        lambda rest: Explored(0, {}, tuple(rest)),
+    kind = Kind("explore", _summed, lambda rest: Explored(0, {}, tuple(rest)), tell_explored)
+    explored: Explored = in_each(
+        lambda profile, share: search(profile=profile, seconds=share, under=paths[profile]), paths, seconds_of(seconds), kind
     )
+    return explored
+
+
+def _summed(found: Dict[str, Any]) -> Explored:
+    """The sum of the explorations of profiles that didn't fail."""
+    explored = [each for each in found.values() if isinstance(each, Explored)]
     outcomes: Dict[Any, int] = {}
-    for each in found.values():
+    for each in explored:
         for outcome, count in each.outcomes.items():
             outcomes[outcome] = outcomes.get(outcome, 0) + count
-    runs, met = (sum(getattr(each, name) for each in found.values()) for name in ("runs", "met"))
+    runs, met = (sum(getattr(each, name) for each in explored) for name in ("runs", "met"))
     return of_profiles(Explored(runs, outcomes, tuple(rest_of(found)), met), found)
 
 
@@ -223,7 +227,8 @@ def visit(tree: Tree, subtrees: List[str], most: int, times: Times, progress: Op
         try:
             rest = visitor.visit(path_of(subtree), most)
         except _Interrupted as stopped:
-            stopped.error.part = Part(visitor.runs, visitor.outcomes, stopped.rest + subtrees[at + 1 :], visitor.met)
+            left = stopped.rest + subtrees[at + 1 :]
+            stopped.error.part = Part(visitor.runs, visitor.outcomes, left, visitor.met, visitor.unsynced)
             raise stopped.error from None
         if rest:
             return Part(visitor.runs, visitor.outcomes, rest + subtrees[at + 1 :], visitor.met, visitor.unsynced)

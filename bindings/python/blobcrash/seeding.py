@@ -16,8 +16,8 @@ from .file_settings import ALL, PROFILES, profile_asked, torn_unless_set
 from .file_system import Files
 from .grammar import number, number_of_branches
 from .power import PowerLoss
-from .profiles import in_each, rest_of
-from .progress import Progress, interrupted_seeds
+from .profiles import Kind, in_each, rest_of
+from .progress import Progress, interrupted_seeds, tell_seeds
 from .results import Seeded, of_profiles, with_note
 from .shared import Shared
 from .store import Store
@@ -125,10 +125,10 @@ def seeds(
     asked = profile_asked(profile, files)
     if asked == ALL:
         search = partial(seeds, body, every, executor=executor, report=report, **arguments)
-        every_found = in_each(
-            lambda name, share: search(profile=name, seconds=share), PROFILES, seconds_of(seconds), lambda rest: Seeded(0, tuple(rest))
-        )
-        return of_profiles(Seeded(sum(each.runs for each in every_found.values()), tuple(rest_of(every_found))), every_found)
+        kind = Kind("seeds", _summed, lambda rest: Seeded(0, tuple(rest)), tell_seeds)
+        parts: Dict[str, List[int]] = {name: every for name in PROFILES}
+        seeded: Seeded = in_each(lambda name, share: search(profile=name, seconds=share), parts, seconds_of(seconds), kind)
+        return seeded
     now = time.monotonic()
     until = now + seconds_of(seconds)
     show = reporter(report, asked is not None)
@@ -145,6 +145,12 @@ def seeds(
     if not made.runs:
         raise NoRuns(made.rest)
     return with_note(Seeded(made.runs, made.rest), made.unsynced)
+
+
+def _summed(found: Dict[str, Any]) -> Seeded:
+    """The sum of what the seeds came to in the profiles that didn't fail."""
+    runs = sum(each.runs for each in found.values() if isinstance(each, Seeded))
+    return of_profiles(Seeded(runs, tuple(rest_of(found))), found)
 
 
 class _Part(NamedTuple):
@@ -190,23 +196,6 @@ def _met_by(runs: _Runs, seed: int, before: int, until: float) -> Optional[int]:
         check_result(result)
         met: int = store._unsynced.met
         return met
-
-
-def _is_made(runs: _Runs, seed: int, before: int, until: float) -> bool:
-    """Makes the run of a seed. Returns whether it ended in time."""
-    with _store(runs, seed, until) as store:
-        try:
-            result = runs.body(store)
-        except RunEnded:
-            result = None
-        except (Exception, PowerLoss) as error:
-            if not _is_late(store):
-                raise Failed(f"seed {seed}", store.script, reason_of(error), before + 1) from error
-            result = None
-        if _is_late(store):
-            return False
-        check_result(result)
-    return True
 
 
 def _store(runs: _Runs, seed: int, until: float) -> Any:
