@@ -189,7 +189,7 @@ from blobcrash import explore, seeds
 
 def body(files):
     time.sleep(0.02)
-    if files.choose(100) == 3 and sys.argv[3] == files.profile:
+    if files.choose(100) == 3 and f"profile {sys.argv[3]}" in files.script:
         raise ValueError("lost")
 
 try:
