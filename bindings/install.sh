@@ -1,7 +1,7 @@
 #!/bin/sh
-# bindings/install.sh PREFIX: installs the headers, both libraries, `blobcrash.pc`, the programs with their manual page and completion for
-# bash, and the mount, if libfuse 3 is installed. PREFIX is an absolute path of letters, digits and `/._+-`, since it is written
-# into `blobcrash.pc`. With DESTDIR they are put below $DESTDIR$PREFIX, for a package. Builds first what isn't built; see out/*.log.
+# bindings/install.sh PREFIX: installs the headers, both libraries, `blobcrash.pc`, the programs and the tools in Python with their manual
+# page and completions, and the mount, if libfuse 3 is installed. PREFIX is an absolute path of letters, digits and `/._+-`, since it is
+# written into `blobcrash.pc`. With DESTDIR they are put below $DESTDIR$PREFIX, for a package. Builds first what isn't built; see out/*.log.
 set -eu
 
 top=$(CDPATH='' cd -- "$(dirname -- "$0")/.." && pwd -P)
@@ -28,10 +28,11 @@ for word in '' $(programs); do
 done
 sh "$top/bindings/build.sh"
 work=$(mktemp -d)
-tools='mount mountctl crash_run'
+tools='door.sh commands.txt check judge shrink states crash_page watch'
+mount_tools='mount mountctl crash_run'
 if ! daemon=$(BLOBCRASH_ARCHIVE=$top/out/libblobcrash.a sh "$top/adapters/mount/build.sh" 2>"$work/said"); then
     echo "install.sh: without the mount: $(tail -n 1 "$work/said")" >&2
-    tools=
+    mount_tools=
 fi
 # Other users read what is installed.
 umask 022
@@ -49,8 +50,15 @@ for name in blobcrash $(programs | sed 's/^/blobcrash_/'); do
     put 755 "$top/out/$name" "$to/libexec/blobcrash/$name"
 done
 put 755 "$top/bindings/launcher.sh" "$to/bin/blobcrash"
-help_of_all ${tools:+"$(mount_help)"} >"$work/help"
-put 644 "$work/help" "$to/share/blobcrash/help"
+for tool in $tools $mount_tools; do
+    case $tool in *.*) mode=644 ;; *) mode=755 ;; esac
+    put "$mode" "$top/tools/$tool" "$to/share/blobcrash/tools/$tool"
+done
+for module in blobcrash/*.py blobcrash_page/*.py blobcrash_page/*.js blobcrash_page/*.css; do
+    for found in "$top/bindings/python/"$module; do
+        put 644 "$found" "$to/share/blobcrash/bindings/python/${module%/*}/${found##*/}"
+    done
+done
 for header in "$top"/bindings/c/*.h; do
     # What two tests share isn't installed.
     [ "${header##*/}" != files_checks.h ] || continue
@@ -60,16 +68,18 @@ put 644 "$top/out/libblobcrash.a" "$to/lib/libblobcrash.a"
 put 755 "$top/out/libblobcrash.so" "$to/lib/libblobcrash.so.$version"
 ln -sf "libblobcrash.so.$version" "$to/lib/$(soname)"
 ln -sf "$(soname)" "$to/lib/libblobcrash.so"
-put 644 "$top/bindings/blobcrash.1" "$to/share/man/man1/blobcrash.1"
-words=$(programs | tr '\n' ' ')$tools
-sed "s/@PROGRAMS@/${words% }/" "$top/bindings/blobcrash.bash" >"$work/completion"
-put 644 "$work/completion" "$to/share/bash-completion/completions/blobcrash"
+# made KIND FILE: installs what tools/commands.py makes of the table of commands.
+made() {
+    python3 "$top/tools/commands.py" "$1" >"$work/made"
+    put 644 "$work/made" "$to/share/$2"
+}
+made man man/man1/blobcrash.1
+made bash bash-completion/completions/blobcrash
+made zsh zsh/site-functions/_blobcrash
+made fish fish/vendor_completions.d/blobcrash.fish
 
-if [ -n "$tools" ]; then
+if [ -n "$mount_tools" ]; then
     put 755 "$daemon" "$to/libexec/blobcrash/blobcrash_mount"
-    for tool in $tools; do
-        put 755 "$top/tools/$tool" "$to/share/blobcrash/tools/$tool"
-    done
     for module in "$top"/adapters/mount/*.py; do
         put 644 "$module" "$to/share/blobcrash/adapters/mount/${module##*/}"
     done

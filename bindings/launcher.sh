@@ -4,24 +4,48 @@
 set -eu
 
 prefix=$(dirname -- "$(dirname -- "$(readlink -f -- "$0")")")
-name=blobcrash
-case $#:${1:-} in
-1:help | 1:--help) exec cat "$prefix/share/blobcrash/help" ;;
-*:*[!a-z_]*) ;;
-*:mount | *:mountctl | *:crash_run)
-    tool=$prefix/share/blobcrash/tools/$1
-    if [ -x "$tool" ]; then
-        shift
-        exec "$tool" "$@"
+own=blobcrash
+tools=$prefix/share/blobcrash/tools
+# shellcheck disable=SC2034
+leaves_out=build
+# shellcheck source=tools/door.sh
+. "$tools/door.sh"
+
+show_version() { "$prefix/libexec/blobcrash/blobcrash" version; }
+
+help_of() { "$prefix/libexec/blobcrash/$1" help; }
+
+completion() {
+    case $1 in
+    bash) cat "$prefix/share/bash-completion/completions/blobcrash" ;;
+    zsh) cat "$prefix"/share/zsh/*/_blobcrash ;;
+    fish) cat "$prefix/share/fish/vendor_completions.d/blobcrash.fish" ;;
+    esac
+}
+
+build_program() { refuse 'an installed program is built already'; }
+
+find_program() { program=$prefix/libexec/blobcrash/$1; }
+
+# The tools find the program and the library by these.
+find_tool() {
+    program=$tools/$1
+    case $1 in
+    mount | mountctl | crash_run)
+        if [ ! -x "$program" ]; then
+            echo "blobcrash: the mount isn't installed (the package blobcrash-mount of a release)" >&2
+            exit 127
+        fi
+        ;;
+    *) need_python "\`$1\`" ;;
+    esac
+    : "${BLOBCRASH:=$prefix/libexec/blobcrash/blobcrash}"
+    if [ -z "${BLOBCRASH_LIBRARY:-}" ]; then
+        for library in "$prefix"/lib/libblobcrash.so.* "$prefix"/lib/*/libblobcrash.so.*; do
+            [ ! -f "$library" ] || BLOBCRASH_LIBRARY=$library
+        done
     fi
-    echo "blobcrash: the mount isn't installed (the package blobcrash-mount of a release)" >&2
-    exit 127
-    ;;
-*:?*)
-    if [ -x "$prefix/libexec/blobcrash/blobcrash_$1" ]; then
-        name=blobcrash_$1
-        shift
-    fi
-    ;;
-esac
-exec "$prefix/libexec/blobcrash/$name" "$@"
+    export BLOBCRASH ${BLOBCRASH_LIBRARY:+BLOBCRASH_LIBRARY}
+}
+
+door "$@"

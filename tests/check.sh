@@ -1,5 +1,6 @@
 #!/bin/sh
-# Tests of `python3 -m blobcrash check`, which says why lines of a script are bad. The last line is `N passed, M failed`.
+# Tests of `python3 -m blobcrash check`, which says why lines of a script, or of one of files, are bad. The last line is
+# `N passed, M failed`.
 top=$(CDPATH='' cd -- "$(dirname -- "$0")/.." && pwd -P)
 # shellcheck source=tests/counting.sh
 . "$top/tests/counting.sh"
@@ -8,7 +9,7 @@ if ! has_python; then
     skip 'all of it: there is no Python 3.8 or later'
     finish
 fi
-need_program
+need_program files
 BLOBCRASH=$program
 PYTHONPATH=$top/bindings/python
 export BLOBCRASH PYTHONPATH
@@ -28,5 +29,9 @@ names = {name[:-3] for folder in sys.argv[1:] for name in os.listdir(folder) if 
 print(*sorted(names & set(getattr(sys, "stdlib_module_names", ()))))'
 ok 'no module of the tests hides one of the standard library' \
     [ -z "$(python3 -c "$hiding" "$top/tests" "$top/bindings/python")" ]
+for script in "$top"/examples/files/*.script; do
+    ok "${script##*/} has no bad line" "$top/tools/check" --files "$script"
+done
 add python3 "$top/tests/check.py"
+add python3 "$top/tests/file_check.py"
 finish

@@ -19,7 +19,7 @@ tell() {
 
 # explore ARGUMENT ..: explores $work/script.
 explore() {
-    "$top/blobcrash" explore "$@" <"$work/script" >"$work/out" 2>"$work/err"
+    "${program}_explore" "$@" <"$work/script" >"$work/out" 2>"$work/err"
     status=$?
 }
 
@@ -123,10 +123,6 @@ for words in '--limit' '--limit x' '--limit +1' '--limit 1 --limit 1' '--last --
     # shellcheck disable=SC2086
     explore $words
     expect "arguments '$words'" 2 '' 'usage: blobcrash explore [--limit N] [--last]'
-    # shellcheck disable=SC2086
-    "${program}_explore" $words <"$work/script" >"$work/out" 2>"$work/err"
-    status=$?
-    expect "arguments '$words' of its program" 2 '' 'usage: blobcrash explore [--limit N] [--last]'
 done
 torn subset
 "$top/blobcrash" explore <"$work/script" >/dev/full 2>"$work/err"

@@ -51,9 +51,20 @@ libexec/blobcrash/blobcrash_explore
 libexec/blobcrash/blobcrash_files
 libexec/blobcrash/blobcrash_states
 share/bash-completion/completions/blobcrash
-share/blobcrash/help
+share/blobcrash/tools/check
+share/blobcrash/tools/commands.txt
+share/blobcrash/tools/crash_page
+share/blobcrash/tools/door.sh
+share/blobcrash/tools/judge
+share/blobcrash/tools/shrink
+share/blobcrash/tools/states
+share/blobcrash/tools/watch
+share/fish/vendor_completions.d/blobcrash.fish
 share/man/man1/blobcrash.1
+share/zsh/site-functions/_blobcrash
 FILES
+(cd "$top" && ls bindings/python/blobcrash/*.py bindings/python/blobcrash_page/*.py bindings/python/blobcrash_page/*.js \
+    bindings/python/blobcrash_page/*.css) | sed 's|^|share/blobcrash/|' >>"$work/files"
 if has pkg-config && pkg-config --atleast-version=3.10 fuse3; then
     cat >>"$work/files" <<'FILES'
 libexec/blobcrash/blobcrash_mount
@@ -64,12 +75,6 @@ share/blobcrash/tools/mountctl
 FILES
     (cd "$top" && ls adapters/mount/*.py) | sed 's|^|share/blobcrash/|' >>"$work/files"
     ok 'the mount, from a folder that was moved' sh -c 'cp -R "$1" "$2" && "$2/bin/blobcrash" mountctl --help' sh "$prefix" "$work/moved"
-    for tool in mount mountctl crash_run; do
-        # A command or an option begins a line of the help.
-        for word in $("$top/tools/$tool" --help | sed -n 's/^  *\(--[a-z-]*\).*/\1/p; s/^  \([a-z][a-z-]*\)  *[A-Za-z].*/\1/p' | sort -u); do
-            ok "completion knows $tool $word" grep -q -- "[ ']$word\([ ']\|\$\)" "$top/bindings/blobcrash.bash"
-        done
-    done
 else
     skip 'the mount: there is no libfuse 3'
 fi
@@ -97,10 +102,39 @@ ok 'explain' grep -q '^# ' "$work/out"
 printf 'config write 0 1 1 2 prefix\nopen p 62\nwrite 0 0 61\ncrash\n' | "$prefix/bin/blobcrash" explore --limit 9 >"$work/out"
 ok 'explore, with its arguments' grep -qx '# 2 leaves, all of them; 2 outcomes' "$work/out"
 "$prefix/bin/blobcrash" help >"$work/shown_help"
-for named in '' ' explain' ' explore' ' files' ' files explore' ' resolve' ' help' ' version'; do
-    ok "help names blobcrash$named" grep -q "^  blobcrash$named \( \|\[\)" "$work/shown_help"
+for named in explain explore files 'files explore' check judge shrink page mount resolve help version; do
+    ok "help names $named" grep -q "^  $named\( \|\$\)" "$work/shown_help"
 done
+ok 'help names nothing that a release lacks' [ -z "$(grep '^  build' "$work/shown_help")" ]
 ok 'wrong arguments' expect_status 2 "$prefix/bin/blobcrash" explain more
+"$prefix/bin/blobcrash" explian >"$work/out" 2>"$work/err"
+ok 'a hint' grep -qF 'did you mean `explain`?' "$work/err"
+printf 'wirte 0 0 61\n' >"$work/bad"
+"$prefix/bin/blobcrash" <"$work/bad" >"$work/out" 2>"$work/err"
+ok 'why a line is bad' grep -qF '`wirte`: no such call; did you mean `write`?' "$work/err"
+# The tools in Python, over what is installed alone.
+tooled() { env -u PYTHONPATH PYTHONDONTWRITEBYTECODE='' "$prefix/bin/blobcrash" "$@"; }
+lost=$top/examples/forgotten_sync.script
+if has_python; then
+    printf 'open p 62\nwrite 0 0 61\n# acknowledged p 62 0 61\ncrash\nreopen\n' >"$work/lost"
+    tooled judge "$work/lost" >"$work/out" 2>"$work/err"
+    ok 'judge' [ "$? $(wc -l <"$work/out")" = '1 1' ]
+    tooled shrink "$work/lost" >"$work/out" 2>"$work/err"
+    ok 'shrink' grep -qx 'crash' "$work/out"
+    tooled check "$work/bad" >"$work/out" 2>"$work/err"
+    ok 'check' [ $? -eq 2 ]
+    tooled page <"$lost" >"$work/out" 2>"$work/err"
+    ok 'page' grep -qi '<html' "$work/out"
+    tooled states --out "$work/kept" "$lost" -- false >"$work/out" 2>"$work/err"
+    ok 'states of checks' grep -q ' states, all of them; ' "$work/out"
+    printf 'open p 62\n' | tooled explore --json >"$work/out" 2>"$work/err"
+    ok 'explore --json' grep -qxF '{"leaves": 1, "outcomes": 1, "complete": true}' "$work/out"
+    for shell in bash zsh fish; do
+        tooled completion "$shell" >"$work/out" 2>"$work/err"
+        ok "completion $shell" sh -c '"$1/blobcrash" completion "$2" | cmp - "$3"' sh "$top" "$shell" "$work/out"
+    done
+    ok 'they leave no files' [ -z "$(find "$prefix" -name __pycache__)" ]
+fi
 if has man; then
     ok 'the manual page' sh -c 'MANROFFSEQ="" man --warnings -l "$1" 2>"$2" >/dev/null && [ ! -s "$2" ]' sh \
         "$prefix/share/man/man1/blobcrash.1" "$work/err"

@@ -40,10 +40,16 @@ ok 'no such option' [ "$status" -eq 2 ]
 if [ "$(id -u)" -eq 0 ] && unshare -m true 2>/dev/null && has setpriv; then
     run unshare -m sh -c 'mount -t tmpfs none /dev && exec "$0" "$1"' "$top/tools/mount" "$at"
     docker='in a container: docker run --device /dev/fuse --cap-add SYS_ADMIN'
-    expect 'no /dev/fuse' 3 '' "mount: there is no /dev/fuse; $docker"
+    expect 'no /dev/fuse' 3 '' "mount: there is no /dev/fuse: load the kernel's module fuse; $docker"
     run unshare -m sh -c 'mount -t tmpfs none /dev && mknod -m 600 /dev/fuse c 10 229 && exec setpriv --reuid=65534 --clear-groups "$0" /' \
         "$top/tools/mount"
     expect 'no right' 3 '' "mount: no right to open /dev/fuse; $docker"
+    mkdir "$work/few"
+    ln -s "$(command -v dirname)" "$(command -v id)" "$work/few"
+    chmod a+x "$work"
+    run unshare -m sh -c 'mount -t tmpfs none /dev && mknod -m 666 /dev/fuse c 10 229 && PATH=$1 &&
+        exec "$2" --reuid=65534 --clear-groups "$0" /' "$top/tools/mount" "$work/few" "$(command -v setpriv)"
+    expect 'no fusermount3' 3 '' 'mount: fusermount3 is missing (Debian: apt-get install fuse3)'
 else
     leave_out 'a mount without /dev/fuse: this is not root, or there is no unshare or setpriv'
 fi
@@ -52,6 +58,10 @@ if ! program=$(sh "$top/adapters/mount/build.sh" 2>"$work/err"); then
     give_up "the daemon can't be built"
 fi
 if [ "$(id -u)" -eq 0 ] && unshare -m true 2>/dev/null && has setpriv; then
+    run setpriv --bounding-set=-sys_admin "$top/tools/mount" "$at"
+    sed -i '/^fusermount3: /d' "$work/err"
+    expect 'no right to mount' 3 '' "mount: no right to mount: CAP_SYS_ADMIN is missing, or a rule of the system forbids it. In a \
+container: docker run --device /dev/fuse --cap-add SYS_ADMIN"
     # As another user, by fusermount3.
     home=$(mktemp -d /tmp/blobcrash-user.XXXXXX)
     mkdir "$home/m"

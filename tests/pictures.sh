@@ -19,7 +19,7 @@ tell() {
 need_program explain
 
 for worked in "$top"/tests/pictures/*.script; do
-    "$top/blobcrash" explain <"$worked" >"$work/out" && diff "${worked%.script}.out" "$work/out" >"$work/shown"
+    "${program}_explain" <"$worked" >"$work/out" && diff "${worked%.script}.out" "$work/out" >"$work/shown"
     tell $? "${worked##*/}"
 done
 
@@ -29,7 +29,7 @@ for worked in "$top"/tests/scripts/*.script; do
     [ ! -e "$name.status" ] || wanted=$(cat "$name.status")
     errors=$work/none
     [ ! -e "$name.err" ] || errors=$name.err
-    "$top/blobcrash" explain <"$worked" >"$work/out" 2>"$work/err"
+    "${program}_explain" <"$worked" >"$work/out" 2>"$work/err"
     status=$?
     grep -v '^# ' "$work/out" >"$work/replies"
     diff "$name.out" "$work/replies" >"$work/shown" && cmp -s "$work/err" "$errors" && [ "$status" -eq "$wanted" ] &&

@@ -52,7 +52,7 @@ head -c 8190 "$work/region" >"$work/in"
 run "$top/blobcrash" resolve <"$work/in"
 expect 'a region without its last byte' 0 "create$line" ''
 
-# Arguments, given to the programs: ./blobcrash refuses some itself (tests/launcher.sh).
+# Arguments, given to the programs: ./blobcrash refuses wrong ones itself (tests/launcher.sh).
 usage='usage: blobcrash [resolve]'
 for words in 'resolve resolve' 'resolve --' 'Resolve' '--version' 'help help' 'explain' 'explore' 'build'; do
     # shellcheck disable=SC2086
@@ -60,10 +60,8 @@ for words in 'resolve resolve' 'resolve --' 'Resolve' '--version' 'help help' 'e
     expect "arguments '$words'" 2 '' "$usage"
 done
 for words in '' 'resolve ' "$(printf '\377')"; do
-    for way in "$program" "$top/blobcrash"; do
-        run "$way" "$words" </dev/null
-        expect 'an argument that no program takes' 2 '' "$usage"
-    done
+    run "$program" "$words" </dev/null
+    expect 'an argument that no program takes' 2 '' "$usage"
 done
 for words in more 'help help' 'help more' 'more help' --limit; do
     # shellcheck disable=SC2086
@@ -92,12 +90,8 @@ for name in explain explore; do
     ok "help and --help of $name" cmp "$work/help" "$work/first"
     ok "$name names itself alone" test "$(grep -c '^  blobcrash' "$work/help") $(grep -c "^  blobcrash $name " "$work/help")" = '1 1'
     helps "$top/blobcrash" "$name" --help
-    ok "./blobcrash $name --help is its help" cmp "$work/help" "$work/first"
-done
-helps "$top/blobcrash" help
-for name in '' _explain _explore; do
-    "$program$name" help | grep '^  ' >"$work/own"
-    ok "./blobcrash help has that of blobcrash$name" sh -c '! grep -vxFf "$1" "$2"' sh "$work/help" "$work/own"
+    head -n "$(wc -l <"$work/first")" "$work/help" >"$work/own"
+    ok "./blobcrash $name --help begins with its help" cmp "$work/own" "$work/first"
 done
 
 # The version, with the toolchain that the README names. With another toolchain, which may prove the program as well, this prints a
@@ -122,7 +116,7 @@ expect 'the first example' 0 "$(cat "$top/crates/blobcrash/stdout")$line" ''
 
 printf 'open p 62\n# x\nread 0 0\n' >"$work/in"
 run "$top/blobcrash" <"$work/in"
-expect 'a bad line' 2 "opened 0 0 0$line" 'line 3: bad call'
+expect 'a bad line' 2 "opened 0 0 0$line" "line 3: bad call${line}blobcrash: line 3: a token is missing: \`read H OFFSET LEN\`"
 
 # Line by line over pipes: each reply comes before the next line is sent. An answer has ten seconds.
 # ask NAME REPLY LINES: sends the lines, of which the last has a reply.

@@ -29,9 +29,16 @@ test_programs() {
     "$run" version >"$work/out"
     ok "$2: version" grep -q '^blobcrash [0-9]' "$work/out"
     "$run" help >"$work/out"
-    ok "$2: help" grep -q '^  blobcrash explain ' "$work/out"
+    ok "$2: help" grep -q '^  explain ' "$work/out"
     "$run" frob >"$work/out" 2>&1
-    ok "$2: a word that is no program" [ $? -eq 2 ]
+    ok "$2: a word that is no command" [ $? -eq 2 ]
+    if has_python; then
+        printf 'open p 62\nwrite 0 0 61\n# acknowledged p 62 0 61\ncrash\nreopen\n' >"$work/lost"
+        "$run" judge "$work/lost" >"$work/out" 2>&1
+        ok "$2: judge" [ $? -eq 1 ]
+        "$run" page <"$examples/torn_write_subset.script" >"$work/out"
+        ok "$2: page" grep -qi '<html' "$work/out"
+    fi
     if has man; then
         ok "$2: the manual page" sh -c 'man --warnings -l "$1" 2>&1 >/dev/null | grep .; [ $? -eq 1 ]' sh "$1"/share/man/man1/blobcrash.1*
     fi

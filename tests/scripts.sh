@@ -11,7 +11,7 @@ scripts=$top/tests/scripts
 
 # expect NAME STATUS OUTPUT ERRORS: runs the script on standard input; OUTPUT and ERRORS are files.
 expect() {
-    "$top/blobcrash" >"$work/out" 2>"$work/err"
+    "$program" >"$work/out" 2>"$work/err"
     status=$?
     if [ "$status" = "$2" ] && cmp -s "$work/out" "$3" && cmp -s "$work/err" "$4"; then
         pass

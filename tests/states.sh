@@ -27,7 +27,7 @@ done
 expect() {
     name=$1 wanted=$2 last=$3 errors=$4
     shift 4
-    "$top/blobcrash" states "$@" <"$work/in" >"$work/out" 2>"$work/err"
+    "${program}_states" "$@" <"$work/in" >"$work/out" 2>"$work/err"
     status=$?
     [ "$status" = "$wanted" ] && [ "$(tail -n 1 "$work/out")" = "$last" ] && [ "$(cat "$work/err")" = "$errors" ]
     tell $? "blobcrash states: $name: status $status, $(tail -n 1 "$work/out")"

@@ -1,5 +1,5 @@
 #!/bin/sh
-# The version of the program is that of the packages, of the manual page, of the newest release in CHANGELOG.md and of the archive that the
+# The version of the program is that of the packages, of the newest release in CHANGELOG.md and of the archive that the
 # pages unpack, and the SONAME on the pages is that of the library. The last line is `N passed, M failed`.
 top=$(CDPATH='' cd -- "$(dirname -- "$0")/.." && pwd -P)
 # shellcheck source=tests/counting.sh
@@ -22,7 +22,6 @@ same bindings/python/blobcrash/__init__.py 's/^__version__ = "\(.*\)"/\1/p' "$re
 same bindings/rust/Cargo.toml 's/^version = "\(.*\)"/\1/p' "$release"
 same bindings/rust/proptest/Cargo.toml 's/^version = "\(.*\)"/\1/p' "$release"
 same bindings/rust/Cargo.lock '/^name = "blobcrash"$/ { n; s/^version = "\(.*\)"/\1/p; }' "$release"
-same bindings/blobcrash.1 's/^\.TH BLOBCRASH 1 ".*" "blobcrash \([0-9.]*\)" .*/\1/p' "${release%.*}"
 for page in README.md docs/BINDINGS.md; do
     same "$page" 's/.*blobcrash-\([0-9.]*\)-x86_64-linux.*/\1/p' "$release"
 done

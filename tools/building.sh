@@ -33,29 +33,6 @@ programs() {
     done
 }
 
-# help_of_all [LINE ..]: the help of a launcher of all programs, with further lines.
-help_of_all() {
-    echo "usage: blobcrash [$(programs | tr '\n' '|')resolve|help|version]"
-    echo
-    help_of blobcrash | grep '^  '
-    for of in $(programs); do help_of "blobcrash_$of" | grep '^  '; done
-    [ $# -eq 0 ] || printf '%s\n' "$@"
-    echo
-    help_of blobcrash | tail -n 1
-}
-
-# mount_help: the lines of the mount for the help of a launcher.
-mount_help() {
-    cat <<'HELP'
-  blobcrash mount DIR [options]
-                     mounts files that crash on a folder; `blobcrash mount --help` lists the options
-  blobcrash mountctl DIR COMMAND
-                     sends a command to a mount: crash, off, on, settle, status, umount and others
-  blobcrash crash_run --work CMD --check CMD [options]
-                     takes a program through power losses on a mount, and checks what is left
-HELP
-}
-
 # is_private FOLDER: whether FOLDER is a folder of this user, which no other user may read or write.
 is_private() {
     [ -n "$(find "$1" -prune -type d -user "$(id -u)" -perm 700 2>/dev/null)" ] && [ -w "$1" ]

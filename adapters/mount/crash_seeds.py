@@ -19,11 +19,12 @@ a third of the seeds the power goes off in that recovery too.
   --timeout SECONDS  how long a command may take (60)
   --out FOLDER       where failures are kept (out/crash_run)
   --no-record        doesn't record the runs
+  --json             prints JSON, an object a line: one for each failure, and one at the end
   --profile, --tear, --keep, --size, --allow-other   as for tools/mount
 
 A command is run by sh in this folder, with MOUNT, the folder of the mount, ACKNOWLEDGED and SEED in the environment.
 Exit statuses: 0 if nothing failed; 1 if a seed failed; 2 for bad options, if the check fails without a crash, or if the start and the
-workload change nothing; 3 without FUSE.
+workload change nothing; 3 without FUSE; 130 after Ctrl-C, with the counts so far. A terminal shows how far it is.
 
 From Python: `main(words, executor)` of this module with the words of a command line and an executor of `concurrent.futures`, which may
 be that of a cluster: each seed is a process of its own on one of its workers. The repository has the same path on each of them.
@@ -38,7 +39,6 @@ import shlex
 import subprocess
 import sys
 import threading
-import time
 from concurrent.futures import ThreadPoolExecutor
 
 import interrupts
@@ -66,6 +66,7 @@ def parse(words):
     parser.add_argument("--allow-other", action="store_true")
     parser.add_argument("--fault", action="append", default=[])
     parser.add_argument("--no-record", action="store_true")
+    parser.add_argument("--json", action="store_true")
     for name in ("prepare", "start", *MOUNT_OPTIONS):
         parser.add_argument("--" + name)
     for name in ("work", "check"):
@@ -175,35 +176,76 @@ def judge_all(executor, words, seeds, calls, at_once):
         yield seed, result_of(tasks.pop(seed))
 
 
-def run_all(options, words, executor, at_once):
-    """Runs the seeds. Returns the number of each verdict, of crashes and of acknowledgements, and among how many calls each stopped."""
-    calls = options.stop_after
-    if calls is None:
-        calls = result_of(start(executor, of_seed(words, options.first, None), "measure"))["calls"]
-    counts, crashes, acknowledged, shown_at = dict.fromkeys(VERDICTS, 0), 0, 0, time.monotonic()
-    seeds = range(options.first, options.first + options.seeds)
-    for seed, result in judge_all(executor, words, seeds, calls, at_once):
-        counts[result["verdict"]] += 1
-        crashes += result["crashes"]
-        acknowledged += result["acknowledged"]
-        if result["kept"]:
-            print(f"seed {seed}: {result['verdict']}{result['tail']}", flush=True)
-            if os.path.exists(os.path.join(result["kept"], "tree")):
-                print(f"  the durable tree: {result['kept']}/tree", flush=True)
-            tool = os.path.relpath(TOOL) if os.path.samefile(TOP, ".") else TOOL
-            script = os.path.join(result["kept"], "run.script")
-            if os.path.exists(script):
-                print(f"  replay: (cat {shlex.quote(script)}; echo tree) | {PROGRAM} files | tail -n 1", flush=True)
-            print(f"  again: {shlex.join([tool, *of_seed(words, seed, calls)])}", flush=True)
-        if time.monotonic() > shown_at + 2:
-            shown_at, number = time.monotonic(), sum(counts.values())
-            print(f"crash_run: {number} of {options.seeds} seeds, {number - counts['held']} failed", file=sys.stderr)
-    return counts, crashes, acknowledged, calls
+class Totals:
+    """What the seeds so far came to."""
+
+    def __init__(self, options, words, progress):
+        self.options, self.words, self.progress = options, words, progress
+        self.counts = dict.fromkeys(VERDICTS, 0)
+        self.crashes = self.acknowledged = 0
+        self.calls = options.stop_after
+
+    def __str__(self):
+        number = sum(self.counts.values())
+        return f"{number} of {self.options.seeds} seeds, {number - self.counts['held']} failed"
+
+    def run(self, executor, at_once):
+        """Runs the seeds."""
+        options = self.options
+        if self.calls is None:
+            self.calls = result_of(start(executor, of_seed(self.words, options.first, None), "measure"))["calls"]
+        seeds = range(options.first, options.first + options.seeds)
+        for seed, result in judge_all(executor, self.words, seeds, self.calls, at_once):
+            self.counts[result["verdict"]] += 1
+            self.crashes += result["crashes"]
+            self.acknowledged += result["acknowledged"]
+            if result["kept"]:
+                self.progress.clear()
+                (self.print_json if options.json else self.print_failure)(seed, result)
+            self.progress.show(self.__str__)
+
+    def again(self, seed):
+        """Returns the command that runs a seed again."""
+        tool = os.path.relpath(TOOL) if os.path.samefile(TOP, ".") else TOOL
+        return shlex.join([tool, *of_seed(self.words, seed, self.calls)])
+
+    def print_failure(self, seed, result):
+        """Prints a failure, with the commands that replay and repeat it."""
+        print(f"seed {seed}: {result['verdict']}{result['tail']}", flush=True)
+        if os.path.exists(os.path.join(result["kept"], "tree")):
+            print(f"  the durable tree: {result['kept']}/tree", flush=True)
+        script = os.path.join(result["kept"], "run.script")
+        if os.path.exists(script):
+            print(f"  replay: (cat {shlex.quote(script)}; echo tree) | {PROGRAM} files | tail -n 1", flush=True)
+        print(f"  again: {self.again(seed)}", flush=True)
+
+    def print_json(self, seed, result):
+        """Prints a failure as an object."""
+        print(json.dumps({"seed": seed, "verdict": result["verdict"], "kept": result["kept"], "again": self.again(seed)}), flush=True)
+
+    def print_totals(self):
+        """Prints the table of all seeds, or an object."""
+        options = self.options
+        row = {"profile": options.profile or "ext4", "seeds": options.seeds, "calls": self.calls, "crashes": self.crashes,
+               "acknowledged": self.acknowledged, **self.counts}
+        if options.json:
+            print(json.dumps(row))
+            return
+        print(f"| {' | '.join(row)} |\n|---|{'---|' * (len(row) - 1)}")
+        print("| " + " | ".join(map(str, row.values())) + " |")
+
+
+def progress_line():
+    """Returns the line of a terminal that shows how far the seeds are."""
+    sys.path.append(os.path.join(TOP, "bindings", "python"))
+    from blobcrash.progress import Progress
+
+    return Progress("crash_run")
 
 
 def main(words, executor=None):
     """Runs all. Returns the exit status."""
-    if words == ["--help"]:
+    if words in (["--help"], ["-h"]):
         print(__doc__.strip())
         return 0
     options = parse(words)
@@ -212,21 +254,22 @@ def main(words, executor=None):
         return run_one(options)
     own = Workers(options.jobs) if executor is None else None
     at_once = options.jobs if own else 2 * (getattr(executor, "_max_workers", None) or 64)
+    totals = Totals(options, words, progress_line())
     try:
         program()
         with interrupts.interruptible():
-            counts, crashes, acknowledged, calls = run_all(options, words, own or executor, at_once)
+            totals.run(own or executor, at_once)
     except (Broken, Failed) as error:
         print(f"crash_run: {error}", file=sys.stderr)
-        return 3 if "docker run" in str(error) else 2
+        return 3 if "docker run" in str(error) or "fusermount3" in str(error) else 2
     except KeyboardInterrupt:
-        print("crash_run: interrupted", file=sys.stderr)
+        done = sum(totals.counts.values())
+        totals.progress.tell(f"interrupted after {totals}. To go on: --first {options.first + done} --seeds {options.seeds - done}")
         return 130
     finally:
+        totals.progress.clear()
         if own:
             own.end()
             own.shutdown()
-    print(f"| profile | seeds | calls | crashes | acknowledged | {' | '.join(VERDICTS)} |\n|---|{'---|' * (4 + len(VERDICTS))}")
-    row = [options.profile or "ext4", options.seeds, calls, crashes, acknowledged, *counts.values()]
-    print("| " + " | ".join(map(str, row)) + " |")
-    return int(counts["held"] != options.seeds)
+    totals.print_totals()
+    return int(totals.counts["held"] != options.seeds)

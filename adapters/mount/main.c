@@ -158,8 +158,10 @@ static struct fuse_session *mount_it(char *name) {
     if (!session || fuse_set_signal_handlers(session)) end(FAILED, "no session");
     if (fuse_session_mount(session, options.directory)) {
         end_paths();
-        end(NO_FUSE, "no right to mount. In a container: docker run --device /dev/fuse --cap-add SYS_ADMIN; without root: the "
-                     "package fuse3");
+        if (geteuid() == 0)
+            end(NO_FUSE, "no right to mount: CAP_SYS_ADMIN is missing, or a rule of the system forbids it. In a container: docker run "
+                         "--device /dev/fuse --cap-add SYS_ADMIN");
+        end(NO_FUSE, "fusermount3 doesn't mount it: it is missing (Debian: apt-get install fuse3), or says above why");
     }
     fuse_opt_free_args(&arguments);
     return session;

@@ -134,19 +134,23 @@ def mount_package(kit, tree, version, folder):
     for path in ("mount", "licenses/libfuse3"):
         if (tree / "share/doc/blobcrash" / path).exists():
             shutil.move(tree / "share/doc/blobcrash" / path, documents / path)
-    package.put(tree, daemon, "share/blobcrash/tools", "share/blobcrash/adapters", f"share/doc/{name}")
+    tools = [f"share/blobcrash/tools/{tool}" for tool in ("mount", "mountctl", "crash_run")]
+    package.put(tree, daemon, *tools, "share/blobcrash/adapters", f"share/doc/{name}")
     return package
 
 
-def program_package(kit, tree, folder):
+def program_package(kit, tree, version, library, folder):
     """Makes the package of the programs, out of what the other packages have left."""
     page = tree / "share/man/man1/blobcrash.1"
     page.with_name("blobcrash.1.gz").write_bytes(gzipped(page.read_text(encoding="utf-8")))
     page.unlink()
+    (tree / "share/zsh/site-functions").rename(tree / "share/zsh/vendor-completions")
     # Debian has the licence already.
     (tree / "share/doc/blobcrash/LICENSE").unlink()
-    fields = {"Section": "devel", "Depends": needs_of(kit, *binaries(tree)), "Suggests": "blobcrash-mount", "Description": SUMMARY}
-    package = Package("blobcrash", "This package has the programs, which run scripts.", fields, folder / "blobcrash")
+    needs = f"{library} (= {version}), {needs_of(kit, *binaries(tree))}, python3:any (>= 3.8)"
+    fields = {"Section": "devel", "Depends": needs, "Suggests": "blobcrash-mount", "Description": SUMMARY}
+    about = "This package has the programs, which run scripts, and the tools in Python."
+    package = Package("blobcrash", about, fields, folder / "blobcrash")
     package.put(tree, *sorted(it.name for it in tree.iterdir()))
     return package
 
@@ -159,7 +163,7 @@ def write_packages(kit, tree, version, soname, commit, url, work, folder):
     # A draft may have no mount.
     if (tree / "libexec/blobcrash/blobcrash_mount").exists():
         packages.append(mount_package(kit, tree, version, work))
-    for package in (*packages, program_package(kit, tree, work)):
+    for package in (*packages, program_package(kit, tree, version, library.name, work)):
         package.document(version, commit)
         package.write_control(version, commit.author, url)
         set_modes(package.folder)

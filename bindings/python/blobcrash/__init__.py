@@ -70,6 +70,7 @@ from .layers import Library, Program, Reply, explain, program, run
 from .open_file import OpenFile
 from .patching import patched
 from .power import PowerLoss
+from .progress import counted
 from .results import Explored, Seeded
 from .seeding import SeededFiles, SeededStore
 from .seeding import seeds as _seeds
@@ -148,6 +149,7 @@ __all__ = [
     "WrongThread",
     "acknowledgement",
     "check",
+    "counted",
     "cut",
     "cut_lines",
     "explain",

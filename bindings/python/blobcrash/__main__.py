@@ -22,13 +22,13 @@ _COMMANDS = {
     "--version": version_command,
 }
 # Those that have a usage of their own.
-_OWN = (shrink_command, states_command)
+_OWN = (check_command, shrink_command, states_command)
 USAGE = "usage: python -m blobcrash [check|judge] [FILE], or shrink SCRIPT [COMMAND ..], or states [options] SCRIPT -- CHECK .., or version"
 HELP = f"""{USAGE}
 
 Runs a script, from a file or from standard input, and prints its replies.
 
-  check   prints which lines aren't calls, and why
+  check   prints which lines aren't calls, and why; with --files of a script of files, with --explored of one for `explore`
   judge   prints what acknowledged content the script loses
   shrink  prints a short script that still fails: COMMAND ends with a status other than 0, or `judge` finds a loss
   states  runs CHECK on each state in which a crash could have left the run; `states --help` has the options
@@ -40,9 +40,10 @@ docs/GUIDE.md has more, docs/FORMATS.md the lines and the replies.
 
 def main(arguments: List[str]) -> int:
     command = _COMMANDS.get(arguments[0]) if arguments else None
-    is_help = command is not states_command and arguments[0 if command is None else 1 :] == ["--help"]
-    if command not in _OWN and len(arguments) > (1 if command is None else 2):
-        print(USAGE, file=sys.stderr)
+    is_help = command is not states_command and arguments[0 if command is None else 1 :] in (["--help"], ["-h"])
+    most = 1 if command is None else 2
+    if command not in _OWN and len(arguments) > most:
+        print(f"`{arguments[most]}` is an argument too many; {USAGE}", file=sys.stderr)
         return 2
     try:
         if is_help:

@@ -48,7 +48,13 @@ def version_command(arguments: List[str]) -> int:
 
 def check_command(arguments: List[str]) -> int:
     """Prints each line of a script that isn't a call, and why. Status 2 if there is one."""
-    faults = check(read(arguments))
+    of_files, explored = "--files" in arguments, "--explored" in arguments
+    files = [word for word in arguments if word not in ("--files", "--explored")]
+    if len(files) > 1 or any(word.startswith("-") for word in files):
+        wrong = next((word for word in files if word.startswith("-")), files[-1])
+        print(f"check: `{wrong}` is no option and no second script\nusage: check [--files] [--explored] [FILE]", file=sys.stderr)
+        return 2
+    faults = check(read(files), files=of_files, explored=explored)
     write("".join(f"line {fault.line}: bad call: {fault.why}\n" for fault in faults).encode())
     if faults:
         print(f"line {faults[0].line}: bad call", file=sys.stderr)

@@ -36,7 +36,8 @@ from .layers import Library, line_of
 from .met import Met
 from .paths import Choice, path_of, text_of
 from .power import PowerLoss
-from .profiles import in_each, paths_of, rest_of
+from .profiles import Kind, in_each, paths_of, rest_of
+from .progress import Progress, interrupted_exploration, plural, tell_explored
 from .results import Explored, of_profiles, with_note
 from .traversal import Traversal
 
@@ -128,6 +129,9 @@ def explore(
     `LostWork` if workers are lost. `NoRuns` if the time is over before a run has ended. `ValueError` or `TypeError` for an invalid
     argument, before the body is called: also for no runs and no subtrees. `TypeError` too for a body that hasn't run when it returns: a
     generator or a coroutine.
+
+    If standard error is a terminal, it shows there how many runs there were. After Ctrl-C it prints the counts so far and the subtrees that
+    are left; `explored` of the `KeyboardInterrupt` is what was visited.
     """
     check_body(body)
     if getattr(_running, "is_on", False):
@@ -153,12 +157,13 @@ def explore(
     until = now + seconds_of(seconds)
     show = reporter(report, asked is not None)
     try:
-        if executor is None:
-            part = visit(tree, subtrees, most, Times(until, max(until, now + FIRST_RUN), until))
-        else:
-            from .spread import visit_with
+        with interrupted_exploration() as progress:
+            if executor is None:
+                part = visit(tree, subtrees, most, Times(until, max(until, now + FIRST_RUN), until), progress)
+            else:
+                from .spread import visit_with
 
-            part = visit_with(executor, tree, subtrees, most, until)
+                part = visit_with(executor, tree, subtrees, most, until, progress)
     except Failed as failed:
         show(failed)
         raise
@@ -185,17 +190,21 @@ def _check(tree: Tree) -> None:
 def _explore_all(search: Callable[..., Explored], under: Union[str, Iterable[str]], seconds: Optional[float]) -> Explored:
     """Explores each profile, by a function that explores one."""
     paths = paths_of(under)
-    found = in_each(
-        lambda profile, share: search(profile=profile, seconds=share, under=paths[profile]),
-        paths,
-        seconds_of(seconds),
-        lambda rest: Explored(0, {}, tuple(rest)),
+    kind = Kind("explore", _summed, lambda rest: Explored(0, {}, tuple(rest)), tell_explored)
+    explored: Explored = in_each(
+        lambda profile, share: search(profile=profile, seconds=share, under=paths[profile]), paths, seconds_of(seconds), kind
     )
+    return explored
+
+
+def _summed(found: Dict[str, Any]) -> Explored:
+    """The sum of the explorations of profiles that didn't fail."""
+    explored = [each for each in found.values() if isinstance(each, Explored)]
     outcomes: Dict[Any, int] = {}
-    for each in found.values():
+    for each in explored:
         for outcome, count in each.outcomes.items():
             outcomes[outcome] = outcomes.get(outcome, 0) + count
-    runs, met = (sum(getattr(each, name) for each in found.values()) for name in ("runs", "met"))
+    runs, met = (sum(getattr(each, name) for each in explored) for name in ("runs", "met"))
     return of_profiles(Explored(runs, outcomes, tuple(rest_of(found)), met), found)
 
 
@@ -210,11 +219,17 @@ def seconds_of(seconds: Optional[float]) -> float:
     return float(seconds)
 
 
-def visit(tree: Tree, subtrees: List[str], most: int, times: Times) -> Part:
-    """Visits the leaves of subtrees until there were `most` runs, or the time is over. Raises `Failed` and `TooLong`."""
-    visitor = _Visitor(tree, times)
+def visit(tree: Tree, subtrees: List[str], most: int, times: Times, progress: Optional[Progress] = None) -> Part:
+    """Visits the leaves of subtrees until there were `most` runs, or the time is over. Raises `Failed` and `TooLong`. A `KeyboardInterrupt`
+    has the part that was visited, as `part`."""
+    visitor = _Visitor(tree, times, progress)
     for at, subtree in enumerate(subtrees):
-        rest = visitor.visit(path_of(subtree), most)
+        try:
+            rest = visitor.visit(path_of(subtree), most)
+        except _Interrupted as stopped:
+            left = stopped.rest + subtrees[at + 1 :]
+            stopped.error.part = Part(visitor.runs, visitor.outcomes, left, visitor.met, visitor.unsynced)
+            raise stopped.error from None
         if rest:
             return Part(visitor.runs, visitor.outcomes, rest + subtrees[at + 1 :], visitor.met, visitor.unsynced)
     return Part(visitor.runs, visitor.outcomes, [], visitor.met, visitor.unsynced)
@@ -224,12 +239,21 @@ class _Late(Exception):
     """The time was over in a run."""
 
 
+class _Interrupted(Exception):
+    """Ctrl-C came. `rest` are the subtrees that are left, with that of the run."""
+
+    def __init__(self, error: Any, rest: List[str]) -> None:
+        super().__init__(error, rest)
+        self.error, self.rest = error, rest
+
+
 class _Visitor:
     """Makes the runs of a tree."""
 
-    def __init__(self, tree: Tree, times: Times) -> None:
+    def __init__(self, tree: Tree, times: Times, progress: Optional[Progress]) -> None:
         self._tree = tree
         self._times = times
+        self._progress = progress
         self._room = _ROOM
         self._states: Met = {}
         self.runs = 0
@@ -240,6 +264,12 @@ class _Visitor:
     def visit(self, path: List[Choice], most: int) -> List[str]:
         """Visits the leaves below a path, depth first, and returns the subtrees that the limits left."""
         along = Traversal(path)
+        try:
+            return self._visit_along(along, path, most)
+        except KeyboardInterrupt as error:
+            raise _Interrupted(error, along.rest()) from None
+
+    def _visit_along(self, along: Traversal, path: List[Choice], most: int) -> List[str]:
         before: Optional[Run] = None
         while True:
             if self.runs >= most or (self.runs and time.monotonic() >= self._times.last):
@@ -258,6 +288,8 @@ class _Visitor:
             before = run
             if not along.advance():
                 return []
+            if self._progress is not None:
+                self._progress.show(lambda: f"{plural(self.runs, 'run')}{'' if most == MAX else f' of at most {most}'}")
 
     def _made(self, along: Traversal) -> Run:
         """Makes one run, with as many words as it takes."""

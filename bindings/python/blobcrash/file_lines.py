@@ -27,7 +27,7 @@ KINDS_AT = {
 }
 # What the arguments of each call are, in order: a path or a name, the second one, the number of the call, its first number, a file by its
 # descriptor or its path, an offset or a length, bytes, and what a rename does.
-_FORMS = {
+FORMS = {
     **dict.fromkeys(("create", "open", "open_truncated", "unlink", "mkdir", "rmdir", "listdir", "find", "fsyncdir"), "path"),
     **dict.fromkeys(("create_at", "unlink_at", "mkdir_at", "rmdir_at", "find_at"), "number path"),
     **dict.fromkeys(("close", "open_inode", "open_inode_truncated", "listdir_at", "fsyncdir_at", "inode_of"), "number"),
@@ -42,10 +42,10 @@ _FORMS = {
     "rename_at": "number path first to how",
 }
 _HOW = {"": REPLACES, "noreplace": REFUSES, "exchange": EXCHANGES}
-_SETTINGS = frozenset(("profile", "config", "keep", "space", "failed_sync", "syncs", "failed_write"))
+SETTINGS = frozenset(("profile", "config", "keep", "space", "failed_sync", "syncs", "failed_write"))
 _ESCAPED = re.compile(rb"\\x([0-9a-fA-F]{2})")
 # The calls that may change what a crash leaves.
-CHANGES = frozenset(_FORMS) - {"listdir", "listdir_at", "find", "find_at", "inode_of", "size", "read", "settle", "commit", "crash"}
+CHANGES = frozenset(FORMS) - {"listdir", "listdir_at", "find", "find_at", "inode_of", "size", "read", "settle", "commit", "crash"}
 
 
 class FileLine(NamedTuple):
@@ -63,7 +63,7 @@ class FileLine(NamedTuple):
 
 def is_setting(line: str) -> bool:
     """Whether a line is a setting."""
-    return line.split(None, 1)[0] in _SETTINGS
+    return line.split(None, 1)[0] in SETTINGS
 
 
 @lru_cache(maxsize=4096)
@@ -71,9 +71,9 @@ def file_line(line: str) -> FileLine:
     """The call of a line that is no comment and no setting. Raises `BadLine`."""
     tokens = _tokens(line)
     word, arguments = tokens[0], tokens[1:]
-    if word not in _FORMS:
+    if word not in FORMS:
         raise BadLine(f"bad call: {line}")
-    forms = _FORMS[word].split()
+    forms = FORMS[word].split()
     if forms[-1:] == ["how"] and len(arguments) == len(forms) - 1:
         arguments.append("")
     if len(arguments) != len(forms):

@@ -3,32 +3,50 @@
 from __future__ import annotations
 
 import time
-from typing import Any, Callable, Dict, Iterable, List, Optional, Union
+from typing import Any, Callable, Dict, Iterable, List, Mapping, NamedTuple, Optional, Union
 
 from .errors import NoRuns
 from .failures import Failed
 from .file_settings import PROFILES
+from .progress import Progress, in_profile
 
 # Takes a profile and its seconds, and returns what a search came to.
 Search = Callable[[str, Optional[float]], Any]
 
 
-def in_each(search: Search, profiles: Iterable[str], seconds: float, nothing: Callable[[Any], Any]) -> Dict[str, Any]:
-    """Searches in each profile, of which each has a share of the time that is left. Returns what each came to.
+class Kind(NamedTuple):
+    """A kind of search: its name, what sums what it came to in each profile, what makes the result of a part in which no run has ended, and
+    what prints a result after Ctrl-C."""
 
-    Raises `Failed` after all of them, with the first failure, if one has failed. `nothing` makes the result of one in whose time no run
-    has ended. `NoRuns` if none has in any.
+    name: str
+    sum_of: Callable[[Dict[str, Any]], Any]
+    nothing: Callable[[Any], Any]
+    tell: Callable[[Any, Progress], None]
+
+
+def in_each(search: Search, parts: Mapping[str, List[Any]], seconds: float, kind: Kind) -> Any:
+    """Searches in each profile that has a part, of which each has a share of the time that is left. Returns what they came to.
+
+    Raises `Failed` after all of them, with the first failure, if one has failed. `NoRuns` if no run has ended in any.
     """
-    until, names = time.monotonic() + seconds, tuple(profiles)
+    progress, until, names = Progress(kind.name), time.monotonic() + seconds, tuple(parts)
     found: Dict[str, Any] = {}
     for at, profile in enumerate(names):
         share = max(0.0, until - time.monotonic()) / (len(names) - at)
         try:
-            found[profile] = search(profile, None if share == float("inf") else share)
+            with in_profile(profile):
+                found[profile] = search(profile, None if share == float("inf") else share)
         except Failed as failed:
             found[profile] = failed
         except NoRuns as none:
-            found[profile] = nothing(none.rest)
+            found[profile] = kind.nothing(none.rest)
+        except KeyboardInterrupt as error:
+            interrupt: Any = error
+            found[profile] = getattr(error, "found", None) or kind.nothing(parts[profile])
+            found.update((left, kind.nothing(parts[left])) for left in names[at + 1 :])
+            interrupt.found = kind.sum_of(found)
+            kind.tell(interrupt, progress)
+            raise
     for each in found.values():
         if isinstance(each, Failed):
             first = Failed(each.path, each.script, each.reason, each.run, each.stopped, found)
@@ -36,12 +54,12 @@ def in_each(search: Search, profiles: Iterable[str], seconds: float, nothing: Ca
             raise first from each.__cause__
     if not any(each.runs for each in found.values()):
         raise NoRuns(tuple(rest_of(found)))
-    return found
+    return kind.sum_of(found)
 
 
 def rest_of(found: Dict[str, Any]) -> List[Any]:
     """What is left of each profile: seeds, each once, or paths, after the name of their profile."""
-    every = [(profile, left) for profile, each in found.items() for left in each.rest]
+    every = [(profile, left) for profile, each in found.items() if not isinstance(each, Failed) for left in each.rest]
     if all(isinstance(left, int) for _, left in every):
         return sorted({left for _, left in every})
     return [f"{profile}:{left}" for profile, left in every]

@@ -64,7 +64,8 @@ def with_note(result: _Result, met: int) -> _Result:
 def of_profiles(result: _Result, found: Mapping[str, Any]) -> _Result:
     """The sum of the results of each profile, with these."""
     result.profiles = found
-    result.unkept = next((each.unkept for each in found.values() if each.unkept), "")
+    notes = (getattr(each, "unkept", "") for each in found.values())
+    result.unkept = next((note for note in notes if note), "")
     return result
 
 

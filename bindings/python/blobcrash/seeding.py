@@ -16,7 +16,8 @@ from .file_settings import ALL, PROFILES, profile_asked, torn_unless_set
 from .file_system import Files
 from .grammar import number, number_of_branches
 from .power import PowerLoss
-from .profiles import in_each, rest_of
+from .profiles import Kind, in_each, rest_of
+from .progress import Progress, interrupted_seeds, tell_seeds
 from .results import Seeded, of_profiles, with_note
 from .shared import Shared
 from .store import Store
@@ -106,6 +107,8 @@ def seeds(
     Raises `Failed`, with a script, if the body raises: for the first such seed, or by an executor for one of them. `report` is a file
     for a page that shows it. `NoRuns` if the time is over before a run has ended, `ValueError` for no seeds. `TypeError` for a body that
     hasn't run when it returns: a generator or a coroutine.
+
+    If standard error is a terminal, it shows there how many seeds are done. After Ctrl-C it prints that, and which are left.
     """
     check_body(body)
     for name in ("seed", "words", "pushed"):
@@ -122,25 +125,32 @@ def seeds(
     asked = profile_asked(profile, files)
     if asked == ALL:
         search = partial(seeds, body, every, executor=executor, report=report, **arguments)
-        every_found = in_each(
-            lambda name, share: search(profile=name, seconds=share), PROFILES, seconds_of(seconds), lambda rest: Seeded(0, tuple(rest))
-        )
-        return of_profiles(Seeded(sum(each.runs for each in every_found.values()), tuple(rest_of(every_found))), every_found)
+        kind = Kind("seeds", _summed, lambda rest: Seeded(0, tuple(rest)), tell_seeds)
+        parts: Dict[str, List[int]] = {name: every for name in PROFILES}
+        seeded: Seeded = in_each(lambda name, share: search(profile=name, seconds=share), parts, seconds_of(seconds), kind)
+        return seeded
     now = time.monotonic()
     until = now + seconds_of(seconds)
     show = reporter(report, asked is not None)
     runs = _Runs(body, arguments, asked)
     try:
-        if executor is None:
-            made = _visit(runs, every, 0, until, max(until, now + FIRST_RUN))
-        else:
-            made = _visit_with(executor, runs, every, until)
+        with interrupted_seeds() as progress:
+            if executor is None:
+                made = _visit(runs, every, 0, until, max(until, now + FIRST_RUN), progress)
+            else:
+                made = _visit_with(executor, runs, every, until, progress)
     except Failed as failed:
         show(failed)
         raise
     if not made.runs:
         raise NoRuns(made.rest)
     return with_note(Seeded(made.runs, made.rest), made.unsynced)
+
+
+def _summed(found: Dict[str, Any]) -> Seeded:
+    """The sum of what the seeds came to in the profiles that didn't fail."""
+    runs = sum(each.runs for each in found.values() if isinstance(each, Seeded))
+    return of_profiles(Seeded(runs, tuple(rest_of(found))), found)
 
 
 class _Part(NamedTuple):
@@ -151,26 +161,41 @@ class _Part(NamedTuple):
     unsynced: int
 
 
-def _visit(runs: _Runs, every: List[int], before: int, until: float, first_until: float) -> _Part:
+def _visit(runs: _Runs, every: List[int], before: int, until: float, first_until: float, progress: Optional[Progress] = None) -> _Part:
     """Makes the run of each seed until it is too late, for the first one `first_until`. `before` is how many runs there were."""
-    unsynced = 0
-    for at, seed in enumerate(every):
-        if at and time.monotonic() >= until:
-            return _Part(at, tuple(every[at:]), unsynced)
-        with _store(runs, seed, until if at else first_until) as store:
-            try:
-                result = runs.body(store)
-            except RunEnded:
-                result = None
-            except (Exception, PowerLoss) as error:
-                if not _is_late(store):
-                    raise Failed.of(error, f"seed {seed}", store.script, before + at + 1)
-                result = None
-            if _is_late(store):
+    at = unsynced = 0
+    try:
+        for at, seed in enumerate(every):
+            if progress is not None:
+                progress.show(lambda: f"{at} of {len(every)}")
+            if at and time.monotonic() >= until:
                 return _Part(at, tuple(every[at:]), unsynced)
-            check_result(result)
-            unsynced |= store._unsynced.met
+            met = _met_by(runs, seed, before + at, until if at else first_until)
+            if met is None:
+                return _Part(at, tuple(every[at:]), unsynced)
+            unsynced |= met
+    except KeyboardInterrupt as error:
+        error.part = _Part(at, tuple(every[at:]), unsynced)  # type: ignore[attr-defined]
+        raise
     return _Part(len(every), (), unsynced)
+
+
+def _met_by(runs: _Runs, seed: int, before: int, until: float) -> Optional[int]:
+    """Makes the run of a seed. Returns what its crashes met, or nothing if it didn't end in time."""
+    with _store(runs, seed, until) as store:
+        try:
+            result = runs.body(store)
+        except RunEnded:
+            result = None
+        except (Exception, PowerLoss) as error:
+            if not _is_late(store):
+                raise Failed.of(error, f"seed {seed}", store.script, before + 1)
+            result = None
+        if _is_late(store):
+            return None
+        check_result(result)
+        met: int = store._unsynced.met
+        return met
 
 
 def _store(runs: _Runs, seed: int, until: float) -> Any:
@@ -184,24 +209,30 @@ def _is_late(store: Any) -> bool:
     return isinstance(store, _Timed) and store._bounds.is_late
 
 
-def _visit_with(executor: Any, runs: _Runs, every: List[int], until: float) -> _Part:
+def _visit_with(executor: Any, runs: _Runs, every: List[int], until: float, progress: Progress) -> _Part:
     """Makes the runs by workers."""
     from .spread import Spread
 
     spread = Spread(executor)
     chunk = min(_CHUNK, max(1, len(every) // (4 * spread.workers)))
-    done, at, rest, unsynced = 0, 0, [], 0
-    while at < len(every) or len(spread):
-        while at < len(every) and len(spread) < 2 * spread.workers and time.monotonic() < until:
-            part = every[at : at + chunk]
-            spread.submit(part, _visit_for, runs, part, at, max(0.0, until - time.monotonic()))
-            at += len(part)
-        if not len(spread):
-            break
-        for made in spread.done():
-            done += made.runs
-            rest += made.rest
-            unsynced |= made.unsynced
+    at, done, rest, unsynced = 0, 0, [], 0
+    try:
+        while at < len(every) or len(spread):
+            while at < len(every) and len(spread) < 2 * spread.workers and time.monotonic() < until:
+                part = every[at : at + chunk]
+                spread.submit(part, _visit_for, runs, part, at, max(0.0, until - time.monotonic()))
+                at += len(part)
+            if not len(spread):
+                break
+            for made in spread.done():
+                done += made.runs
+                rest += made.rest
+                unsynced |= made.unsynced
+            progress.show(lambda: f"{done} of {len(every)}")
+    except KeyboardInterrupt as error:
+        left = sorted([*rest, *spread.under_way(), *every[at:]])
+        error.part = _Part(done, tuple(left), unsynced)  # type: ignore[attr-defined]
+        raise
     rest += every[at:]
     spread.check(rest)
     return _Part(done, tuple(sorted(rest)), unsynced)

@@ -3,7 +3,8 @@
 from __future__ import annotations
 
 import re
-from typing import List, Optional
+from difflib import get_close_matches
+from typing import Iterable, List, Optional
 
 MAX = 2**64 - 1
 LAST_VERSION = 2**16 - 1
@@ -122,13 +123,20 @@ def reason_of(tokens: List[str]) -> Optional[str]:
     words = tokens[:2] if tokens[0] == "config" else tokens[:1]
     shape = _SHAPES.get(" ".join(words))
     if shape is None:
-        return _wrong(words[-1], "no such setting" if len(words) == 2 else "no such call")
+        settings = [name[7:] for name in _SHAPES if name.startswith("config ")]
+        return unknown("setting", words[1], settings) if len(words) == 2 else unknown("call", words[0], _SHAPES)
     return _wrong_arguments(words, shape, tokens[len(words) :])
 
 
 def misplaced(word: str) -> str:
     """Why a preamble line isn't one after a call."""
     return f"{shown(word)}: a preamble line precedes all calls"
+
+
+def unknown(kind: str, word: str, known: Iterable[str]) -> str:
+    """Why a word that is none of the known ones is wrong, with the one that is nearest."""
+    near = get_close_matches(word.lower(), known, 1, 0.7)
+    return _wrong(word, f"no such {kind}" + (f"; did you mean `{near[0]}`?" if near else ""))
 
 
 def _wrong_arguments(words: List[str], shape: str, arguments: List[str]) -> Optional[str]:

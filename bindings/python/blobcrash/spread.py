@@ -12,6 +12,7 @@ from typing import Any, Callable, Dict, Iterator, List, NamedTuple, Optional, Tu
 
 from .exploration import Part, Times, Tree, visit
 from .failures import Failed, Trace
+from .progress import Progress, plural
 
 # How long a worker goes on before it returns the subtrees that it has left, in seconds: at first, so that there soon are enough for all
 # workers, and then.
@@ -83,6 +84,12 @@ class Spread:
         except Exception as error:
             self._lose(part, error)
 
+    def under_way(self) -> List[Any]:
+        """What is lost with the tasks that aren't done. They are cancelled, if they haven't begun."""
+        for future in self._under_way:
+            future.cancel()
+        return [piece for part, _, _ in self._under_way.values() for piece in part]
+
     def done(self) -> Iterator[Any]:
         """Waits until tasks are done, and yields what they returned. Raises what one of them raised."""
         ready = self._ready()
@@ -139,35 +146,41 @@ def _is_unsent(error: BaseException) -> bool:
     return isinstance(error, pickle.PicklingError) or (isinstance(error, (AttributeError, TypeError)) and is_said)
 
 
-def visit_with(executor: Any, tree: Tree, subtrees: List[str], most: int, until: float) -> Part:
+def visit_with(executor: Any, tree: Tree, subtrees: List[str], most: int, until: float, progress: Progress) -> Part:
     """Visits the leaves of subtrees by workers, which return what they have left after a while, to be spread again."""
     spread = Spread(executor)
-    runs, met, unsynced, promised, waiting = 0, 0, 0, 0, list(subtrees)
+    waiting = list(subtrees)
     outcomes: Dict[Any, int] = {}
+    runs = met = unsynced = promised = 0
     length = _FIRST_SLICE
-    while waiting or len(spread):
-        while waiting and len(spread) < 2 * spread.workers:
-            left, now = most - runs - promised, time.monotonic()
-            if left <= 0 or now >= until:
+    try:
+        while waiting or len(spread):
+            while waiting and len(spread) < 2 * spread.workers:
+                left, now = most - runs - promised, time.monotonic()
+                if left <= 0 or now >= until:
+                    break
+                # The shallowest subtrees, which tend to be the largest, are given away first.
+                waiting.sort(key=len, reverse=True)
+                count = max(1, len(waiting) // (_WAITING * spread.workers))
+                part = [waiting.pop() for _ in range(count)]
+                quota = left if left < spread.workers else left // spread.workers
+                promised += quota
+                spread.submit(part, _visited, tree, part, quota, min(length, until - now), until - now)
+            if not len(spread):
                 break
-            # The shallowest subtrees, which tend to be the largest, are given away first.
-            waiting.sort(key=len, reverse=True)
-            count = max(1, len(waiting) // (_WAITING * spread.workers))
-            part = [waiting.pop() for _ in range(count)]
-            quota = left if left < spread.workers else left // spread.workers
-            promised += quota
-            spread.submit(part, _visited, tree, part, quota, min(length, until - now), until - now)
-        if not len(spread):
-            break
-        for quota, done in spread.done():
-            promised -= quota
-            runs += done.runs
-            met += done.met
-            unsynced |= done.unsynced
-            waiting += done.rest
-            for outcome, count in done.outcomes.items():
-                outcomes[outcome] = outcomes.get(outcome, 0) + count
-            length = _SLICE
+            for quota, done in spread.done():
+                promised -= quota
+                runs += done.runs
+                met += done.met
+                unsynced |= done.unsynced
+                waiting += done.rest
+                for outcome, count in done.outcomes.items():
+                    outcomes[outcome] = outcomes.get(outcome, 0) + count
+                length = _SLICE
+            progress.show(lambda: plural(runs, "run"))
+    except KeyboardInterrupt as error:
+        error.part = Part(runs, outcomes, sorted([*spread.under_way(), *waiting], key=len), met, unsynced)  # type: ignore[attr-defined]
+        raise
     spread.check(waiting)
     return Part(runs, outcomes, waiting, met, unsynced)
 

@@ -80,13 +80,14 @@ class CrashState(NamedTuple):
 class CrashStates:
     """The states that crashes leave, each once: two of one content and one list of acknowledgements are the same.
 
-    `script` is one of a store, or with `files` one of files. `at` is the only line after which there is a crash. `limit` is how many outcomes
+    `script` is one of a store, or with `files` one of files. `at` is the only line after which there is a crash, `since` the first one, as to
+    go on after an interruption. `limit` is how many outcomes
     are tried of each crash: first all kept, then each single loss, all lost, each single draw kept, then the others. With `whole` each
     write is kept or lost as a whole. With `proved` the states of each crash are those that the program `blobcrash states` prints, of which it
     is proved that none is missing. They come in its order: depth first.
 
     Iterating yields each `CrashState`. Meanwhile `crashes` counts the places of a crash, `outcomes` the crashes that were made, `states` the
-    states, and `complete` is whether no limit was reached. Raises `BadLine` for a line that is no call, and `ValueError` for `proved` with
+    states, and `complete` is whether no limit was reached; `places` is how many places there are, and `line` is that of the last. Raises `BadLine` for a line that is no call, and `ValueError` for `proved` with
     `files` or `limit`, and if there is no crash after the line `at`.
     """
 
@@ -99,6 +100,7 @@ class CrashStates:
         limit: Optional[int] = None,
         whole: bool = False,
         proved: bool = False,
+        since: int = 0,
     ) -> None:
         if proved and (files or limit is not None):
             raise ValueError("the program finds the states of a store, and all of them")
@@ -107,7 +109,9 @@ class CrashStates:
         self._way: Any = ReplayedFiles if files else ReplayedStore
         self._is_files = bool(files)
         self._lines = [_whole(line) for line in self._parts.rest] if whole else self._parts.rest
-        self._at, self._limit = at, limit
+        self._at, self._limit, self._since = at, limit, since
+        # How many places of a crash there are, and the line of the present one.
+        self.places, self.line = 0, since
         self.crashes = self.outcomes = self.states = 0
         self.complete = True
 
@@ -120,7 +124,10 @@ class CrashStates:
         self.complete = True
         words = self._recorded_words()
         seen: Set[Any] = set()
-        for line in self._places():
+        places = self._places()
+        self.places = len(places)
+        for self.line in places:
+            line = self.line
             self.crashes += 1
             acknowledged = tuple(text[len(_ACKNOWLEDGED) :] for text in self._lines[:line] if text.startswith(_ACKNOWLEDGED))
             crash = _Crash(self, words, line)
@@ -138,7 +145,7 @@ class CrashStates:
             if line.startswith(_ACKNOWLEDGED) or (not line.startswith("#") and self._way.changes(line)):
                 places.append(number)
         if self._at is None:
-            return places
+            return [line for line in places if line >= self._since]
         if self._at not in places:
             shown = " ".join(map(str, places[:20])) + (" .." if len(places) > 20 else "")
             raise ValueError(f"there is no crash after line {self._at}: there are crashes after the lines {shown}")

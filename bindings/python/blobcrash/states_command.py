@@ -6,18 +6,20 @@ once, CHECK is run: it exits with 0 if all is well. `docs/GUIDE.md` has an examp
 
   --files        SCRIPT is a script of files
   --at LINE      only a crash after this line, of those that aren't empty, `words` or `seed`
+  --since LINE   only crashes after this line and later ones, to go on after an interruption
   --limit N      at most N outcomes of each crash: first none lost, each single loss, all lost, each single draw kept
   --whole        each write is kept or lost as a whole
   --proved       the states are those that `blobcrash states` prints: of a store, and without --limit
   --jobs N       how many checks run at once (1)
   --out FOLDER   where failures are kept (out/states): the script, which ends with the crash, and the state
+  --json         prints JSON, an object a line
 
 CHECK finds in its environment: STATE, a folder with the state as plain files (of a store PARTITION/NAME, the name in hex, each with its
 header), which it may change; SCRIPT, the script up to the crash; ACKNOWLEDGED, a file with the texts of the comments `# acknowledged ..`
 before it, a line each.
 
 Exit statuses: 0 if every check does; 1 if one fails; 2 if the script or the command line is bad, as when LINE is none after which a crash
-is put; 3 without memory.
+is put; 3 without memory; 130 after Ctrl-C, with the counts so far. A terminal shows how far it is.
 """
 
 from __future__ import annotations
@@ -31,7 +33,9 @@ import tempfile
 from concurrent.futures import FIRST_COMPLETED, Future, ThreadPoolExecutor, wait
 from typing import Dict, List, Set
 
+from .as_json import line_of_json
 from .errors import LibraryMissing
+from .progress import Progress
 from .states import CrashState, CrashStates
 
 # A folder in memory, if there is one.
@@ -53,9 +57,10 @@ def check_state(state: CrashState, command: List[str], folder: str) -> int:
 class _Checks:
     """The checks that are under way, and the failures."""
 
-    def __init__(self, command: List[str], out: str, jobs: int, work: str) -> None:
-        self._command, self._out, self._jobs, self._work = command, out, jobs, work
-        self._executor = ThreadPoolExecutor(jobs)
+    def __init__(self, command: List[str], options: argparse.Namespace, work: str, progress: Progress) -> None:
+        self._command, self._out, self._jobs, self._work = command, options.out, options.jobs, work
+        self._is_json, self._progress = options.json, progress
+        self._executor = ThreadPoolExecutor(options.jobs)
         self._under_way: Dict["Future[int]", CrashState] = {}
         self._count = 0
         self.failures = 0
@@ -67,6 +72,10 @@ class _Checks:
         self._count += 1
         folder = os.path.join(self._work, str(self._count))
         self._under_way[self._executor.submit(self._checked, state, folder)] = state
+
+    def first_line(self, line: int) -> int:
+        """The least line of a crash of which a check is under way, or this one."""
+        return min([line, *(state.line for state in self._under_way.values())])
 
     def end(self) -> None:
         """Waits for all checks."""
@@ -94,7 +103,11 @@ class _Checks:
         state.write_to(os.path.join(kept, "state"))
         with open(os.path.join(kept, "script"), "w", encoding="utf-8") as file:
             file.write(state.script)
-        print(f"crash after line {state.line}: the check exits with {status}: {kept}", flush=True)
+        self._progress.clear()
+        if self._is_json:
+            print(line_of_json({"line": state.line, "status": status, "kept": kept}), end="", flush=True)
+        else:
+            print(f"crash after line {state.line}: the check exits with {status}: {kept}", flush=True)
 
 
 def states_command(arguments: List[str]) -> int:
@@ -105,9 +118,9 @@ def states_command(arguments: List[str]) -> int:
         arguments = [*arguments, "--"]
     at = arguments.index("--")
     own, command = arguments[:at], arguments[at + 1 :]
-    for name in ("--files", "--whole", "--proved"):
+    for name in ("--files", "--whole", "--proved", "--json"):
         parser.add_argument(name, action="store_true", help=argparse.SUPPRESS)
-    for name, default in (("--at", None), ("--limit", None), ("--jobs", 1)):
+    for name, default in (("--at", None), ("--since", 0), ("--limit", None), ("--jobs", 1)):
         parser.add_argument(name, type=int, default=default, help=argparse.SUPPRESS)
     parser.add_argument("--out", default=os.path.join("out", "states"), help=argparse.SUPPRESS)
     parser.add_argument("script", help=argparse.SUPPRESS)
@@ -129,11 +142,27 @@ def states_command(arguments: List[str]) -> int:
 
 
 def _run(script: str, options: argparse.Namespace, command: List[str]) -> int:
-    states = CrashStates(script, files=options.files, at=options.at, limit=options.limit, whole=options.whole, proved=options.proved)
+    of = {"files": options.files, "at": options.at, "limit": options.limit, "whole": options.whole, "proved": options.proved}
+    states, progress = CrashStates(script, since=options.since, **of), Progress("states")
     with tempfile.TemporaryDirectory(dir=_IN_MEMORY if os.path.isdir(_IN_MEMORY) else None) as work:
-        checks = _Checks(command, options.out, options.jobs, work)
-        for state in states:
-            checks.add(state)
-        checks.end()
-    print(f"{states}; {checks.failures} fail")
+        checks = _Checks(command, options, work, progress)
+
+        def so_far() -> str:
+            return f"crash {states.crashes} of {states.places}, {states.states} states, {checks.failures} fail"
+
+        try:
+            for state in states:
+                checks.add(state)
+                progress.show(so_far)
+            checks.end()
+        except KeyboardInterrupt:
+            again = f"--since {checks.first_line(states.line)}"
+            progress.tell(f"interrupted after {progress.seconds} s: {so_far()}. To go on: {again}")
+            return 130
+    progress.clear()
+    if options.json:
+        counts = {"crashes": states.crashes, "outcomes": states.outcomes, "states": states.states, "complete": states.complete}
+        print(line_of_json({**counts, "fail": checks.failures}), end="")
+    else:
+        print(f"{states}; {checks.failures} fail")
     return int(checks.failures > 0)

@@ -14,6 +14,7 @@ The status is that of the run, or 2 if there is no page: standard error has the 
 import os
 import subprocess
 import sys
+from difflib import get_close_matches
 
 from .chart import table
 from .explored import exploration
@@ -53,7 +54,7 @@ def by_library(script):
 
 
 def options_of(arguments):
-    """The options by their names; None if they are no options."""
+    """The options by their names. A ValueError names the word that is none."""
     options, left = {"--title": "What a crash left"}, list(arguments)
     while left:
         name = left.pop(0)
@@ -61,16 +62,20 @@ def options_of(arguments):
             options[name] = True
         elif name in ("--title", "--explored", "--fails") and left:
             options[name] = left.pop(0)
+        elif name in ("--title", "--explored", "--fails"):
+            raise ValueError(f"`{name}` needs an argument")
         else:
-            return None
+            near = get_close_matches(name, ("--picture", "--chart", "--title", "--explored", "--fails"), 1)
+            raise ValueError(f"there is no option `{name}`" + (f": did you mean `{near[0]}`?" if near else ""))
     return options
 
 
 def main(arguments):
-    options = options_of(arguments)
-    is_help = arguments == ["--help"]
-    if options is None and not is_help:
-        sys.stderr.write(USAGE)
+    is_help = arguments in (["--help"], ["-h"])
+    try:
+        options = {} if is_help else options_of(arguments)
+    except ValueError as error:
+        sys.stderr.write(f"crash_page: {error}\n{USAGE}")
         return 2
     try:
         if is_help:

@@ -10,6 +10,7 @@ mod outcomes;
 mod picture;
 mod remarks;
 mod rows;
+mod unkept;
 mod watch;
 
 pub use explain::explain_script;

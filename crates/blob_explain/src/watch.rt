@@ -7,6 +7,7 @@ use crate::outcomes::{
     push_failed_sync, push_failed_write, push_resize, push_stale_write, push_unsynced_write,
 };
 use crate::picture::draw;
+use crate::unkept::Unkept;
 use blob_base::Error;
 use blob_draws::faults::{WriteFate, retained};
 use blob_draws::runs::Span;
@@ -26,6 +27,7 @@ pub(crate) struct Watch {
     config: Config,
     handles: Handles,
     bases: Bases,
+    unkept: Unkept,
     /// Of the call that has no reply yet.
     ahead: Ahead,
     pub(crate) texts: Vec<String>,
@@ -86,6 +88,7 @@ impl Watch {
             config: Config::default(),
             handles: Handles::new(alloc),
             bases: Bases::new(alloc),
+            unkept: Unkept::new(alloc),
             ahead: Ahead::nothing(alloc),
             texts: Vec::new(alloc),
         }
@@ -128,7 +131,81 @@ impl Watch {
             files,
         };
         self.note(lab.wrapper(), &step)?;
-        self.text(lab.wrapper(), &step)
+        self.note_unkept(&step)?;
+        let text = self.text(lab.wrapper(), &step)?;
+        if let Call::Crash | Call::Reopen = call {
+            self.unkept.forget_all(None);
+        }
+        Ok(text)
+    }
+
+    /// Notes a write that no crash keeps, and forgets those that a call made durable or removed.
+    fn note_unkept(&mut self, step: &Step) -> Result<(), Error> {
+        match step.call {
+            Call::Write { handle, .. } => self.note_unkept_write(*handle, step),
+            Call::Sync(handle) => {
+                if let Reply::Done = step.reply {
+                    self.forget_unkept(*handle);
+                }
+                Ok(())
+            }
+            Call::StartSync(handle) => {
+                if let Drawn::Sync(false) = step.drawn {
+                    self.forget_unkept(*handle);
+                }
+                Ok(())
+            }
+            Call::Remove { partition, name } => {
+                if let Reply::Done = step.reply {
+                    match name {
+                        None => self.unkept.forget_all(Some(partition.as_str())),
+                        Some(name) => self.unkept.forget(partition, name, 0, u64::MAX),
+                    }
+                }
+                Ok(())
+            }
+            _ => Ok(()),
+        }
+    }
+
+    fn note_unkept_write(&mut self, handle: usize, step: &Step) -> Result<(), Error> {
+        let alloc = self.alloc;
+        let Some(opened) = self.handles.get(handle) else {
+            return Ok(());
+        };
+        if opened.is_stale {
+            return Ok(());
+        }
+        for (start, bytes) in durable_ranges(alloc, step)? {
+            let end = start.saturating_add(bytes.len() as u64);
+            self.unkept
+                .forget(&opened.partition, &opened.name, start, end);
+        }
+        if let Call::Write {
+            offset,
+            bytes,
+            sync,
+            ..
+        } = step.call
+        {
+            if is_unsynced(step, *sync)
+                && retained(self.config.write_rate).is_none()
+                && !bytes.is_empty()
+            {
+                let end = offset.saturating_add(bytes.len() as u64);
+                self.unkept
+                    .add(alloc, &opened.partition, &opened.name, (*offset, end))?;
+            }
+        }
+        Ok(())
+    }
+
+    /// Forgets the writes of a handle's blob, which a sync made durable.
+    fn forget_unkept(&mut self, handle: usize) {
+        if let Some(opened) = self.handles.get(handle) {
+            self.unkept
+                .forget(&opened.partition, &opened.name, 0, u64::MAX);
+        }
     }
 
     /// Returns the durable bytes before a write that keeps bytes although it fails; no bytes for any other call.
@@ -185,7 +262,10 @@ impl Watch {
         let alloc = self.alloc;
         let mut text = String::new(alloc);
         match step.call {
-            Call::Crash => push_crash(wrapper, &step.files, &mut text)?,
+            Call::Crash => {
+                push_crash(wrapper, &step.files, &mut text)?;
+                self.unkept.push_lost(&mut text)?;
+            }
             Call::Resize { handle, len } => {
                 self.push_resize(*handle, *len, step.reply, &step.drawn, &mut text)?
             }
@@ -302,6 +382,15 @@ impl Watch {
             }
         }
         Ok(())
+    }
+}
+
+/// Whether a write is live and not durable: a plain one, or one whose sync failed.
+fn is_unsynced(step: &Step, sync: bool) -> bool {
+    match (step.reply, &step.drawn) {
+        (Reply::Done, _) => !sync,
+        (Reply::Failed(error), Drawn::Write(WriteFate::Unsynced)) => is_injected(error),
+        _ => false,
     }
 }
 
