@@ -14,7 +14,7 @@ from .results import Explored, Seeded, with_note
 
 # After how many seconds the line is first shown, and again.
 _FIRST, _EVERY = 1.0, 0.2
-# Has the profile whose search is under way, of a search in all profiles.
+# Its `profile` is the one that is being searched, in a search of all profiles.
 _now = threading.local()
 
 
@@ -57,7 +57,7 @@ class Progress:
 
 @contextmanager
 def in_profile(profile: str) -> Iterator[None]:
-    """Makes the searches inside part of one in all profiles, which tells what was interrupted."""
+    """Makes the searches inside part of one in all profiles, which reports what was interrupted."""
     before, _now.profile = getattr(_now, "profile", None), profile
     try:
         yield
