@@ -94,10 +94,11 @@ class Spread:
         """Waits until tasks are done, and yields what they returned. Raises what one of them raised."""
         ready = self._ready()
         for future in ready:
-            part, again, task = self._under_way.pop(future)
+            part, again, task = self._under_way[future]
             try:
                 result = future.result()
             except Exception as error:
+                del self._under_way[future]
                 if again or _is_unsent(error):
                     self._lose(part, error)
                 else:
@@ -111,6 +112,8 @@ class Spread:
                     result.error.cause = trace
                 raise result.error from trace
             yield result.done
+            # Only now its result is counted: an interrupt before that leaves its part among those that are under way.
+            del self._under_way[future]
 
     def check(self, waiting: List[Any]) -> None:
         """Raises `LostWork` if anything is lost, with what waits still."""
