@@ -113,7 +113,7 @@ done
 ok 'that of the mount has the mount' grep -q '/blobcrash_mount$' "$work/parts/blobcrash-mount.files"
 ok 'that of the programs has none of it' sh -c '! grep -q "_mount$\|/mount$\|/mountctl$\|/crash_run$\|adapters" "$1"' sh "$work/parts/blobcrash.files"
 ok 'it has the tools in Python' sh -c 'grep -q "/tools/watch$" "$1" && grep -q "/blobcrash/states\.py$" "$1"' sh "$work/parts/blobcrash.files"
-ok 'and needs glibc 2.17, the library and Python' grep -qx 'Depends: libblobcrash0.3 (= .*), libc6 (>= 2\.17), python3:any (>= 3\.8)' "$work/parts/blobcrash.control"
+ok 'and needs the library and Python' grep -qx 'Depends: libblobcrash0.3 (= .*), libc6 (>= 2\.[0-9]*), python3:any (>= 3\.8)' "$work/parts/blobcrash.control"
 dpkg-deb -x "$released"/blobcrash_*.deb "$work/only"
 "$work/only/usr/bin/blobcrash" mount "$work/parts" >"$work/out" 2>&1
 ok 'without the mount' [ "$?:$(cat "$work/out")" = "127:blobcrash: the mount isn't installed (the package blobcrash-mount of a release)" ]
@@ -181,7 +181,7 @@ if objdump -T "$program" | grep -q '(GLIBC_2\.34)'; then
     leave_out 'the C library that the program needs: the gate took it from an earlier run'
 else
     ok 'the C library that the program needs' needs_old "$program"
-    ok 'its package needs no newer one, and no Python' grep -Eqx 'Depends: libc6 \(>= 2\.([0-9]|1[0-7])\)' "$work/parts/blobcrash.control"
+    ok 'its package needs no newer one' grep -Eq 'libc6 \(>= 2\.([0-9]|1[0-7])\)' "$work/parts/blobcrash.control"
 fi
 if has qemu-x86_64; then
     for processor in Nehalem:0 Conroe:127; do
