@@ -72,7 +72,10 @@ for sanitize in '' '-g -fsanitize=address,undefined'; do
 done
 python=$(with_distributed)
 export PYTHONDONTWRITEBYTECODE=1
-add "$python" "$top/tests/explore_bodies.py"
+# Before 3.11.5 a ProcessPoolExecutor of Python may wait for ever: only Dask's test runs by the Python that has Dask.
+# shellcheck disable=SC2046
+add python3 "$top/tests/explore_bodies.py" $(sed -n 's/^def \(test_[a-z_]*\)().*/\1/p' "$top/tests/explore_bodies.py" | grep -vx test_dask)
+add "$python" "$top/tests/explore_bodies.py" test_dask
 add "$python" "$top/tests/explore_bounds.py"
 add "$python" "$top/tests/explore_met.py"
 add "$python" "$top/tests/explore_log.py"
