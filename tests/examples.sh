@@ -60,10 +60,10 @@ ok 'the script is as short as by hand' [ "$(grep -c . "$work/short")" -eq 5 ]
 ok 'its choices are fixed' sh -c '! grep -q "^seed" "$1"' sh "$work/short"
 ok 'its replies are shown' grep -q '^crashed' "$work/broken"
 
-# By hand: without a sync the crash draws for the new name and the rename, and except on ext4, where the rename writes them, for the
-# bytes. After one it draws for the rename, and on POSIX for the new name.
+# By hand: without a sync the bytes may be lost, so that the file is empty, or has zeros: dbm.dumb can't read an index with zeros. After a
+# sync the crash draws for the rename, and on POSIX for the new name.
 cat >"$work/unmodified" <<'OUTCOMES'
-replaces, ext4: 4 runs, all of them
+replaces, ext4: run N fails: JSONDecodeError: Expecting value: line 1 column 1 (char 0)
 replaces, xfs: run N fails: JSONDecodeError: Expecting value: line 1 column 1 (char 0)
 replaces, btrfs: run N fails: JSONDecodeError: Expecting value: line 1 column 1 (char 0)
 replaces, posix: run N fails: JSONDecodeError: Expecting value: line 1 column 1 (char 0)
@@ -71,12 +71,12 @@ replaces_synced, ext4: 2 runs, all of them
 replaces_synced, xfs: 2 runs, all of them
 replaces_synced, btrfs: 2 runs, all of them
 replaces_synced, posix: 4 runs, all of them
-adds_a_key, ext4: run N fails: AssertionError: a durable key is lost
+adds_a_key, ext4: run N fails: null bytes
 adds_a_key, xfs: run N fails: AssertionError: a durable key is lost
-adds_a_key, btrfs: run N fails: AssertionError: a durable key is lost
-adds_a_key, posix: run N fails: AssertionError: a durable key is lost
+adds_a_key, btrfs: run N fails: null bytes
+adds_a_key, posix: run N fails: null bytes
 OUTCOMES
-python3 "$top/examples/patched_save.py" 2>"$work/err" | sed 's/run [0-9]* fails/run N fails/' >"$work/out"
+python3 "$top/examples/patched_save.py" 2>"$work/err" | sed 's/run [0-9]* fails/run N fails/; s/[A-Za-z]*: source code string cannot contain //' >"$work/out"
 ok 'unmodified code in Python' diff "$work/unmodified" "$work/out"
 
 # nodes NAME COMMAND..: replicated nodes keep their promises, in as many runs as those in Python. With a vote that isn't synced both

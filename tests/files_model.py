@@ -14,6 +14,7 @@ from blobcrash.foreign_files import IS_DIRECTORY, IS_FILE, REFUSALS
 
 STATUSES = {refusal.name: status for status, refusal in REFUSALS.items()}
 NEVER = (0, 1)
+PAGE = 4096
 
 
 class Profile(NamedTuple):
@@ -21,15 +22,16 @@ class Profile(NamedTuple):
 
     keeps_a_prefix: bool
     settles: str
-    cuts: bool
     flushes: bool
+    zeros: bool
+    pages: bool
 
 
 PROFILES = {
-    "ext4": Profile(True, "up to its last change", True, True),
-    "xfs": Profile(True, "up to its last", False, False),
-    "btrfs": Profile(True, "its names", False, False),
-    "posix": Profile(False, "its own", False, False),
+    "ext4": Profile(True, "up to its last or size", True, True, True),
+    "xfs": Profile(True, "up to its last", False, False, True),
+    "btrfs": Profile(True, "its names", False, True, False),
+    "posix": Profile(False, "its own", False, True, True),
 }
 
 
@@ -48,15 +50,20 @@ class Truncation(NamedTuple):
     edit: int
 
 
+class Flush(NamedTuple):
+    """A rename over a name that flushed a file, by the number of its edit, and the length of the file then."""
+
+    length: int
+    edit: int
+
+
 class File:
-    """A file: what it has, what is durable, and the writes and truncations since, in order."""
+    """A file: what it has, what is durable, and the writes, truncations and flushes since, in order."""
 
     def __init__(self):
         self.live, self.durable, self.pending = b"", b"", []
-        self.synced = 0
-        # The number of the next edit at its last write, and at the last one by which it grew.
-        self.written = self.grown = 0
-        self.is_truncated = False
+        # The number of the next edit after its size last changed. Its creation is a change of its size.
+        self.sized = 0
         # What reads return in place of the live bytes, after a failed sync that dropped some.
         self.shown = None
 
@@ -70,7 +77,7 @@ class File:
 
     def flush(self):
         """Makes its bytes durable."""
-        self.durable, self.pending, self.synced, self.is_truncated = self.live, [], len(self.live), False
+        self.durable, self.pending = self.live, []
 
 
 def resized(data, length):
@@ -83,7 +90,7 @@ def written(data, offset, added):
 
 
 class Model(Names):
-    """Files by the rules. Of the settings it takes those of writes in sectors, of resizes and syncs, `keep`, `failed_sync` and `syncs`."""
+    """Files by the rules. Of the settings it takes those of writes in sectors, of resizes and syncs, `edits`, `keep`, `failed_sync` and `syncs`."""
 
     def __init__(self, preamble):
         super().__init__()
@@ -103,6 +110,8 @@ class Model(Names):
             self.words = [int(word) for word in tokens[1:]]
         elif tokens[:1] == ["profile"]:
             self.profile = PROFILES[tokens[1]]
+        elif tokens[:1] == ["edits"]:
+            self.profile = self.profile._replace(keeps_a_prefix=tokens[1] == "prefix")
         elif tokens[:1] == ["keep"]:
             self.keep = (int(tokens[1]), int(tokens[2]))
         elif tokens[:2] == ["config", "resize"]:
@@ -118,7 +127,7 @@ class Model(Names):
         elif tokens:
             raise ValueError(tokens)
 
-    def call(self, asked):
+    def apply(self, asked):
         try:
             reply = getattr(self, asked.word)(asked)
         except Refused as refused:
@@ -130,9 +139,7 @@ class Model(Names):
     def close(self, asked=None):
         """Closes a file, or at the end the model."""
         if asked is not None:
-            file = self.files[self.inode_of(asked)]
-            if self.profile.flushes and file.is_truncated and not self.lies:
-                file.flush()
+            self.inode_of(asked)
             self.opened.pop(asked.number)
 
     def let_go(self):
@@ -162,14 +169,16 @@ class Model(Names):
 
     # Bytes.
 
-    def replace_bytes(self, inode):
-        """Comes before a file replaces another one."""
+    def before_replacing(self, inode):
+        """Comes before the edit by which a file replaces another one."""
         if self.profile.flushes and not self.lies:
-            self.files[inode].flush()
+            file = self.files[inode]
+            file.pending.append(Flush(len(file.live), self.next_edit))
 
     def create(self, asked):
         inode, _ = self.new(asked.path, IS_FILE)
         self.files[inode] = File()
+        self.files[inode].sized = self.next_edit
         return self.opening(inode)
 
     def open(self, asked):
@@ -186,7 +195,6 @@ class Model(Names):
         except Refused:
             self.close(found)
             raise
-        self.files[inode].is_truncated = True
         return found
 
     def find(self, asked):
@@ -214,13 +222,20 @@ class Model(Names):
     def write(self, asked):
         file = self.files[self.inode_of(asked)]
         before = len(file.seen())
-        file.live, file.written = written(file.live, asked.first, asked.path), self.next_edit
+        if self.profile.zeros and asked.path:
+            self.write_zeros(file, len(file.live), asked.first + len(asked.path))
+        if asked.path and self.retention[0]:
+            file.pending.append(Write(asked.first, asked.path, self.retention))
+        file.live = written(file.live, asked.first, asked.path)
         if file.shown is not None:
             file.shown = written(file.shown, asked.first, asked.path)
         if len(file.seen()) > before:
-            file.grown = self.next_edit
-        if asked.path and self.retention[0]:
-            file.pending.append(Write(asked.first, asked.path, self.retention))
+            file.sized = self.next_edit
+
+    def write_zeros(self, file, start, end):
+        """Adds a write of zeros, which calls don't see: the new part of a longer file, or the rest of a page that is cut."""
+        if start < end and self.retention[0]:
+            file.pending.append(Write(start, bytes(end - start), self.retention))
 
     def truncate(self, asked):
         self.resize(self.inode_of(asked), asked.first)
@@ -235,9 +250,11 @@ class Model(Names):
             length = self.draw_between(length, len(file.seen()))
         if length == len(file.seen()):
             return
+        if self.profile.pages:
+            self.write_zeros(file, length, min(len(file.seen()), length + -length % PAGE))
         file.pending.append(Truncation(length, self.next_edit))
         self.bind([], [inode], [inode])
-        file.live = resized(file.live, length)
+        file.live, file.sized = resized(file.live, length), self.next_edit
         if file.shown is not None:
             file.shown = resized(file.shown, length)
         if fails:
@@ -262,17 +279,21 @@ class Model(Names):
     def unsettled(self):
         return [edit for edit in self.edits if edit.number not in self.settled]
 
-    def after_last(self, inode):
-        """The number after that of the last unsettled edit that is about an inode, or in a directory."""
-        return max((edit.number + 1 for edit in self.unsettled() if inode in edit.inodes + edit.directories), default=0)
+    def after_last(self, inode, data=False):
+        """The number after that of the last unsettled edit that is about an inode, or in a directory. A sync of `data` leaves out exchanges."""
+        edits = [edit for edit in self.unsettled() if not (data and len(edit.inodes) == 2)]
+        return max((edit.number + 1 for edit in edits if inode in edit.inodes + edit.directories), default=0)
 
     def settle_names(self, inode):
-        """Settles the edits of an inode's names and, upward, of the directories that have them."""
-        for edit in self.unsettled():
-            if inode in edit.inodes and edit.number not in self.settled:
-                self.settled.add(edit.number)
-                for directory in edit.directories:
-                    self.settle_names(directory)
+        """Settles the edits of an inode's names and, upward, of the new directories that have them."""
+        edits, above, left = self.unsettled(), {inode}, [inode]
+        # A move is in two directories.
+        new = {edit.inodes[0] for edit in edits if len(edit.inodes) == len(edit.directories) == 1}
+        while left:
+            inode = left.pop()
+            found = {directory for edit in edits if inode in edit.inodes for directory in edit.directories} & new - above
+            above, left = above | found, left + sorted(found)
+        self.settle_where(lambda edit: above & set(edit.inodes))
 
     def fsync(self, asked, data=False):
         inode = self.inode_of(asked)
@@ -280,10 +301,10 @@ class Model(Names):
         if self.lies:
             return
         self.sync_bytes(file)
-        if self.profile.settles == "up to its last change" and not data:
-            self.settle_before(max(self.after_last(inode), file.written))
+        if self.profile.settles == "up to its last or size" and data:
+            self.settle_before(file.sized)
         elif self.profile.settles.startswith("up to its last"):
-            self.settle_before(max(self.after_last(inode), file.grown))
+            self.settle_before(max(self.after_last(inode, data), file.sized))
         elif self.profile.settles == "its names":
             self.settle_names(inode)
         elif self.profile.settles == "its own":
@@ -300,11 +321,11 @@ class Model(Names):
     def fdatasync(self, asked):
         self.fsync(asked, data=True)
 
-    def fsync_directory(self, asked):
+    def fsyncdir(self, asked):
         directory = self.directory_of(asked.path)
         if self.lies:
             return
-        if self.profile.settles == "up to its last change":
+        if self.profile.settles == "up to its last or size":
             self.settle_where(lambda edit: True)
         elif self.profile.settles == "up to its last":
             self.settle_before(self.after_last(directory))
@@ -360,22 +381,17 @@ class Model(Names):
         return kept
 
     def crash_bytes(self, file, kept):
-        """Leaves the durable bytes of a file with what is kept of its writes and truncations, and cuts it if the profile does."""
-        # The size from which it is cut: that of its last sync, or of its last truncation that is kept.
-        data, sure = file.durable, file.synced
+        """Leaves the durable bytes of a file with what is kept of its writes, truncations and flushes."""
+        data = file.durable
         for change in file.pending:
             if isinstance(change, Write):
                 data = self.with_kept(data, change)
             elif change.edit in kept:
-                data, sure = resized(data, change.length), change.length
-        if self.profile.cuts and len(data) > sure:
-            end = sure
-            while end < min(len(data), len(file.live)) and data[end] == file.live[end]:
-                end += 1
-            data = data[:end]
+                least = len(data) if isinstance(change, Flush) else 0
+                data = resized(data, max(least, change.length))
         file.live, file.shown = data, None
         file.flush()
-        file.written = file.grown = 0
+        file.sized = 0
 
     def with_kept(self, data, write):
         """Data with the sectors of a write that a crash keeps."""

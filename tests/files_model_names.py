@@ -141,14 +141,14 @@ class Names:
         self.put_below(moved, new[0])
 
     def replace(self, moved, there):
-        """Checks that one file or empty directory may replace another. The bytes of a file may be made durable first."""
+        """Checks that one file or empty directory may replace another."""
         if moved[1] != there[1]:
             raise Refused("IsDirectory" if there[1] == IS_DIRECTORY else "NotDirectory")
         if there[1] == IS_DIRECTORY:
             self.check_empty(there[0])
             del self.directories[there[0]]
         else:
-            self.replace_bytes(moved[0])
+            self.before_replacing(moved[0])
 
     def put_below(self, binding, directory):
         if binding[1] == IS_DIRECTORY:

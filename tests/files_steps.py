@@ -1,5 +1,5 @@
-"""The steps of the programs in docs/FILES.md, as calls on files: on those of the library (tests/files_litmus.py), or on those of a real
-file system (tests/realfs.py)."""
+"""The steps of the programs in docs/FILES.md, as calls on files: on those of the library (tests/files_litmus.py), on those of a real file
+system, or as lines of a script (tests/calibrating)."""
 
 import re
 
@@ -7,17 +7,25 @@ FORMS = (
     (r"(\S+) = (\w+)", lambda steps, path, letters: steps.put(path, "xb", letters)),
     (r"append (\w+) to (\S+)", lambda steps, letters, path: steps.put(path, "ab", letters)),
     (r"write (\w+) to (\S+)", lambda steps, letters, path: steps.put(path, "r+b", letters)),
+    (r"write (\w+) to (\S+) at (\d+)", lambda steps, letters, path, at: steps.put(path, "r+b", letters, int(at))),
+    (r"map (\w+) to (\S+) at (\d+)", lambda steps, letters, path, at: steps.map(path, letters, int(at))),
     (r"rewrite (\S+) (\w+)", lambda steps, path, letters: steps.put(path, "wb", letters)),
+    (r"empty (\S+)", lambda steps, path: steps.put(path, "wb", "")),
     (r"truncate (\S+) to (\w+)", lambda steps, path, letters: steps.truncate(path, letters)),
+    (r"truncate (\S+)", lambda steps, path: steps.truncate(path, "")),
+    (r"allocate (\S+) to (\w+)", lambda steps, path, letters: steps.allocate(path, letters)),
     (r"create (\S+)", lambda steps, path: steps.put(path, "xb", "")),
     (r"mkdir (\S+)", lambda steps, path: steps.files.mkdir(path)),
+    (r"rmdir (\S+)", lambda steps, path: steps.files.rmdir(path)),
     (r"rename (\S+) (\S+)", lambda steps, old, new: steps.files.rename(old, new)),
     (r"exchange (\S+) (\S+)", lambda steps, one, other: steps.files.exchange(one, other)),
     (r"link (\S+) (\S+)", lambda steps, old, new: steps.files.link(old, new)),
     (r"unlink (\S+)", lambda steps, path: steps.files.unlink(path)),
     (r"fsync (\S+)", lambda steps, path: steps.sync(path)),
     (r"fdatasync (\S+)", lambda steps, path: steps.sync(path, data=True)),
+    (r"sync", lambda steps: steps.files.sync()),
 )
+FORMS = tuple((re.compile(form), act) for form, act in FORMS)
 
 
 def parted(text, by):
@@ -34,19 +42,35 @@ class Steps:
     def make(self, text):
         """Makes the calls of a step."""
         for form, act in FORMS:
-            found = re.fullmatch(form, text)
+            found = form.fullmatch(text)
             if found:
                 return act(self, *found.groups())
         raise ValueError(f"{text!r} is no step")
 
-    def put(self, path, mode, letters):
+    def bytes_of(self, letters):
+        return b"".join((b"\0" if letter == "0" else letter.encode()) * self.size for letter in letters)
+
+    def put(self, path, mode, letters, at=0):
         with self.files.open(path, mode) as file:
-            file.write(b"".join((b"\0" if letter == "0" else letter.encode()) * self.size for letter in letters))
+            if at:
+                file.seek(at * self.size)
+            if letters:
+                file.write(self.bytes_of(letters))
 
     def truncate(self, path, letters):
         """Truncates a file to as many letters as these are."""
         with self.files.open(path, "r+b") as file:
             file.truncate(self.size * len(letters))
+
+    def allocate(self, path, letters):
+        """Allocates as many letters as these are, by fallocate."""
+        with self.files.open(path, "r+b") as file:
+            file.allocate(self.size * len(letters))
+
+    def map(self, path, letters, at):
+        """Writes through a map, and syncs all of it by msync."""
+        with self.files.open(path, "r+b") as file:
+            file.map_and_write(at * self.size, self.bytes_of(letters))
 
     def sync(self, path, data=False):
         if self.files.stat(path).kind == "directory":

@@ -122,14 +122,16 @@ def test_where_a_crash_kept_bytes():
         f, g = files.stat("/f").inode, files.stat("/g").inode
         kept = files.crash()
         places = [(place, digits) for place, (_, digits) in zip(kept.places, kept.writes)]
-        # A record of the journal has 34 bytes and its entry, 8 bytes of the directory's number and the name.
+        # A record of the journal has 34 bytes and its entry, 8 bytes of the directory's number and the name. On ext4 each of the writes
+        # made its file longer, and has zeros before it.
         of_edits = [(place[1], len(digits)) for place, digits in places if place[0] is None]
-        assert of_edits == [(0, 43), (43, 43)] and len(kept.places) == len(kept.writes) == 5
-        assert [place for place in places if place[0][0]] == [((f, 0), "11"), ((g, 0), "11"), ((g, 7), "1")]
+        assert of_edits == [(0, 43), (43, 43)] and len(kept.places) == len(kept.writes) == 8
+        of_writes = [((f, 0), "11"), ((f, 0), "11"), ((g, 0), "11"), ((g, 0), "11"), ((g, 2), "111111"), ((g, 7), "1")]
+        assert [place for place in places if place[0][0]] == of_writes
 
 
 def test_bad_switches():
-    for setting in ("failed_sync", "failed_sync lie", "failed_sync drops drops", "syncs drops", "failed_write", "failed_write sectors 4"):
+    for setting in ("edits", "edits none", "failed_sync", "failed_sync lie", "failed_sync drops drops", "syncs drops", "failed_write", "failed_write sectors 4"):
         raises(BadLine, Files, settings=[setting])
         with Files(settings=["keep 1 1"]) as files:
             raises(BadLine, files.configure, setting)

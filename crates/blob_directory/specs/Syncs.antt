@@ -1,11 +1,11 @@
 -- Which edits a sync settles, of those that nothing settled: the rows of a profile.
-use Rattle.std.specs.Prelude.{◌≡◌, ◌⊎◌, ◌↔◌, ℕ, ◌<◌, ◌≤◌, ◌||◌, Bool, true, false, List, Option, Some, None, IsTrue, map, nat_eq}
-use Rattle.std.specs.List.{Contains}
+use Rattle.std.specs.Prelude.{◌≡◌, ◌⊎◌, ◌↔◌, ℕ, ◌<◌, ◌≤◌, ◌&&◌, ◌||◌, not, Bool, true, false, List, Option, Some, None, IsTrue, is_some, map, nat_eq}
+use Rattle.std.specs.List.{Contains, list_any}
 use Rattle.blob_directory.specs.declared.profile.Settles.{Settles}
-use Rattle.blob_directory.specs.declared.profile.Settles.TheVariants.{Own, Names, UpToLast, All}
+use Rattle.blob_directory.specs.declared.profile.Settles.TheVariants.{Own, Names, UpToLast, UpToLastOrSize, All}
 use Rattle.blob_directory.specs.declared.unsettled.About.{About}
 use Rattle.blob_directory.specs.declared.unsettled.Synced.{Synced}
-use Rattle.blob_directory.specs.declared.unsettled.Synced.TheVariants.{File, Directory}
+use Rattle.blob_directory.specs.declared.unsettled.Synced.TheVariants.{File, Data, Directory}
 use Rattle.blob_directory.specs.declared.unsettled.Unsettled.{Unsettled}
 
 abbrev pub is_number : Option ℕ → ℕ → Bool
@@ -24,9 +24,17 @@ is_in directory about = nat_eq about.directory directory || is_number about.othe
 abbrev pub of_truncation : ℕ → About
 of_truncation inode = record { inode = inode; other = None; directory = inode; other_directory = None }
 
--- one or the other
-abbrev pub touches : ℕ → About → Bool
-touches number about = is_of number about || is_in number about
+-- one or the other; `alone` leaves out exchanges of two names
+abbrev pub touches : Bool → ℕ → About → Bool
+touches alone number about = (is_of number about || is_in number about) && not (alone && is_some about.other)
+
+-- an edit that binds or frees one name of this inode
+abbrev pub is_one_of : ℕ → About → Bool
+is_one_of number about = nat_eq about.inode number && not (is_some about.other || is_some about.other_directory)
+
+-- a directory that one of these edits makes
+abbrev pub is_new : List Unsettled → ℕ → Bool
+is_new edits directory = list_any (λ e. is_one_of directory e.about) edits
 
 -- an edit of a name of the inode is in the directory
 pub record IsAbove (edits : List Unsettled) (inode directory : ℕ) : Type 0 where
@@ -35,10 +43,10 @@ pub record IsAbove (edits : List Unsettled) (inode directory : ℕ) : Type 0 whe
   pub of_inode : is_of inode edit.about ≡ true
   pub in_directory : is_in directory edit.about ≡ true
 
--- the inode itself and, upward, each directory in which an edit changes a name of one of these
+-- the inode itself and, upward, each new directory in which an edit changes a name of one of these
 pub data Upward (edits : List Unsettled) (inode : ℕ) : ℕ → Type 0 where
   Itself : Upward edits inode inode
-  Above : (i d : ℕ) → Upward edits inode i → IsAbove edits i d → Upward edits inode d
+  Above : (i d : ℕ) → Upward edits inode i → IsAbove edits i d → is_new edits d ≡ true → Upward edits inode d
 
 -- an edit of a name of one of these
 pub record IsUpward (edits : List Unsettled) (inode : ℕ) (edit : Unsettled) : Type 0 where
@@ -47,26 +55,31 @@ pub record IsUpward (edits : List Unsettled) (inode : ℕ) (edit : Unsettled) : 
   pub of_above : is_of above edit.about ≡ true
 
 -- some edit is of a name of the inode, or in the directory
-pub record HasEdit (edits : List Unsettled) (number : ℕ) : Type 0 where
+pub record HasEdit (edits : List Unsettled) (alone : Bool) (number : ℕ) : Type 0 where
   pub edit : Unsettled
   pub there : Contains edits edit
-  pub touches : touches number edit.about ≡ true
+  pub touches : touches alone number edit.about ≡ true
 
 -- such an edit is this one or comes after it
-pub record IsUpToLast (edits : List Unsettled) (number : ℕ) (edit : Unsettled) : Type 0 where
-  pub last : HasEdit edits number
+pub record IsUpToLast (edits : List Unsettled) (alone : Bool) (number : ℕ) (edit : Unsettled) : Type 0 where
+  pub last : HasEdit edits alone number
   pub up_to : edit.number ≤ last.edit.number
 
 -- A sync of a file or of a directory settles this edit. The edits in a file's own number are its truncations.
 abbrev pub SyncSettles : Settles → Synced → List Unsettled → Unsettled → Type 0
-SyncSettles Own (File inode grown changed) edits edit = is_in inode edit.about ≡ true
+SyncSettles All synced edits edit = Unit {0}
+SyncSettles Own (File inode sized) edits edit = is_in inode edit.about ≡ true
+SyncSettles Own (Data inode sized) edits edit = is_in inode edit.about ≡ true
 SyncSettles Own (Directory d) edits edit = is_in d edit.about ≡ true
-SyncSettles Names (File inode grown changed) edits edit = IsUpward edits inode edit
+SyncSettles Names (File inode sized) edits edit = IsUpward edits inode edit
+SyncSettles Names (Data inode sized) edits edit = IsUpward edits inode edit
 SyncSettles Names (Directory d) edits edit = IsUpward edits d edit ⊎ (is_in d edit.about ≡ true)
-SyncSettles UpToLast (File inode grown changed) edits edit = IsUpToLast edits inode edit ⊎ (edit.number < grown)
-SyncSettles UpToLast (Directory d) edits edit = IsUpToLast edits d edit
-SyncSettles All (File inode grown changed) edits edit = IsUpToLast edits inode edit ⊎ (edit.number < changed)
-SyncSettles All (Directory d) edits edit = Unit {0}
+SyncSettles UpToLast (File inode sized) edits edit = IsUpToLast edits false inode edit ⊎ (edit.number < sized)
+SyncSettles UpToLast (Data inode sized) edits edit = IsUpToLast edits true inode edit ⊎ (edit.number < sized)
+SyncSettles UpToLast (Directory d) edits edit = IsUpToLast edits false d edit
+SyncSettles UpToLastOrSize (File inode sized) edits edit = IsUpToLast edits false inode edit ⊎ (edit.number < sized)
+SyncSettles UpToLastOrSize (Data inode sized) edits edit = edit.number < sized
+SyncSettles UpToLastOrSize (Directory d) edits edit = Unit {0}
 
 -- an edit, marked as wanted or not
 abbrev pub marked : (Unsettled → Bool) → Unsettled → Unsettled

@@ -32,19 +32,28 @@ pub record HasToo (old : List ℕ) (number : ℕ) (new : List ℕ) : Type 0 wher
   pub there : Contains new number
   pub only : (n : ℕ) → Contains new n → Contains old n ⊎ (n ≡ number)
 
--- the directories of an edit were added unless they were there
-pub record HasDirectories (about : About) (old new : List ℕ) : Type 0 where
-  pub extends : Extends old new
-  pub there : (d : ℕ) → is_in d about ≡ true → Contains new d
-  pub only : (n : ℕ) → Contains new n → Contains old n ⊎ (is_in n about ≡ true)
+-- a number was added unless it was there, if it passes the test
+abbrev pub HasWhen : Bool → List ℕ → ℕ → List ℕ → Type 0
+HasWhen true old number new = HasToo old number new
+HasWhen false old number new = new ≡ old
 
--- the directories above an inode were added
-pub record HasAbove (edits : List Unsettled) (inode : ℕ) (old new : List ℕ) : Type 0 where
+abbrev pub HasIf : (ℕ → Bool) → List ℕ → ℕ → List ℕ → Type 0
+HasIf test old number new = HasWhen (test number) old number new
+
+-- the directories of an edit that pass the test were added unless they were there
+pub record HasDirectories (test : ℕ → Bool) (about : About) (old new : List ℕ) : Type 0 where
   pub extends : Extends old new
-  pub there : (d : ℕ) → IsAbove edits inode d → Contains new d
-  pub only : (n : ℕ) → Contains new n → Contains old n ⊎ IsAbove edits inode n
+  pub there : (d : ℕ) → is_in d about ≡ true → test d ≡ true → Contains new d
+  pub only : (n : ℕ) → Contains new n → Contains old n ⊎ ((is_in n about ≡ true) × (test n ≡ true))
+
+-- those above an inode were added
+pub record HasAbove (test : ℕ → Bool) (edits : List Unsettled) (inode : ℕ) (old new : List ℕ) : Type 0 where
+  pub extends : Extends old new
+  pub there : (d : ℕ) → IsAbove edits inode d → test d ≡ true → Contains new d
+  pub only : (n : ℕ) → Contains new n → Contains old n ⊎ (IsAbove edits inode n × (test n ≡ true))
 
 -- the greatest number of an edit of the inode or in the directory
-abbrev pub IsLast : List Unsettled → ℕ → Option ℕ → Type 0
-IsLast edits number None = HasEdit edits number → ⊥
-IsLast edits number (Some last) = (h : HasEdit edits number) × (last ≡ h.edit.number) × ((other : HasEdit edits number) → nat_le other.edit.number last ≡ true)
+abbrev pub IsLast : List Unsettled → Bool → ℕ → Option ℕ → Type 0
+IsLast edits alone number None = HasEdit edits alone number → ⊥
+IsLast edits alone number (Some last) =
+    (h : HasEdit edits alone number) × (last ≡ h.edit.number) × ((other : HasEdit edits alone number) → nat_le other.edit.number last ≡ true)

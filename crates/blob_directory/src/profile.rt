@@ -16,11 +16,16 @@ pub enum Keeps {
 pub enum Settles {
     /// For a file, its truncations: the edits in its own number. For a directory, those in it.
     Own,
-    /// Those of a file's names and, upward, of the new directories that have them. For a directory also those in it.
+    /// Those of a file's names and, upward, of the directories that have them and whose making isn't settled. For a directory also
+    /// those in it.
     Names,
-    /// All up to the last one of the file, or of the directory.
+    /// All up to the last one of the file or up to the last change of its size. A sync of its data leaves out exchanges of its name.
+    /// For a directory, all up to its own last one.
     UpToLast,
-    /// All up to the last one of the file or up to its last change. For a directory, all.
+    /// The same for a file. But a sync of its data settles only those up to the last change of its size, its creation among
+    /// them: no link and no rename changes what such a sync writes. For a directory, all.
+    UpToLastOrSize,
+    /// All.
     All,
 }
 
@@ -33,21 +38,28 @@ pub struct Profile {
     pub settles: Settles,
     /// After a crash a file ends at its first byte beyond its last synced size that was lost.
     pub cuts: bool,
-    /// A rename over an existing name first makes the new file's bytes durable. So does a close after an open that
-    /// truncated the file.
+    /// A crash that keeps a rename over an existing file leaves the new file at least as long as it was at the rename. Bytes of it
+    /// that were lost are zeros.
     pub flushes: bool,
+    /// Bytes by which a write makes a file longer may be lost and leave zeros, also at the end of the file.
+    pub zeros: bool,
+    /// A truncation also writes zeros from the new end to the end of its page of 4,096 bytes. A crash may keep these although it loses
+    /// the truncation.
+    pub pages: bool,
 }
 
 impl Profile {
-    /// Returns what ext4 does with ordered data.
+    /// Returns what ext4 does with its default options.
     pub fn ext4() -> Profile
         ensures { result ≡ ext4_row }
     {
         Profile {
             keeps: Keeps::Prefix,
-            settles: Settles::All,
-            cuts: true,
+            settles: Settles::UpToLastOrSize,
+            cuts: false,
             flushes: true,
+            zeros: true,
+            pages: true,
         }
     }
 
@@ -60,6 +72,8 @@ impl Profile {
             settles: Settles::UpToLast,
             cuts: false,
             flushes: false,
+            zeros: false,
+            pages: true,
         }
     }
 
@@ -72,6 +86,8 @@ impl Profile {
             settles: Settles::Names,
             cuts: false,
             flushes: false,
+            zeros: true,
+            pages: false,
         }
     }
 
@@ -84,6 +100,8 @@ impl Profile {
             settles: Settles::Own,
             cuts: false,
             flushes: false,
+            zeros: true,
+            pages: true,
         }
     }
 }

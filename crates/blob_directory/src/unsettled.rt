@@ -1,6 +1,6 @@
 //! The edits that a crash may lose, and which of them a sync settles.
 ghost use Rattle.std.specs.Prelude.{◌≡◌, OnErr, OnOk};
-ghost use Rattle.blob_directory.specs.Syncs.{Marks, is_in, is_number, is_of, of_truncation, touches};
+ghost use Rattle.blob_directory.specs.Syncs.{Marks, is_in, is_number, is_of, is_one_of, of_truncation, touches};
 
 use crate::edit::Edit;
 use crate::profile::Settles;
@@ -68,23 +68,28 @@ impl About {
         self.directory == directory || is_number(self.other_directory, directory)
     }
 
-    /// Returns whether it does one or the other.
-    pub(crate) fn touches(&self, number: u64) -> bool
-        ensures { result ≡ touches number self.now }
+    /// Returns whether it does one or the other. `alone` leaves out exchanges of two names.
+    pub(crate) fn touches(&self, alone: bool, number: u64) -> bool
+        ensures { result ≡ touches alone number self.now }
     {
-        self.is_of(number) || self.is_in(number)
+        (self.is_of(number) || self.is_in(number)) && !(alone && self.other.is_some())
+    }
+
+    /// Returns whether the edit binds or frees one name of an inode.
+    pub(crate) fn is_one_of(&self, number: u64) -> bool
+        ensures { result ≡ is_one_of number self.now }
+    {
+        self.inode == number && !(self.other.is_some() || self.other_directory.is_some())
     }
 }
 
 /// What is synced.
 #[derive(Clone, Copy)]
 pub enum Synced {
-    /// A file, with the numbers of the next edit when its size last grew, and when it last changed.
-    File {
-        inode: u64,
-        grown: u64,
-        changed: u64,
-    },
+    /// A file, with the number of the next edit after its size last changed.
+    File { inode: u64, sized: u64 },
+    /// A file's data alone, with the same number.
+    Data { inode: u64, sized: u64 },
     Directory(u64),
 }
 

@@ -1,8 +1,8 @@
 //! Which edits a sync settles, as a test.
 ghost use Rattle.std.specs.Prelude.{◌≡◌, ℕ, IfOk, OnOk};
 ghost use Rattle.std.specs.List.{Contains};
-ghost use Rattle.blob_directory.specs.Syncs.{Upward, Wants};
-ghost use Rattle.blob_directory.specs.Wanted.{HasAbove, HasDirectories, HasToo, IsLast, is_of_any, is_up_to, wants};
+ghost use Rattle.blob_directory.specs.Syncs.{Upward, Wants, is_new};
+ghost use Rattle.blob_directory.specs.Wanted.{HasAbove, HasDirectories, HasIf, HasToo, IsLast, is_of_any, is_up_to, wants};
 
 use crate::profile::Settles;
 use crate::unsettled::{About, Synced, Unsettled};
@@ -73,30 +73,56 @@ fn add(numbers: &mut Vec<u64>, number: u64) -> Result<(), AllocError>
     Ok(())
 }
 
-/// Appends the directories of an edit. Fails only if memory runs out.
-fn add_directories(numbers: &mut Vec<u64>, about: &About) -> Result<(), AllocError>
-    ensures { OnOk result (HasDirectories about.now numbers.old.items numbers.new.items) }
+/// Returns whether one of these edits makes a directory.
+fn is_new(edits: &[Unsettled], directory: u64) -> bool
+    ensures { result ≡ is_new edits.now directory }
 {
-    add(numbers, about.directory)?;
+    for edit in edits {
+        if edit.about.is_one_of(directory) {
+            return true;
+        }
+    }
+    false
+}
+
+/// Appends a directory that one of these edits makes, unless the list has it. Fails only if memory runs out.
+fn add_new(numbers: &mut Vec<u64>, edits: &[Unsettled], directory: u64) -> Result<(), AllocError>
+    ensures { OnOk result (HasIf (is_new edits.now) numbers.old.items directory numbers.new.items) }
+{
+    if !is_new(edits, directory) {
+        return Ok(());
+    }
+    add(numbers, directory)
+}
+
+/// Appends the directories of an edit that these edits make. Fails only if memory runs out.
+fn add_directories(
+    numbers: &mut Vec<u64>,
+    edits: &[Unsettled],
+    about: &About,
+) -> Result<(), AllocError>
+    ensures { OnOk result (HasDirectories (is_new edits.now) about.now numbers.old.items numbers.new.items) }
+{
+    add_new(numbers, edits, about.directory)?;
     match about.other_directory {
         None => Ok(()),
-        Some(other) => add(numbers, other),
+        Some(other) => add_new(numbers, edits, other),
     }
 }
 
-/// Appends the directories in which these edits change names of an inode. Fails only if memory runs out.
+/// Appends the new directories in which these edits change names of an inode. Fails only if memory runs out.
 fn add_above(numbers: &mut Vec<u64>, edits: &[Unsettled], inode: u64) -> Result<(), AllocError>
-    ensures { OnOk result (HasAbove edits.now inode numbers.old.items numbers.new.items) }
+    ensures { OnOk result (HasAbove (is_new edits.now) edits.now inode numbers.old.items numbers.new.items) }
 {
     for edit in edits {
         if edit.about.is_of(inode) {
-            add_directories(numbers, &edit.about)?;
+            add_directories(numbers, edits, &edit.about)?;
         }
     }
     Ok(())
 }
 
-/// Returns an inode and, upward, the directories in which these edits change its names. Fails only if memory runs out.
+/// Returns an inode and, upward, the new directories in which these edits change its names. Fails only if memory runs out.
 fn upward(alloc: Global, edits: &[Unsettled], inode: u64) -> Result<Vec<u64>, AllocError>
     ensures only { IfOk result (λ found. (i : ℕ) → Contains found.items i → Upward edits.now inode i) }
     ensures all { IfOk result (λ found. (i : ℕ) → Upward edits.now inode i → Contains found.items i) }
@@ -115,13 +141,13 @@ fn upward(alloc: Global, edits: &[Unsettled], inode: u64) -> Result<Vec<u64>, Al
     Err(AllocError)
 }
 
-/// Returns the number of the last edit of an inode, or in a directory. `None` if there is none.
-fn last_of(edits: &[Unsettled], number: u64) -> Option<u64>
-    ensures { IsLast edits.now number result }
+/// Returns the number of the last edit of an inode, or in a directory. `None` if there is none. `alone` leaves out exchanges.
+fn last_of(edits: &[Unsettled], alone: bool, number: u64) -> Option<u64>
+    ensures { IsLast edits.now alone number result }
 {
     let mut last = None;
     for edit in edits {
-        if edit.about.touches(number) && !is_up_to(last, edit.number) {
+        if edit.about.touches(alone, number) && !is_up_to(last, edit.number) {
             last = Some(edit.number);
         }
     }
@@ -138,9 +164,15 @@ pub(crate) fn choose(
     ensures { IfOk result (λ wanted. Wants settles synced edits.now (wants wanted)) }
 {
     match (settles, synced) {
+        (Settles::All, _) => Ok(Wanted::All),
         (Settles::Own, Synced::File { inode, .. }) => Ok(Wanted::In(inode)),
+        (Settles::Own, Synced::Data { inode, .. }) => Ok(Wanted::In(inode)),
         (Settles::Own, Synced::Directory(directory)) => Ok(Wanted::In(directory)),
         (Settles::Names, Synced::File { inode, .. }) => {
+            let inodes = upward(alloc, edits, inode)?;
+            Ok(Wanted::Of(inodes))
+        }
+        (Settles::Names, Synced::Data { inode, .. }) => {
             let inodes = upward(alloc, edits, inode)?;
             Ok(Wanted::Of(inodes))
         }
@@ -148,15 +180,19 @@ pub(crate) fn choose(
             let inodes = upward(alloc, edits, directory)?;
             Ok(Wanted::OfOrIn(inodes, directory))
         }
-        (Settles::UpToLast, Synced::File { inode, grown, .. }) => {
-            Ok(Wanted::UpTo(last_of(edits, inode), grown))
+        (Settles::UpToLast, Synced::File { inode, sized }) => {
+            Ok(Wanted::UpTo(last_of(edits, false, inode), sized))
+        }
+        (Settles::UpToLast, Synced::Data { inode, sized }) => {
+            Ok(Wanted::UpTo(last_of(edits, true, inode), sized))
         }
         (Settles::UpToLast, Synced::Directory(directory)) => {
-            Ok(Wanted::UpTo(last_of(edits, directory), 0))
+            Ok(Wanted::UpTo(last_of(edits, false, directory), 0))
         }
-        (Settles::All, Synced::File { changed, inode, .. }) => {
-            Ok(Wanted::UpTo(last_of(edits, inode), changed))
+        (Settles::UpToLastOrSize, Synced::File { inode, sized }) => {
+            Ok(Wanted::UpTo(last_of(edits, false, inode), sized))
         }
-        (Settles::All, Synced::Directory(_)) => Ok(Wanted::All),
+        (Settles::UpToLastOrSize, Synced::Data { sized, .. }) => Ok(Wanted::UpTo(None, sized)),
+        (Settles::UpToLastOrSize, Synced::Directory(_)) => Ok(Wanted::All),
     }
 }

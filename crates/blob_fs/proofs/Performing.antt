@@ -1,5 +1,5 @@
 -- What a call that is made by its data does, by the result of the code.
-use Rattle.std.proofs.Common.{◌≡◌, ◌<◌, ◌≤◌, ℕ, List, None, Some, length, refl, subst, sym}
+use Rattle.std.proofs.Common.{◌≡◌, ◌<◌, ◌≤◌, ℕ, List, None, Some, length, refl, subst, sym, false}
 use Rattle.std.specs.Prelude.{Err, IfOk, IsSome, Ok, OnErr, OnOk, Result, Vec}
 use Rattle.std.specs.Global.{Global}
 use Rattle.blob_directory.specs.declared.edit.Binding.{Binding}
@@ -20,13 +20,13 @@ use Rattle.blob_fs.specs.Acts.{Act}
 use Rattle.blob_fs.specs.Bytes.{FindsBytes, FindsEdits, FindsKnown, HasNoOrphan}
 use Rattle.blob_fs.specs.Calls.{Leaves, RenamesAt}
 use Rattle.blob_fs.specs.Errors.{OnlyMemoryRefuses}
-use Rattle.blob_fs.specs.Files.{AddsTold, Commits, FindsKept, FindsTold, GivesTold, KeepsNames, KeepsOptions, KeepsTold, MakesEdit, MayResize, MayResizeSome, MayTruncate, SameNames, SettlesSome, SyncsAll, SyncsDirectory, SyncsFile, fresh_inode, inode_opened, names_of, syncs_of}
+use Rattle.blob_fs.specs.Files.{AddsTold, Commits, FindsKept, FindsTold, GivesTold, KeepsNames, KeepsOptions, KeepsTold, MakesEdit, MayResize, MayResizeSome, MayTruncate, SameNames, SettlesSome, SyncsAll, SyncsData, SyncsDirectory, SyncsFile, fresh_inode, inode_opened, names_of, syncs_of}
 use Rattle.blob_fs.specs.Fixed.{FindsFixed, FixesAll, FixesFile, FixesFound, KeepsFixed, KeepsFixedBut, KeepsSpared}
 use Rattle.blob_fs.specs.Noted.{HasSize, NotesTruncation}
 use Rattle.blob_fs.specs.Paths.{CreatesAt, FreesAt, IsBound, LinksAt, Lists, MakesDirectoryAt, OpensPath, RenamesPath, SyncsPath}
 use Rattle.blob_fs.specs.Performs.{Effect, IsBinding, Performs, RepliesFound, crash_reply, done_reply, found_reply, inode_reply, names_reply, opened_reply, size_reply, tree_reply}
 use Rattle.blob_fs.specs.Places.{FindsPlaces}
-use Rattle.blob_fs.specs.Writes.{RecordsWrite, failed_write_of}
+use Rattle.blob_fs.specs.Writes.{RecordsWrite, failed_write_of, leaves_zeros}
 
 -- the call and the reply that it is
 pub performs : {R : Type 0} (act act' : Act) (reply reply' : Reply) (fs fs' : FileSystem R) → act ≡ act' → reply ≡ reply' → KeepsOptions fs fs'
@@ -139,7 +139,7 @@ pub reads : {R : Type 0} (r : Result ℕ FsError) (f : Descriptor) (offset len :
 reads (Ok x) f offset len fs fs' names told fixed found count = (((names, told), fixed), (found, count))
 reads (Err e) f offset len fs fs' names told fixed found count = (((names, told), fixed), tt)
 
-pub writes : {R : Type 0} (r : Result (Unit {0}) FsError) (f : Descriptor) (offset : ℕ) (bytes : List ℕ) (fs fs' : FileSystem R) → KeepsNames fs fs' → KeepsTold fs fs' → OnOk r (failed_write_of fs ≡ ByMode → RecordsWrite f offset bytes fs fs') → KeepsSpared f (IsBeside offset (length bytes)) fs fs'
+pub writes : {R : Type 0} (r : Result (Unit {0}) FsError) (f : Descriptor) (offset : ℕ) (bytes : List ℕ) (fs fs' : FileSystem R) → KeepsNames fs fs' → KeepsTold fs fs' → OnOk r (failed_write_of fs ≡ ByMode → leaves_zeros fs ≡ false → RecordsWrite f offset bytes fs fs') → KeepsSpared f (IsBeside offset (length bytes)) fs fs'
     → Effect (acts.Write f offset bytes) (done_reply r) fs fs'
 writes (Ok x) f offset bytes fs fs' names told recorded fixed = ((names, told), fixed, recorded)
 writes (Err e) f offset bytes fs fs' names told recorded fixed = ((names, told), fixed, tt)
@@ -154,7 +154,7 @@ pub syncs : {R : Type 0} (r : Result (Unit {0}) FsError) (f : Descriptor) (fs fs
 syncs (Ok x) f fs fs' names some settled fixed fixes = ((names, some), fixed, λ honest. (settled honest, fixes honest))
 syncs (Err e) f fs fs' names some settled fixed fixes = ((names, some), fixed, tt)
 
-pub syncs_data : {R : Type 0} (r : Result (Unit {0}) FsError) (f : Descriptor) (fs fs' : FileSystem R) → KeepsNames fs fs' → SettlesSome fs fs' → OnOk r (syncs_of fs ≡ Honest → SyncsFile fs f fs') → KeepsFixed fs fs' → OnOk r (syncs_of fs ≡ Honest → FixesFile fs f fs')
+pub syncs_data : {R : Type 0} (r : Result (Unit {0}) FsError) (f : Descriptor) (fs fs' : FileSystem R) → KeepsNames fs fs' → SettlesSome fs fs' → OnOk r (syncs_of fs ≡ Honest → SyncsData fs f fs') → KeepsFixed fs fs' → OnOk r (syncs_of fs ≡ Honest → FixesFile fs f fs')
     → Effect (acts.SyncData f) (done_reply r) fs fs'
 syncs_data (Ok x) f fs fs' names some settled fixed fixes = ((names, some), fixed, λ honest. (settled honest, fixes honest))
 syncs_data (Err e) f fs fs' names some settled fixed fixes = ((names, some), fixed, tt)

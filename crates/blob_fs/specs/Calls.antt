@@ -15,8 +15,8 @@ use Rattle.blob_fs.specs.declared.file_system.Descriptor.{Descriptor}
 use Rattle.blob_fs.specs.Bytes.{FindsBytes, FindsKnown}
 use Rattle.blob_fs.specs.Fixed.{FindsFixed, FixesFound, KeepsUnreached}
 use Rattle.blob_fs.specs.Places.{FindsPlaces}
-use Rattle.blob_fs.specs.Writes.{RecordsWrite, failed_write_of}
-use Rattle.blob_fs.specs.Files.{AddsTold, FindsKept, FindsTold, GrowsTold, KeepsNames, KeepsTold, MakesEdit, MayResize, MayTruncate, NotesExchange, NotesMove, SameNames, SettlesSome, SyncsAll, SyncsDirectory, SyncsFile, fresh_inode, names_of, syncs_of}
+use Rattle.blob_fs.specs.Writes.{RecordsWrite, failed_write_of, leaves_zeros}
+use Rattle.blob_fs.specs.Files.{AddsTold, FindsKept, FindsTold, GrowsTold, KeepsNames, KeepsTold, MakesEdit, MayResize, MayTruncate, NotesExchange, NotesMove, SameNames, SettlesSome, SyncsAll, SyncsData, SyncsDirectory, SyncsFile, fresh_inode, names_of, syncs_of}
 
 -- one more edit is recorded, which nothing has settled, and the names have it
 pub record Makes {R : Type 0} (edit : Edit) (fs fs' : FileSystem R) : Type 0 where
@@ -73,7 +73,7 @@ SyncsIf ok exactly fs fs' = MaySettle fs fs' × ByResult ok (syncs_of fs ≡ Hon
 
 -- a write that returned Ok, unless failed writes draw a prefix, is recorded
 abbrev pub WritesIf : {R : Type 0} → Bool → Descriptor → ℕ → List ℕ → FileSystem R → FileSystem R → Type 0
-WritesIf ok f offset bytes fs fs' = Leaves fs fs' × ByResult ok (failed_write_of fs ≡ ByMode → RecordsWrite f offset bytes fs fs') (Unit {0})
+WritesIf ok f offset bytes fs fs' = Leaves fs fs' × ByResult ok (failed_write_of fs ≡ ByMode → leaves_zeros fs ≡ false → RecordsWrite f offset bytes fs fs') (Unit {0})
 
 -- what a call does, by whether it returned Ok
 abbrev pub Does : {R : Type 0} → NumberCall → Bool → FileSystem R → FileSystem R → Type 0
@@ -91,7 +91,7 @@ Does (Read f offset len) ok fs fs' = Leaves fs fs'
 Does (Write f offset bytes) ok fs fs' = WritesIf ok f offset bytes.now fs fs'
 Does (Truncate f length) ok fs fs' = KeepsNames fs fs' × MayTruncate f fs fs'
 Does (Sync f) ok fs fs' = SyncsIf ok (SyncsFile fs f fs') fs fs'
-Does (SyncData f) ok fs fs' = SyncsIf ok (SyncsFile fs f fs') fs fs'
+Does (SyncData f) ok fs fs' = SyncsIf ok (SyncsData fs f fs') fs fs'
 Does (SyncDirectory d) ok fs fs' = SyncsIf ok (SyncsDirectory fs d fs') fs fs'
 Does SyncAll ok fs fs' = SyncsIf ok (SyncsAll fs fs') fs fs'
 Does Settle ok fs fs' = MaySettle fs fs' × ByResult ok (SyncsAll fs fs') (Unit {0})

@@ -141,23 +141,23 @@ SameDirectories fs fs' = fs'.directories ≡ fs.directories
 abbrev pub SameOpens : {R : Type 0} → FileSystem R → FileSystem R → Type 0
 SameOpens fs fs' = fs'.opens ≡ fs.opens
 
--- a sync of this file; when it last grew, and when it last changed, isn't said
-pub record IsSyncOf (inode : ℕ) (kind : Synced) : Type 0 where
-  pub grown : ℕ
-  pub changed : ℕ
-  pub is : kind ≡ synced.File inode grown changed
-
 -- the inode of an open descriptor
 abbrev pub inode_opened : {R : Type 0} → FileSystem R → Descriptor → Option ℕ
 inode_opened fs file = get nat_cmp fs.opens file.number
 
--- a sync that doesn't lie settles the edits that the profile says of the descriptor's file
+-- A sync that doesn't lie settles the edits that the profile says of the descriptor's file. When its size last changed isn't said.
 pub record SyncsFile {R : Type 0} (fs : FileSystem R) (file : Descriptor) (fs' : FileSystem R) : Type 0 where
   pub inode : ℕ
   pub opened : inode_opened fs file ≡ Some inode
-  pub kind : Synced
-  pub is : IsSyncOf inode kind
-  pub settled : SettlesEdits (settles_of fs) kind fs fs'
+  pub sized : ℕ
+  pub settled : SettlesEdits (settles_of fs) (synced.File inode sized) fs fs'
+
+-- those of its data
+pub record SyncsData {R : Type 0} (fs : FileSystem R) (file : Descriptor) (fs' : FileSystem R) : Type 0 where
+  pub inode : ℕ
+  pub opened : inode_opened fs file ≡ Some inode
+  pub sized : ℕ
+  pub settled : SettlesEdits (settles_of fs) (synced.Data inode sized) fs fs'
 
 -- those of a directory
 abbrev pub SyncsDirectory : {R : Type 0} → FileSystem R → ℕ → FileSystem R → Type 0

@@ -3,6 +3,9 @@ use Rattle.std.specs.Prelude.{◌≡◌, ◌⊎◌, ℕ, List, [], ◌∷◌, �
 use Rattle.blob_faulty.specs.Wrapper.{next_write_of, size_of}
 use Rattle.blob_directory.specs.Names.{resizes}
 use Rattle.blob_directory.specs.Syncs.{of_truncation}
+use Rattle.blob_journal.specs.declared.journaled.Journaled.{Journaled}
+use Rattle.blob_journal.specs.declared.store.FileBlob.{FileBlob}
+use Rattle.blob_journal.specs.Fixed.{IsOpen}
 use Rattle.blob_journal.specs.Journals.{store_of}
 use Rattle.blob_journal.specs.Settling.{AddsUnsettled}
 use Rattle.blob_fs.specs.declared.file_system.Descriptor.{Descriptor}
@@ -32,6 +35,14 @@ pub record HasSize {R : Type 0} (fs : FileSystem R) (file : Descriptor) (n : ℕ
   pub was : File
   pub is : IsFile fs file inode was
   pub size : size_read was ≡ n
+
+-- this is the size of the blob of a file
+abbrev pub IsEnd : {R : Type 0} → FileSystem R → ℕ → ℕ → Type 0
+IsEnd fs inode n = (was : File) → file_in fs inode ≡ Some was → size_of was.blob.blob ≡ n
+
+-- an open file's blob was resized
+abbrev pub ResizesOpen : {R : Type 0} → ℕ → Journaled R → FileBlob → FileBlob → Type 0
+ResizesOpen {R} n j file file' = (inode : ℕ) → IsOpen j inode file → size_of file'.blob ≡ n
 
 -- a file shows this size, if its blob has it; the rest of its content is the same
 pub record ShowsSize (n : ℕ) (was now : File) : Type 0 where

@@ -14,12 +14,12 @@ use Rattle.blob_fs.specs.declared.whole.TreeEntry.{TreeEntry}
 use Rattle.blob_fs.specs.Bytes.{FindsBytes, FindsEdits, FindsKnown, HasNoOrphan}
 use Rattle.blob_fs.specs.Calls.{Leaves, Makes, MaySettle, RenamesAt}
 use Rattle.blob_fs.specs.Errors.{IsExhaustedError, next_number}
-use Rattle.blob_fs.specs.Files.{Commits, FindsKept, FindsTold, GivesTold, KeepsNames, KeepsOptions, KeepsTold, MayResize, MayResizeSome, MayTruncate, SameNames, SettlesSome, SyncsAll, SyncsDirectory, SyncsFile, fresh_inode, inode_opened, journaled_of, names_of, syncs_of}
+use Rattle.blob_fs.specs.Files.{Commits, FindsKept, FindsTold, GivesTold, KeepsNames, KeepsOptions, KeepsTold, MayResize, MayResizeSome, MayTruncate, SameNames, SettlesSome, SyncsAll, SyncsData, SyncsDirectory, SyncsFile, fresh_inode, inode_opened, journaled_of, names_of, syncs_of}
 use Rattle.blob_fs.specs.Fixed.{FindsFixed, FixesAll, FixesFile, FixesFound, KeepsFixed, KeepsFixedBut, KeepsSpared}
 use Rattle.blob_fs.specs.Noted.{HasSize, NotesTruncation}
 use Rattle.blob_fs.specs.Paths.{CreatesAt, FreesAt, IsBound, LinksAt, Lists, MakesDirectoryAt, OpensPath, RenamesPath, SyncsPath}
 use Rattle.blob_fs.specs.Places.{FindsPlaces}
-use Rattle.blob_fs.specs.Writes.{RecordsWrite, failed_write_of}
+use Rattle.blob_fs.specs.Writes.{RecordsWrite, failed_write_of, leaves_zeros}
 use Rattle.blob_journal.specs.Fixed.{IsBeside}
 use Rattle.blob_fs.specs.Acts as acts
 use Rattle.blob_fs.specs.Acts.{Act}
@@ -143,12 +143,12 @@ Effect (acts.Size f) reply fs fs' = (fs' ≡ fs) × IsSize reply (λ size. HasSi
 Effect (acts.Sync f) reply fs fs' =
     MaySettle fs fs' × KeepsFixed fs fs' × IsDone reply (syncs_of fs ≡ Honest → SyncsFile fs f fs' × FixesFile fs f fs') (Unit {0})
 Effect (acts.SyncData f) reply fs fs' =
-    MaySettle fs fs' × KeepsFixed fs fs' × IsDone reply (syncs_of fs ≡ Honest → SyncsFile fs f fs' × FixesFile fs f fs') (Unit {0})
+    MaySettle fs fs' × KeepsFixed fs fs' × IsDone reply (syncs_of fs ≡ Honest → SyncsData fs f fs' × FixesFile fs f fs') (Unit {0})
 Effect (acts.InodeOf f) reply fs fs' = (fs' ≡ fs) × IsInode reply (λ inode. inode_opened fs f ≡ Some inode) (Unit {0})
 Effect (acts.Read f offset len) reply fs fs' = KeepsAll fs fs' × IsSize reply (λ n. IsSome (inode_opened fs f) × (n ≤ len)) (Unit {0})
 Effect (acts.Write f offset bytes) reply fs fs' =
     KeepsEdits fs fs' × KeepsSpared f (IsBeside offset (length bytes)) fs fs'
-    × IsDone reply (failed_write_of fs ≡ ByMode → RecordsWrite f offset bytes fs fs') (Unit {0})
+    × IsDone reply (failed_write_of fs ≡ ByMode → leaves_zeros fs ≡ false → RecordsWrite f offset bytes fs fs') (Unit {0})
 Effect acts.SyncAll reply fs fs' =
     MaySettle fs fs' × KeepsFixed fs fs' × IsDone reply (syncs_of fs ≡ Honest → SyncsAll fs fs' × FixesAll fs fs') (Unit {0})
 Effect acts.Settle reply fs fs' = MaySettle fs fs' × KeepsFixed fs fs' × IsDone reply (SyncsAll fs fs' × FixesAll fs fs') (Unit {0})

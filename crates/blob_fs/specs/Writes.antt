@@ -1,5 +1,5 @@
 -- What an unsynced write of an open file records, and what a crash leaves of it.
-use Rattle.std.specs.Prelude.{◌≡◌, ℕ, List, Some, option_map}
+use Rattle.std.specs.Prelude.{◌≡◌, ℕ, Bool, List, Some, option_map}
 use Rattle.blob_model.specs.Draws.{chosen_by}
 use Rattle.blob_model.specs.Files.{Files, all_logged}
 use Rattle.blob_model.specs.Log.{Entry, replay_log}
@@ -21,6 +21,10 @@ use Rattle.blob_fs.specs.Files.{inode_opened, journaled_of, options_of}
 
 abbrev pub failed_write_of : {R : Type 0} → FileSystem R → FailedWrite
 failed_write_of fs = fs.options.failed_write
+
+-- a write that makes a file longer writes zeros first
+abbrev pub leaves_zeros : {R : Type 0} → FileSystem R → Bool
+leaves_zeros fs = (options_of fs).profile.zeros
 
 -- the rates of faults that the options set, and those that the store draws by
 abbrev pub faults_of : {R : Type 0} → FileSystem R → Config

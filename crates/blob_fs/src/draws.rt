@@ -1,5 +1,5 @@
 //! Failures of writes and truncations that are drawn before anything is done.
-ghost use Rattle.std.specs.Prelude.{◌≡◌, ◌≤◌, IfOk, OnOk, false};
+ghost use Rattle.std.specs.Prelude.{◌≡◌, ◌≤◌, IfOk, OnOk, false, true};
 ghost use Rattle.blob_fs.specs.declared.switches.FailedWrite.TheVariants.{ByMode};
 ghost use Rattle.blob_fs.specs.Draws.{OnlyDraws};
 ghost use Rattle.blob_fs.specs.Writes.{KeepsAsSet, failed_write_of};
@@ -9,7 +9,7 @@ use crate::file_system::FileSystem;
 use crate::switches::FailedWrite;
 use crate::writes::with_writes;
 use blob_base::{Error, Probability};
-use blob_faulty::Config;
+use blob_faulty::{Config, PartialWriteMode, WriteConfig};
 use rand_core::Rng;
 
 impl<R: Rng + Drop> FileSystem<R> {
@@ -110,5 +110,60 @@ impl<R: Rng + Drop> FileSystem<R> {
         let config = with_writes(&self.options.faults, Probability::ZERO, writes);
         self.store.set_config(config);
         Ok(FailedWrite::ByMode)
+    }
+
+    /// Draws as `draw_write`. If the write makes the file longer by zeros and bytes, it draws whether the write fails too: then it writes
+    /// no zeros. Returns how to make the write, and whether to write zeros.
+    ///
+    /// # Errors
+    ///
+    /// Those of `draw_write`.
+    pub(crate) fn draw_growth(
+        &mut self,
+        inode: u64,
+        is_plain: bool,
+    ) -> Result<(FailedWrite, bool), FsError>
+        ensures how { IfOk result (λ r. failed_write_of self.old ≡ ByMode → r.0 ≡ ByMode) }
+        ensures drawn { OnlyDraws self.old self.new }
+        ensures rates { OnOk result (is_plain ≡ true → KeepsAsSet self.old → KeepsAsSet self.new) }
+    {
+        if is_plain || self.has_truncations(inode) {
+            let how = self.draw_write(inode)?;
+            return Ok((how, true));
+        }
+        let Some(writes) = self.options.faults.write_rate else {
+            return Ok((self.options.failed_write, false));
+        };
+        let is_failed = self.draws(inode, writes.failure_rate)?;
+        let config = growth_config(
+            &self.options.faults,
+            self.options.failed_write,
+            writes,
+            is_failed,
+        );
+        self.store.set_config(config);
+        Ok((FailedWrite::ByMode, !is_failed))
+    }
+}
+
+/// Returns the faults of a write of which it is drawn whether it fails.
+fn growth_config(
+    faults: &Config,
+    how: FailedWrite,
+    writes: WriteConfig,
+    is_failed: bool,
+) -> Config {
+    if !is_failed {
+        return with_writes(faults, Probability::ZERO, writes);
+    }
+    match how {
+        FailedWrite::ByMode => with_writes(faults, Probability::ONE, writes),
+        FailedWrite::Prefix => {
+            let prefix = WriteConfig {
+                mode: PartialWriteMode::Prefix,
+                ..writes
+            };
+            with_writes(faults, Probability::ONE, prefix)
+        }
     }
 }

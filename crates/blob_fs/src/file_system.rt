@@ -53,15 +53,11 @@ pub(crate) struct File {
     pub(crate) synced: u64,
     /// Its size that the last crash found, before the profile truncated it.
     pub(crate) found: u64,
-    /// The number of the next edit when its size last grew.
-    pub(crate) grown: u64,
-    /// The number of the next edit when it was last written.
-    pub(crate) changed: u64,
-    /// An open truncated it.
-    pub(crate) is_truncated: bool,
+    /// The number of the next edit after its size last changed.
+    pub(crate) sized: u64,
     /// What reads return in place of the blob's bytes, after a sync that failed and dropped some.
     pub(crate) shown: Option<Vec<u8>>,
-    /// The truncations that no sync made durable, in the order of their calls.
+    /// The truncations that no sync made durable, in the order of their calls. A rename that flushes is noted as one, to the size at it.
     pub(crate) truncations: Vec<Truncation>,
     /// No name and no descriptor refers to it, but a crash may give it a name again.
     pub(crate) is_gone: bool,

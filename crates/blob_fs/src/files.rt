@@ -1,22 +1,19 @@
 //! Open files: their bytes and sizes.
-ghost use Rattle.std.specs.Prelude.{◌≡◌, ◌≤◌, [], false, length, IfOk, IsSome, None, Some, OnOk};
+ghost use Rattle.std.specs.Prelude.{◌≡◌, ◌≤◌, [], false, length, true, IfOk, IsSome, None, Some, OnOk};
 ghost use Rattle.blob_fs.specs.declared.switches.FailedWrite.TheVariants.{ByMode};
-ghost use Rattle.blob_fs.specs.Writes.{RecordsWrite, failed_write_of};
+ghost use Rattle.blob_fs.specs.Writes.{RecordsWrite, failed_write_of, leaves_zeros};
 ghost use Rattle.blob_fs.specs.Fixed.{KeepsFixed, KeepsFixedBut, KeepsSpared};
-ghost use Rattle.blob_fs.specs.Noted.{KeepsCuts, HasSize, size_in, size_read};
+ghost use Rattle.blob_fs.specs.Noted.{KeepsCuts, HasSize, IsEnd, size_in, size_read};
 ghost use Rattle.blob_fs.specs.Named.{links_of};
 ghost use Rattle.blob_fs.specs.Open.{SameContent};
 ghost use Rattle.blob_fs.specs.Tracked.{freed_of};
 ghost use Rattle.blob_journal.specs.Fixed.{IsBeside};
-ghost use Rattle.blob_journal.specs.Settling.{KeepsUnsettled};
 ghost use Rattle.blob_fs.specs.Files.{KeepsNames, KeepsOptions, KeepsTold, MayResize, SameFiles, SameLinks, SameOpens, fresh_inode, inode_opened, journaled_of};
 
 use crate::error::FsError;
 use crate::file_system::{Descriptor, File, FileSystem};
-use crate::switches::Syncs;
-use crate::writes::write_blob;
+use crate::writes::{chosen, write_grown};
 use blob_directory::edit::Kind;
-use blob_faulty::Config;
 use blob_journal::FileBlob;
 use rand_core::Rng;
 use std::alloc::Global;
@@ -36,9 +33,7 @@ impl File {
             opens: 0,
             synced: 0,
             found: 0,
-            grown: 0,
-            changed: 0,
-            is_truncated: false,
+            sized: 0,
             truncations: Vec::new(alloc),
             shown: None,
             is_gone: false,
@@ -57,9 +52,8 @@ impl File {
         }
         let now = self.size();
         if now > before {
-            self.grown = edit;
+            self.sized = edit;
         }
-        self.changed = edit;
         now
     }
 
@@ -145,7 +139,7 @@ impl<R: Rng + Drop> FileSystem<R> {
     {
         self.begin_call()?;
         let file = self.open_inode(inode)?;
-        if let Err(error) = self.clear(file) {
+        if let Err(error) = self.truncate(file, 0) {
             self.close(file)?;
             return Err(error);
         }
@@ -166,9 +160,8 @@ impl<R: Rng + Drop> FileSystem<R> {
         }
     }
 
-    /// Closes a file. Its bytes stay as they are, synced or not. If an open truncated it and the profile flushes, they are made
-    /// durable first. The bytes of a file without a name stop to count when its last descriptor closes, and its blob is removed
-    /// once all edits from before that are settled.
+    /// Closes a file. Its bytes stay as they are, synced or not. Those of a file without a name stop to count when its last
+    /// descriptor closes, and its blob is removed once all edits from before that are settled.
     ///
     /// # Errors
     ///
@@ -183,68 +176,10 @@ impl<R: Rng + Drop> FileSystem<R> {
         self.begin_call()?;
         let inode = self.inode_of(file)?;
         self.gone.reserve(1)?;
-        self.flush_truncated(inode)?;
         self.opens.remove(&file.number);
         self.drop_open(inode);
         self.let_go(inode);
         self.remove_gone();
-        Ok(())
-    }
-
-    fn is_truncated(&self, inode: u64) -> bool {
-        match self.files.get(&inode) {
-            None => false,
-            Some(file) => file.as_ref().is_truncated,
-        }
-    }
-
-    /// Makes the bytes of a file that an open truncated durable, if the profile flushes. Draws nothing.
-    fn flush_truncated(&mut self, inode: u64) -> Result<(), FsError>
-        ensures names { KeepsNames self.old self.new }
-        ensures told { KeepsTold self.old self.new }
-        ensures fixed { KeepsFixed self.old self.new }
-        ensures options { KeepsOptions self.old self.new }
-    {
-        if self.is_truncated(inode) {
-            return self.flush_by_profile(inode);
-        }
-        Ok(())
-    }
-
-    /// Makes a file's bytes durable, if the profile flushes. Draws nothing.
-    pub(crate) fn flush_by_profile(&mut self, inode: u64) -> Result<(), FsError>
-        ensures names { KeepsNames self.old self.new }
-        ensures unsettled { KeepsUnsettled (journaled_of self.old) (journaled_of self.new) }
-        ensures told { KeepsTold self.old self.new }
-        ensures fixed { KeepsFixed self.old self.new }
-        ensures options { KeepsOptions self.old self.new }
-    {
-        if self.options.profile.flushes {
-            return self.flush(inode);
-        }
-        Ok(())
-    }
-
-    /// Makes a file's bytes durable, and draws nothing.
-    fn flush(&mut self, inode: u64) -> Result<(), FsError>
-        ensures names { KeepsNames self.old self.new }
-        ensures unsettled { KeepsUnsettled (journaled_of self.old) (journaled_of self.new) }
-        ensures told { KeepsTold self.old self.new }
-        ensures fixed { KeepsFixed self.old self.new }
-        ensures options { KeepsOptions self.old self.new }
-    {
-        if self.options.syncs == Syncs::Lie {
-            return Ok(());
-        }
-        self.store.set_config(Config::default());
-        let Some(file) = self.files.get_mut(&inode) else {
-            return Ok(());
-        };
-        let file = file.as_mut();
-        self.store.sync_file(&mut file.blob)?;
-        file.synced = file.blob.size();
-        file.is_truncated = false;
-        file.truncations.clear();
         Ok(())
     }
 
@@ -324,16 +259,50 @@ impl<R: Rng + Drop> FileSystem<R> {
         self.used = self.used.saturating_sub(size).saturating_add(now);
     }
 
+    /// Returns whether a growing write leaves zeros that a crash may keep.
+    fn leaves_zeros(&self) -> bool
+        ensures { result ≡ true → leaves_zeros self.now ≡ true }
+    {
+        match self.options.faults.write_rate {
+            Some(writes) => self.options.profile.zeros && !writes.retention_rate.is_zero(),
+            None => false,
+        }
+    }
+
+    /// Returns the end of a file's blob, and the zeros that a write up to a position leaves from there on. None if the write doesn't make
+    /// the file longer, or the profile leaves none. The only error is `Memory`.
+    fn zeros_of(&self, inode: u64, end: u64) -> Result<(u64, Vec<u8>), FsError>
+        ensures none { IfOk result (λ r. leaves_zeros self.now ≡ false → length r.1.items ≡ 0) }
+        ensures end { IfOk result (λ r. IsEnd self.now inode r.0) }
+    {
+        let mut zeros = Vec::new(self.alloc);
+        let Some(found) = self.files.get(&inode) else {
+            return Ok((0, zeros));
+        };
+        let from = found.as_ref().blob.size();
+        if !self.leaves_zeros() {
+            return Ok((from, zeros));
+        }
+        if end > from {
+            zeros.resize((end - from) as usize, 0)?;
+        }
+        Ok((from, zeros))
+    }
+
     /// Writes bytes at an offset, unsynced.
     ///
     /// # Errors
     ///
     /// `Stale`; `NoSpace` beyond the limit of bytes; those of the layer's write, which may leave a part of it. While the file has a
     /// truncation that no sync made durable, a write that fails leaves nothing.
+    ///
+    /// If the profile leaves zeros, a write that makes the file longer first writes zeros there, of which a crash keeps what it keeps of
+    /// writes.
     pub fn write(&mut self, file: Descriptor, offset: u64, bytes: &[u8]) -> Result<(), FsError>
         ensures names { KeepsNames self.old self.new }
         ensures told { KeepsTold self.old self.new }
-        ensures recorded { OnOk result (failed_write_of self.old ≡ ByMode → RecordsWrite file offset bytes.now self.old self.new) }
+        ensures recorded { OnOk result (failed_write_of self.old ≡ ByMode → leaves_zeros self.old ≡ false
+            → RecordsWrite file offset bytes.now self.old self.new) }
         ensures fixed { KeepsSpared file (IsBeside offset (length bytes.now)) self.old self.new }
         ensures cuts { KeepsCuts self.old self.new }
         ensures options { KeepsOptions self.old self.new }
@@ -344,20 +313,22 @@ impl<R: Rng + Drop> FileSystem<R> {
         let size = self.size(file)?;
         let end = offset.saturating_add(bytes.len() as u64);
         self.check_room(size, end)?;
-        let how = self.draw_write(inode)?;
+        let (from, zeros) = self.zeros_of(inode, end)?;
+        let (how, is_zeroed) = self.draw_growth(inode, zeros.is_empty())?;
+        let zeros = chosen(is_zeroed, &zeros);
         let next_edit = self.store.next_edit();
         let Some(found) = self.files.get_mut(&inode) else {
             return Err(FsError::Stale);
         };
         let found = found.as_mut();
         found.reserve_shown(end)?;
-        let written = write_blob(
+        let written = write_grown(
             &mut found.blob,
             &mut self.store,
             how,
             &self.options.faults,
-            offset,
-            bytes,
+            (from, zeros),
+            (offset, bytes),
         );
         let now = found.end_write(written.is_ok(), offset, bytes, size, next_edit);
         self.count(size, now);

@@ -13,6 +13,7 @@ mod drops;
 pub mod error;
 pub mod file_system;
 pub mod files;
+mod flushes;
 pub mod inspection;
 pub mod laws;
 pub mod names;

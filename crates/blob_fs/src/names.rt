@@ -106,7 +106,8 @@ impl<R: Rng + Drop> FileSystem<R> {
         ensures options { KeepsOptions self.old self.new }
         ensures store { journaled_of self.new ≡ journaled_of self.old }
     {
-        let file = File::new(self.alloc, blob);
+        let mut file = File::new(self.alloc, blob);
+        file.sized = self.store.next_edit().saturating_add(1);
         let boxed = BoxedFile::new(self.alloc, file)?;
         self.files.insert(inode, boxed)?;
         Ok(())

@@ -81,8 +81,8 @@ impl<R: Rng + Drop> FileSystem<R> {
 
     /// Moves a file or a directory to another name, in one step.
     ///
-    /// If both names are of one file, nothing happens. If the profile flushes, a file that replaces another one is made
-    /// durable first, without its names.
+    /// If both names are of one file, nothing happens. If the profile flushes and a file replaces another one, a crash that keeps
+    /// this leaves it at least as long as it is now.
     ///
     /// # Errors
     ///
@@ -230,7 +230,8 @@ impl<R: Rng + Drop> FileSystem<R> {
         ensures noted { OnOk result (NotesMove from.1 to.1 from.0.items to.0.items moved self.old self.new) }
     {
         self.check_replaces(was, moved)?;
-        self.flush_by_profile(moved.inode)?;
+        self.reserve_flush(moved.inode)?;
+        let edit = self.store.next_edit();
         self.move_name(from, to, moved)?;
         match was.kind {
             Kind::File => self.drop_link(was.inode),
@@ -238,6 +239,7 @@ impl<R: Rng + Drop> FileSystem<R> {
                 self.directories.remove(&was.inode);
             }
         }
+        self.note_flush(moved.inode, edit);
         Ok(())
     }
 

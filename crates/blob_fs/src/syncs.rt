@@ -2,7 +2,7 @@
 ghost use Rattle.std.specs.Prelude.{◌≡◌, ◌<◌, IfOk, OnOk};
 ghost use Rattle.blob_fs.specs.declared.switches.Syncs.TheVariants.{Honest};
 ghost use Rattle.blob_fs.specs.Fixed.{FixesAll, FixesFile, FixesInode, KeepsFixed, KeepsSeen, ListsFiles};
-ghost use Rattle.blob_fs.specs.Files.{IsSyncOf, KeepsJournal, KeepsNames, KeepsOptions, KeepsTold, SettlesEdits, SettlesSome, SyncsAll, SyncsDirectory, SyncsFile, fresh_inode, journaled_of, syncs_of};
+ghost use Rattle.blob_fs.specs.Files.{KeepsJournal, KeepsNames, KeepsOptions, KeepsTold, SettlesEdits, SettlesSome, SyncsAll, SyncsData, SyncsDirectory, SyncsFile, fresh_inode, journaled_of, syncs_of};
 ghost use Rattle.blob_fs.specs.Noted.{IsUncut};
 
 use crate::error::FsError;
@@ -30,10 +30,9 @@ impl<R: Rng + Drop> FileSystem<R> {
         Ok(())
     }
 
-    /// Returns what a sync of a file is, by what the file is before it.
-    fn sync_of(&self, inode: u64) -> Result<Synced, FsError>
-        ensures kind { IfOk result (λ kind. IsSyncOf inode kind) }
-        ensures numbered { OnOk result (inode < fresh_inode self.now) }
+    /// Returns the number of the next edit after a file's size last changed.
+    fn sized(&self, inode: u64) -> Result<u64, FsError>
+        ensures { OnOk result (inode < fresh_inode self.now) }
     {
         if inode >= self.next_inode {
             return Err(FsError::Stale);
@@ -41,41 +40,21 @@ impl<R: Rng + Drop> FileSystem<R> {
         let Some(file) = self.files.get(&inode) else {
             return Err(FsError::Stale);
         };
-        Ok(Synced::File {
-            inode,
-            grown: file.as_ref().grown,
-            changed: file.as_ref().changed,
-        })
+        Ok(file.as_ref().sized)
     }
 
-    /// Returns what a sync of a file's data is, by what the file is before it: of its writes only those count that made it longer.
-    fn data_sync_of(&self, inode: u64) -> Result<Synced, FsError>
-        ensures { IfOk result (λ kind. IsSyncOf inode kind) }
-    {
-        let Some(file) = self.files.get(&inode) else {
-            return Err(FsError::Stale);
-        };
-        let file = file.as_ref();
-        Ok(Synced::File {
-            inode,
-            grown: file.grown,
-            changed: file.grown,
-        })
-    }
-
-    /// Syncs an inode's bytes. Returns what is needed to choose the edits that this settles.
-    fn sync_bytes(&mut self, inode: u64) -> Result<Synced, FsError>
+    /// Syncs an inode's bytes. Returns the number of the next edit after its size last changed.
+    fn sync_bytes(&mut self, inode: u64) -> Result<u64, FsError>
         ensures names { KeepsNames self.old self.new }
         ensures told { KeepsTold self.old self.new }
         ensures journal { OnOk result (KeepsJournal self.old self.new) }
-        ensures file { IfOk result (λ kind. IsSyncOf inode kind) }
         ensures fixed { KeepsFixed self.old self.new }
         ensures fixes { OnOk result (FixesInode inode self.old self.new) }
         ensures seen { OnOk result (KeepsSeen self.old self.new) }
         ensures uncut { OnOk result (IsUncut self.new inode) }
         ensures options { KeepsOptions self.old self.new }
     {
-        let synced = self.sync_of(inode)?;
+        let sized = self.sized(inode)?;
         let Some(file) = self.files.get_mut(&inode) else {
             return Err(FsError::Stale);
         };
@@ -84,9 +63,8 @@ impl<R: Rng + Drop> FileSystem<R> {
             return Err(self.fail_sync(inode, error));
         }
         file.synced = file.blob.size();
-        file.is_truncated = false;
         file.truncations.clear();
-        Ok(synced)
+        Ok(sized)
     }
 
     /// Returns the error of a sync of a file's bytes that failed. If the options say so, the bytes are dropped.
@@ -126,13 +104,13 @@ impl<R: Rng + Drop> FileSystem<R> {
             return Ok(());
         }
         let settles = self.options.profile.settles;
-        let synced = self.sync_bytes(inode)?;
-        self.settle_by(settles, synced)?;
+        let sized = self.sync_bytes(inode)?;
+        self.settle_by(settles, Synced::File { inode, sized })?;
         Ok(())
     }
 
-    /// Makes a file's bytes and size durable. Settles the edits of a `sync`, but with `Settles::All` not those between the file's
-    /// growth and its last overwrite.
+    /// Makes a file's bytes and size durable. Settles the edits of a `sync`. With `Settles::UpToLastOrSize` it settles only those up to the
+    /// file's creation, its last truncation or its last growth.
     ///
     /// # Errors
     ///
@@ -141,7 +119,7 @@ impl<R: Rng + Drop> FileSystem<R> {
     pub fn sync_data(&mut self, file: Descriptor) -> Result<(), FsError>
         ensures names { KeepsNames self.old self.new }
         ensures some { SettlesSome self.old self.new }
-        ensures settled { OnOk result (syncs_of self.old ≡ Honest → SyncsFile self.old file self.new) }
+        ensures settled { OnOk result (syncs_of self.old ≡ Honest → SyncsData self.old file self.new) }
         ensures fixed { KeepsFixed self.old self.new }
         ensures fixes { OnOk result (syncs_of self.old ≡ Honest → FixesFile self.old file self.new) }
         ensures options { KeepsOptions self.old self.new }
@@ -152,10 +130,9 @@ impl<R: Rng + Drop> FileSystem<R> {
         if self.options.syncs == Syncs::Lie {
             return Ok(());
         }
-        let synced = self.data_sync_of(inode)?;
         let settles = self.options.profile.settles;
-        self.sync_bytes(inode)?;
-        self.settle_by(settles, synced)?;
+        let sized = self.sync_bytes(inode)?;
+        self.settle_by(settles, Synced::Data { inode, sized })?;
         Ok(())
     }
 

@@ -9,8 +9,8 @@ ghost use Rattle.blob_fs.specs.Tracked.{freed_of};
 use crate::error::FsError;
 use crate::file_system::{Descriptor, File, FileSystem};
 use crate::truncation::Truncation;
+use crate::writes::{cut_page, zeroing};
 use blob_base::Error;
-use blob_faulty::Config;
 use blob_journal::laws::bindings;
 use rand_core::Rng;
 
@@ -21,20 +21,38 @@ impl File {
         ensures links { links_of self.new ≡ links_of self.old }
         ensures gone { freed_of self.new ≡ freed_of self.old }
     {
-        self.grown = edit;
+        self.sized = edit.saturating_add(1);
         self.show_size(length);
         self.size()
     }
 }
 
+/// The bytes of a page of the kernel's cache.
+const PAGE: u64 = 4096;
+
 impl<R: Rng + Drop> FileSystem<R> {
+    /// Returns the zeros that a truncation from a size to a length writes: up to the end of the page, or of the file. The only error is
+    /// `Memory`.
+    fn page_zeros(&self, size: u64, length: u64) -> Result<Vec<u8>, FsError> {
+        let mut zeros = Vec::new(self.alloc);
+        let within = length % PAGE;
+        if !self.options.profile.pages || within == 0 {
+            return Ok(zeros);
+        }
+        let count = size.saturating_sub(length).min(PAGE - within);
+        zeros.resize(count as usize, 0)?;
+        Ok(zeros)
+    }
+
     /// Truncates a file to a length, or extends it by zeros, unsynced. This is an edit: a crash keeps or loses it whole, by the rate
     /// and in the order of edits, and a sync of the file settles it. If the file has this length already, nothing changes.
+    ///
+    /// If the profile says so, zeros are written up to the end of the page that is cut. A crash keeps of them what it keeps of writes.
     ///
     /// # Errors
     ///
     /// `Stale`; `NoSpace` beyond the limit of bytes; those of the journal; `Memory`. The bytes are unchanged. After `Memory` the edit
-    /// may be recorded, without an effect on bytes or names. `Injected` by the failure rate of the layer's resizes: the bytes are
+    /// may be recorded, without an effect on names, and the bytes from the length to the end of its page may be zeros. `Injected` by the failure rate of the layer's resizes: the bytes are
     /// unchanged or, by the partial rate, the file is truncated to a length above the requested one.
     pub fn truncate(&mut self, file: Descriptor, length: u64) -> Result<(), FsError>
         ensures names { KeepsNames self.old self.new }
@@ -53,6 +71,7 @@ impl<R: Rng + Drop> FileSystem<R> {
         if length == size && !is_failed {
             return Ok(());
         }
+        let zeros = self.page_zeros(size, reached)?;
         let rate = self.options.edit_rate;
         let Some(found) = self.files.get_mut(&inode) else {
             return Err(FsError::Stale);
@@ -61,8 +80,8 @@ impl<R: Rng + Drop> FileSystem<R> {
         found.reserve_shown(reached)?;
         found.truncations.reserve(1)?;
         let edit = self.store.record_truncation(inode, rate)?;
-        self.store.set_config(Config::default());
-        self.store.resize_file(&mut found.blob, reached)?;
+        self.store.set_config(zeroing(&self.options.faults));
+        cut_page(&mut found.blob, &mut self.store, reached, &zeros)?;
         let next_write = self.store.next_write();
         found.truncations.push_reserved(Truncation {
             edit,
@@ -74,32 +93,6 @@ impl<R: Rng + Drop> FileSystem<R> {
         if is_failed {
             return Err(Error::Injected.into());
         }
-        Ok(())
-    }
-
-    /// Notes that an open truncated a file.
-    fn set_truncated(&mut self, inode: u64)
-        ensures names { KeepsNames self.old self.new }
-        ensures told { KeepsTold self.old self.new }
-        ensures fixed { KeepsFixed self.old self.new }
-        ensures options { KeepsOptions self.old self.new }
-    {
-        if let Some(found) = self.files.get_mut(&inode) {
-            let found = found.as_mut();
-            found.is_truncated = true;
-        }
-    }
-
-    /// Truncates a file that an open made empty.
-    pub(crate) fn clear(&mut self, file: Descriptor) -> Result<(), FsError>
-        ensures names { KeepsNames self.old self.new }
-        ensures told { MayTruncate file self.old self.new }
-        ensures fixed { KeepsSpared file (λ at. at < 0) self.old self.new }
-        ensures options { KeepsOptions self.old self.new }
-    {
-        self.truncate(file, 0)?;
-        let inode = self.inode_of(file)?;
-        self.set_truncated(inode);
         Ok(())
     }
 }

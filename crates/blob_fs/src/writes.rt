@@ -1,9 +1,12 @@
 //! Writes of a blob, by which bytes of a failed one are written.
-ghost use Rattle.std.specs.Prelude.{◌≡◌, OnOk, Some, length};
+ghost use Rattle.std.specs.Prelude.{◌≡◌, ◌<◌, ◌≤◌, OnOk, Some, length};
+ghost use Rattle.blob_faulty.specs.Wrapper.{size_of};
 ghost use Rattle.blob_draws.specs.Faults.{retention};
 ghost use Rattle.blob_fs.specs.declared.switches.FailedWrite.TheVariants.{ByMode};
+ghost use Rattle.blob_fs.specs.Noted.{ResizesOpen};
 ghost use Rattle.blob_journal.specs.Fixed.{ChangesOpen, IsBeside};
 ghost use Rattle.blob_journal.specs.Keeping.{KeepsTable, KeepsTold};
+ghost use Rattle.blob_journal.specs.Settling.{KeepsUnsettled};
 ghost use Rattle.blob_journal.specs.Writes.{RecordsWrite};
 
 use crate::base::copy_of;
@@ -21,6 +24,80 @@ pub(crate) fn with_writes(faults: &Config, failure_rate: Probability, writes: Wr
         failure_rate,
         ..writes
     })
+}
+
+/// Writes zeros, unsynced. If there are none, it does nothing.
+fn put_zeros<R: Rng + Drop>(
+    blob: &mut FileBlob,
+    store: &mut Journaled<R>,
+    offset: u64,
+    zeros: &[u8],
+) -> Result<(), Error>
+    ensures names { KeepsTable store.old store.new }
+    ensures told { KeepsTold store.old store.new }
+    ensures unsettled { OnOk result (KeepsUnsettled store.old store.new) }
+    ensures none { length zeros.now ≡ 0 → (store.new ≡ store.old) × (blob.new ≡ blob.old) }
+    ensures still { ChangesOpen (IsBeside offset (length zeros.now)) store.old blob.old store.new blob.new }
+{
+    if zeros.is_empty() {
+        return Ok(());
+    }
+    store.write_file(blob, offset, zeros)
+}
+
+/// Writes zeros and then bytes, unsynced. The zeros are beyond the end of the file.
+pub(crate) fn write_grown<R: Rng + Drop>(
+    blob: &mut FileBlob,
+    store: &mut Journaled<R>,
+    how: FailedWrite,
+    faults: &Config,
+    zeros: (u64, &[u8]),
+    bytes: (u64, &[u8]),
+) -> Result<(), Error>
+    requires { size_of blob.old.blob ≤ zeros.0 }
+    ensures names { KeepsTable store.old store.new }
+    ensures told { KeepsTold store.old store.new }
+    ensures recorded { OnOk result (how ≡ ByMode → length zeros.entry.1.now ≡ 0
+        → RecordsWrite bytes.entry.0 bytes.entry.1.now store.old blob.old store.new blob.new) }
+    ensures still { ChangesOpen (IsBeside bytes.entry.0 (length bytes.entry.1.now)) store.old blob.old store.new blob.new }
+{
+    put_zeros(blob, store, zeros.0, zeros.1)?;
+    write_blob(blob, store, how, faults, bytes.0, bytes.1)
+}
+
+/// Truncates a file to a length, unsynced. Before that it writes these zeros from there on.
+pub(crate) fn cut_page<R: Rng + Drop>(
+    blob: &mut FileBlob,
+    store: &mut Journaled<R>,
+    length: u64,
+    zeros: &[u8],
+) -> Result<(), Error>
+    ensures names { KeepsTable store.old store.new }
+    ensures told { KeepsTold store.old store.new }
+    ensures unsettled { OnOk result (KeepsUnsettled store.old store.new) }
+    ensures sized { OnOk result (ResizesOpen length store.old blob.old blob.new) }
+    ensures still { ChangesOpen (λ at. at < length) store.old blob.old store.new blob.new }
+{
+    put_zeros(blob, store, length, zeros)?;
+    store.resize_file(blob, length)
+}
+
+/// Returns the faults of the zeros that a truncation writes: none. A crash keeps of them what it keeps of writes.
+pub(crate) fn zeroing(faults: &Config) -> Config {
+    match faults.write_rate {
+        None => Config::default(),
+        Some(writes) => Config::default().write(WriteConfig {
+            failure_rate: Probability::ZERO,
+            ..writes
+        }),
+    }
+}
+
+/// Returns the zeros to write, or none of them.
+pub(crate) fn chosen(is_written: bool, zeros: &[u8]) -> &[u8]
+    ensures { length result.now ≤ length zeros.now }
+{
+    if is_written { zeros } else { &[] }
 }
 
 /// Writes bytes, unsynced.

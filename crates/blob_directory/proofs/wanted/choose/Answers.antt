@@ -1,8 +1,8 @@
-use Rattle.std.proofs.Common.{inl, inr, ⊎_elim, nat_lt, arith}
+use Rattle.std.proofs.Common.{false, inl, inr, true, ⊎_elim}
 use Rattle.std.proofs.lemmas.Bool.{lt-ltb, ltb-true, or_cases, or_left, or_right}
-use Rattle.blob_directory.specs.Wanted.{is_of_any, is_up_to}
+use Rattle.blob_directory.specs.Wanted.{is_of_any}
 use Rattle.blob_directory.specs.Syncs.{is_in}
-use Rattle.blob_directory.proofs.Syncs.{is_up, of_upward, up_to, upward_of}
+use Rattle.blob_directory.proofs.Syncs.{of_upward, up_to_alone, up_to_or_below, upward_of}
 use Rattle.blob_directory.proofs.wanted.choose.Goals as goal
 
 pub returns-in_ok-inodes-in-Names-File : goal.returns-in_ok-inodes-in-Names-File
@@ -12,6 +12,15 @@ returns-in_ok-inodes-in-Names-File c = λ e there.
     rw (c.in-Names-File.is-0, c.in-Names-File.is-1) (
       of_upward edits c.in-Names-File.inode found e c.in_ok-inodes-in-Names-File.ensures.only,
       upward_of edits c.in-Names-File.inode found e c.in_ok-inodes-in-Names-File.ensures.all,
+    )
+
+pub returns-in_ok-inodes-in-Names-Data : goal.returns-in_ok-inodes-in-Names-Data
+returns-in_ok-inodes-in-Names-Data c = λ e there.
+    let edits = c.args.edits.now in
+    let found = c.in_ok-inodes-in-Names-Data.inodes.items in
+    rw (c.in-Names-Data.is-0, c.in-Names-Data.is-1) (
+      of_upward edits c.in-Names-Data.inode found e c.in_ok-inodes-in-Names-Data.ensures.only,
+      upward_of edits c.in-Names-Data.inode found e c.in_ok-inodes-in-Names-Data.ensures.all,
     )
 
 pub returns-in_ok-inodes-in-Names-Directory : goal.returns-in_ok-inodes-in-Names-Directory
@@ -25,33 +34,13 @@ returns-in_ok-inodes-in-Names-Directory c = λ e there.
     )
 
 pub returns-in-UpToLast-File : goal.returns-in-UpToLast-File
-returns-in-UpToLast-File c = λ e there.
-    let edits = c.args.edits.now in
-    let inode = c.in-UpToLast-File.inode in
-    let grown = c.in-UpToLast-File.grown in
-    let last = c.last_of.result in
-    rw (c.in-UpToLast-File.is-0, c.in-UpToLast-File.is-1) (
-      λ h. ⊎_elim (λ x. inl (up_to edits inode last e c.last_of.ensures x)) (λ y. inr (ltb-true e.number grown y)) (or_cases (is_up_to last e.number) (nat_lt e.number grown) h),
-      λ s. ⊎_elim (λ x. or_left (is_up_to last e.number) (nat_lt e.number grown) (is_up edits inode last e c.last_of.ensures x)) (λ y. or_right (is_up_to last e.number) (nat_lt e.number grown) (lt-ltb e.number grown y)) s,
-    )
+returns-in-UpToLast-File c = λ e there. rw (c.in-UpToLast-File.is-0, c.in-UpToLast-File.is-1) (up_to_or_below c.args.edits.now false c.in-UpToLast-File.inode c.last_of.result c.in-UpToLast-File.sized e c.last_of.ensures)
+
+pub returns-in-UpToLast-Data : goal.returns-in-UpToLast-Data
+returns-in-UpToLast-Data c = λ e there. rw (c.in-UpToLast-Data.is-0, c.in-UpToLast-Data.is-1) (up_to_or_below c.args.edits.now true c.in-UpToLast-Data.inode c.last_of-in-UpToLast-Data.result c.in-UpToLast-Data.sized e c.last_of-in-UpToLast-Data.ensures)
 
 pub returns-in-UpToLast-Directory : goal.returns-in-UpToLast-Directory
-returns-in-UpToLast-Directory c = λ e there.
-    let edits = c.args.edits.now in
-    let d = c.in-UpToLast-Directory.directory in
-    let last = c.last_of-in-UpToLast-Directory.result in
-    rw (c.in-UpToLast-Directory.is-0, c.in-UpToLast-Directory.is-1) (
-      λ h. ⊎_elim (λ x. up_to edits d last e c.last_of-in-UpToLast-Directory.ensures x) (λ y. absurd (omega (arith, ltb-true e.number 0 y))) (or_cases (is_up_to last e.number) (nat_lt e.number 0) h),
-      λ u. or_left (is_up_to last e.number) (nat_lt e.number 0) (is_up edits d last e c.last_of-in-UpToLast-Directory.ensures u),
-    )
+returns-in-UpToLast-Directory c = λ e there. rw (c.in-UpToLast-Directory.is-0, c.in-UpToLast-Directory.is-1) (up_to_alone c.args.edits.now false c.in-UpToLast-Directory.directory c.last_of-in-UpToLast-Directory.result e c.last_of-in-UpToLast-Directory.ensures)
 
-pub returns-in-All-File : goal.returns-in-All-File
-returns-in-All-File c = λ e there.
-    let edits = c.args.edits.now in
-    let inode = c.in-All-File.inode in
-    let changed = c.in-All-File.changed in
-    let last = c.last_of-in-All-File.result in
-    rw (c.in-All-File.is-0, c.in-All-File.is-1) (
-      λ h. ⊎_elim (λ x. inl (up_to edits inode last e c.last_of-in-All-File.ensures x)) (λ y. inr (ltb-true e.number changed y)) (or_cases (is_up_to last e.number) (nat_lt e.number changed) h),
-      λ s. ⊎_elim (λ x. or_left (is_up_to last e.number) (nat_lt e.number changed) (is_up edits inode last e c.last_of-in-All-File.ensures x)) (λ y. or_right (is_up_to last e.number) (nat_lt e.number changed) (lt-ltb e.number changed y)) s,
-    )
+pub returns-in-UpToLastOrSize-File : goal.returns-in-UpToLastOrSize-File
+returns-in-UpToLastOrSize-File c = λ e there. rw (c.in-UpToLastOrSize-File.is-0, c.in-UpToLastOrSize-File.is-1) (up_to_or_below c.args.edits.now false c.in-UpToLastOrSize-File.inode c.last_of-in-UpToLastOrSize-File.result c.in-UpToLastOrSize-File.sized e c.last_of-in-UpToLastOrSize-File.ensures)

@@ -5,15 +5,8 @@ returns-in_err-reserve-clause-fixed g c = λ inode at byte below f.
     let one = c.begin_call.ensures.fixed inode at byte below f in
     record { numbered = one.numbered; synced = one.synced; fixed = one.fixed }
 
-pub returns-in_err-flush_truncated-clause-fixed : goal.returns-in_err-flush_truncated-clause-fixed
-returns-in_err-flush_truncated-clause-fixed g c = λ inode at byte below f.
-    let one = c.begin_call.ensures.fixed inode at byte below f in
-    let two = c.flush_truncated.ensures.fixed inode at byte below (record { numbered = one.numbered; synced = one.synced; fixed = one.fixed }) in
-    two
-
 pub returns-clause-fixed : goal.returns-clause-fixed
 returns-clause-fixed g c = λ inode at byte below f.
     let one = c.begin_call.ensures.fixed inode at byte below f in
-    let two = c.flush_truncated.ensures.fixed inode at byte below (record { numbered = one.numbered; synced = one.synced; fixed = one.fixed }) in
     c.remove_gone.ensures.fixed inode at byte below (c.let_go.ensures.fixed inode at byte below
-    (c.drop_open.ensures.fixed inode at byte below (record { numbered = two.numbered; synced = two.synced; fixed = two.fixed })))
+    (c.drop_open.ensures.fixed inode at byte below (record { numbered = one.numbered; synced = one.synced; fixed = one.fixed })))

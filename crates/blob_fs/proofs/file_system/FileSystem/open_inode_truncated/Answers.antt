@@ -12,25 +12,25 @@ returns-in_err-file-clause-fixed g c = λ inode at byte below apart f. c.open_in
 pub returns-in_err-close-clause-fixed : goal.returns-in_err-close-clause-fixed
 returns-in_err-close-clause-fixed g c = λ inode at byte below apart f.
     c.close.ensures.fixed inode at byte below
-    (c.clear.ensures.fixed inode at byte below (inl (λ e. apart (some_same (sym e ∙ c.in_ok-file.ensures.opened)))) (c.open_inode.ensures.fixed inode at byte below (c.begin_call.ensures.fixed inode at byte below f)))
+    (c.truncate.ensures.fixed inode at byte below (inl (λ e. apart (some_same (sym e ∙ c.in_ok-file.ensures.opened)))) (c.open_inode.ensures.fixed inode at byte below (c.begin_call.ensures.fixed inode at byte below f)))
 
 pub returns-in-Err-clause-fixed : goal.returns-in-Err-clause-fixed
 returns-in-Err-clause-fixed g c = λ inode at byte below apart f.
     c.close.ensures.fixed inode at byte below
-    (c.clear.ensures.fixed inode at byte below (inl (λ e. apart (some_same (sym e ∙ c.in_ok-file.ensures.opened)))) (c.open_inode.ensures.fixed inode at byte below (c.begin_call.ensures.fixed inode at byte below f)))
+    (c.truncate.ensures.fixed inode at byte below (inl (λ e. apart (some_same (sym e ∙ c.in_ok-file.ensures.opened)))) (c.open_inode.ensures.fixed inode at byte below (c.begin_call.ensures.fixed inode at byte below f)))
 
 pub returns-clause-fixed : goal.returns-clause-fixed
 returns-clause-fixed g c = λ inode at byte below apart f.
-    c.clear.ensures.fixed inode at byte below (inl (λ e. apart (some_same (sym e ∙ c.in_ok-file.ensures.opened)))) (c.open_inode.ensures.fixed inode at byte below (c.begin_call.ensures.fixed inode at byte below f))
+    c.truncate.ensures.fixed inode at byte below (inl (λ e. apart (some_same (sym e ∙ c.in_ok-file.ensures.opened)))) (c.open_inode.ensures.fixed inode at byte below (c.begin_call.ensures.fixed inode at byte below f))
 
 pub returns-in_err-close-clause-told : goal.returns-in_err-close-clause-told
-returns-in_err-close-clause-told g c = resizes_opened c.in_ok-file.file c.args.inode c.args.self.now c.open_inode.new.self c.clear.new.self c.close.new.self
-    c.in_ok-file.ensures.opened (c.open_inode.ensures.told ∙ c.begin_call.ensures.told) c.clear.ensures.told c.close.ensures.told
+returns-in_err-close-clause-told g c = resizes_opened c.in_ok-file.file c.args.inode c.args.self.now c.open_inode.new.self c.truncate.new.self c.close.new.self
+    c.in_ok-file.ensures.opened (c.open_inode.ensures.told ∙ c.begin_call.ensures.told) c.truncate.ensures.told c.close.ensures.told
 
 pub returns-in-Err-clause-told : goal.returns-in-Err-clause-told
-returns-in-Err-clause-told g c = resizes_opened c.in_ok-file.file c.args.inode c.args.self.now c.open_inode.new.self c.clear.new.self c.close.new.self
-    c.in_ok-file.ensures.opened (c.open_inode.ensures.told ∙ c.begin_call.ensures.told) c.clear.ensures.told c.close.ensures.told
+returns-in-Err-clause-told g c = resizes_opened c.in_ok-file.file c.args.inode c.args.self.now c.open_inode.new.self c.truncate.new.self c.close.new.self
+    c.in_ok-file.ensures.opened (c.open_inode.ensures.told ∙ c.begin_call.ensures.told) c.truncate.ensures.told c.close.ensures.told
 
 pub returns-clause-told : goal.returns-clause-told
-returns-clause-told g c = resizes_opened c.in_ok-file.file c.args.inode c.args.self.now c.open_inode.new.self c.clear.new.self c.clear.new.self
-    c.in_ok-file.ensures.opened (c.open_inode.ensures.told ∙ c.begin_call.ensures.told) c.clear.ensures.told refl
+returns-clause-told g c = resizes_opened c.in_ok-file.file c.args.inode c.args.self.now c.open_inode.new.self c.truncate.new.self c.truncate.new.self
+    c.in_ok-file.ensures.opened (c.open_inode.ensures.told ∙ c.begin_call.ensures.told) c.truncate.ensures.told refl

@@ -1,6 +1,7 @@
 use Rattle.std.proofs.Common.{ℕ, ap, sym, subst, ◌∙◌}
 use Rattle.std.specs.BTreeMap.{BTreeMap, get}
 use Rattle.std.specs.Ordering.{nat_cmp}
+use Rattle.blob_directory.specs.declared.unsettled.Synced.TheVariants.{File}
 use Rattle.blob_fs.specs.declared.file_system.Options.{Options}
 use Rattle.blob_fs.specs.Files.{SettlesEdits, descriptor_number}
 use Rattle.blob_fs.proofs.Fixed.{fixed_twice}
@@ -14,14 +15,13 @@ returns-clause-settled g c = λ honest.
     let two = c.sync_bytes.new.self in
     let three = c.settle_by.new.self in
     let same = c.begin_call.ensures.files in
-    let kept = c.settling.ensures.twice fs.store one.store two.store c.in_ok-begin_call.ensures.journal c.in_ok-synced.ensures.journal in
+    let kept = c.settling.ensures.twice fs.store one.store two.store c.in_ok-begin_call.ensures.journal c.in_ok-sized.ensures.journal in
     record {
       inode = c.in_ok-inode.inode;
       opened = ap (λ (m : BTreeMap ℕ ℕ). get nat_cmp m (descriptor_number c.args.file)) (sym same.opens) ∙ c.in_ok-inode.ensures;
-      kind = c.in_ok-synced.synced;
-      is = c.in_ok-synced.ensures.file;
-      settled = subst (λ (o : Options). SettlesEdits o.profile.settles c.in_ok-synced.synced fs three) same.options
-          (c.settling.ensures.after one.options.profile.settles c.in_ok-synced.synced fs.store two.store three.store kept c.in_ok-settle_by.ensures.settled);
+      sized = c.in_ok-sized.sized;
+      settled = subst (λ (o : Options). SettlesEdits o.profile.settles (File c.in_ok-inode.inode c.in_ok-sized.sized) fs three) same.options
+          (c.settling.ensures.after one.options.profile.settles (File c.in_ok-inode.inode c.in_ok-sized.sized) fs.store two.store three.store kept c.in_ok-settle_by.ensures.settled);
     }
 
 pub returns-clause-fixed : goal.returns-clause-fixed
@@ -42,11 +42,11 @@ returns-clause-fixes g c = λ honest.
     record {
       inode = c.in_ok-inode.inode;
       opened = ap (λ (m : BTreeMap ℕ ℕ). get nat_cmp m (descriptor_number c.args.file)) (sym same.opens) ∙ c.in_ok-inode.ensures;
-      fixes = fixes_after c.in_ok-inode.inode fs two three (fixes_before c.in_ok-inode.inode fs one two same.files c.in_ok-synced.ensures.fixes) c.settle_by.ensures.fixed;
+      fixes = fixes_after c.in_ok-inode.inode fs two three (fixes_before c.in_ok-inode.inode fs one two same.files c.in_ok-sized.ensures.fixes) c.settle_by.ensures.fixed;
     }
 
-pub returns-in_err-synced-clause-fixed : goal.returns-in_err-synced-clause-fixed
-returns-in_err-synced-clause-fixed g c = fixed_twice c.args.self.now c.begin_call.new.self c.sync_bytes.new.self c.begin_call.ensures.fixed c.sync_bytes.ensures.fixed
+pub returns-in_err-sized-clause-fixed : goal.returns-in_err-sized-clause-fixed
+returns-in_err-sized-clause-fixed g c = fixed_twice c.args.self.now c.begin_call.new.self c.sync_bytes.new.self c.begin_call.ensures.fixed c.sync_bytes.ensures.fixed
 
 pub returns-in_err-settle_by-clause-fixed : goal.returns-in_err-settle_by-clause-fixed
 returns-in_err-settle_by-clause-fixed g c =

@@ -50,7 +50,7 @@ invariant_of-self-2 g c =
     let fs = c.args.self.now in
     let was = c.as_mut-file.result.now in
     let there = ap Some c.as_mut-file.ensures.value ∙ c.in-Some.ensures.value in
-    let new : File = record was { blob = c.sync_file.new.file; synced = c.size-file.result; is_truncated = false; truncations = c.clear.new.self } in
+    let new : File = record was { blob = c.sync_file.new.file; synced = c.size-file.result; truncations = c.clear.new.self } in
     record {
       opened = opened_changed (λ at. Unit) fs.store c.sync_file.new.self fs.files (c.get_mut.follows.lender new) c.args.inode was new (omega arith) there
           (sets_through fs.files (c.get_mut.follows.lender new) c.args.inode was new there (c.get_mut.follows.holds new)) c.sync_file.ensures.still fs.opened;
@@ -65,7 +65,7 @@ returns-clause-fixed g c =
     let fs = c.args.self.now in
     let was = c.as_mut-file.result.now in
     let there = ap Some c.as_mut-file.ensures.value ∙ c.in-Some.ensures.value in
-    let new : File = record was { blob = c.sync_file.new.file; synced = c.size-file.result; is_truncated = false; truncations = c.clear.new.self } in
+    let new : File = record was { blob = c.sync_file.new.file; synced = c.size-file.result; truncations = c.clear.new.self } in
     let more : fs.next_inode ≤ fs.next_inode = omega arith in
     let small : c.args.inode < 2 ^ 64 = omega arith in
     λ inode at byte below h.
@@ -78,8 +78,8 @@ returns-clause-fixes g c =
     let fs = c.args.self.now in
     let was = c.as_mut-file.result.now in
     let there = ap Some c.as_mut-file.ensures.value ∙ c.in-Some.ensures.value in
-    let new : File = record was { blob = c.sync_file.new.file; synced = c.size-file.result; is_truncated = false; truncations = c.clear.new.self } in
-    fixes_synced fs _ c.args.inode was new c.in_ok-synced.ensures.numbered there
+    let new : File = record was { blob = c.sync_file.new.file; synced = c.size-file.result; truncations = c.clear.new.self } in
+    fixes_synced fs _ c.args.inode was new c.in_ok-sized.ensures there
     (sets_through fs.files (c.get_mut.follows.lender new) c.args.inode was new there (c.get_mut.follows.holds new))
     c.in_default-sync_file.ensures.fixes c.size-file.ensures c.clear.ensures.items fs.opened
 
@@ -88,7 +88,7 @@ returns-clause-seen g c =
     let fs = c.args.self.now in
     let was = c.as_mut-file.result.now in
     let there = ap Some c.as_mut-file.ensures.value ∙ c.in-Some.ensures.value in
-    let new : File = record was { blob = c.sync_file.new.file; synced = c.size-file.result; is_truncated = false; truncations = c.clear.new.self } in
+    let new : File = record was { blob = c.sync_file.new.file; synced = c.size-file.result; truncations = c.clear.new.self } in
     seen_synced fs _ c.args.inode was new there
     (sets_through fs.files (c.get_mut.follows.lender new) c.args.inode was new there (c.get_mut.follows.holds new))
     c.in_default-sync_file.ensures.fixes fs.opened
@@ -98,7 +98,7 @@ returns-clause-uncut g c = λ now at.
     let fs = c.args.self.now in
     let was = c.as_mut-file.result.now in
     let there = ap Some c.as_mut-file.ensures.value ∙ c.in-Some.ensures.value in
-    let new : File = record was { blob = c.sync_file.new.file; synced = c.size-file.result; is_truncated = false; truncations = c.clear.new.self } in
+    let new : File = record was { blob = c.sync_file.new.file; synced = c.size-file.result; truncations = c.clear.new.self } in
     let sets = sets_through fs.files (c.get_mut.follows.lender new) c.args.inode was new there (c.get_mut.follows.holds new) in
     let is : new ≡ now = set_here fs.files (c.get_mut.follows.lender new) c.args.inode new now sets at in
     subst (λ (f : File). (f.synced ≡ size_of f.blob.blob) × (f.truncations.items ≡ [])) is (c.size-file.ensures, c.clear.ensures.items)

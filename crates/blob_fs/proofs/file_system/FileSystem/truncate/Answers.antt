@@ -8,7 +8,7 @@ use Rattle.blob_directory.specs.Names.{resizes}
 use Rattle.blob_directory.specs.Records.{Found}
 use Rattle.blob_journal.specs.Settling.{unsettled_of}
 use Rattle.blob_fs.specs.Bytes.{file_in}
-use Rattle.blob_fs.specs.Noted.{truncations_in}
+use Rattle.blob_fs.specs.Noted.{ResizesOpen, truncations_in}
 use Rattle.blob_fs.proofs.Recovering.{key_self}
 use Rattle.blob_fs.specs.declared.file_system.File.{File}
 use Rattle.blob_fs.specs.declared.truncation.Truncation.{Truncation}
@@ -18,7 +18,6 @@ use Rattle.blob_fs.proofs.Fixed.{changes_after, changes_again, changes_less, con
 use Rattle.blob_fs.proofs.Named.{links_set, named_after, named_none, named_through, same_at_most}
 use Rattle.blob_fs.proofs.Tracked.{freed_set, tracked_after, tracked_freed, tracked_none, tracked_store, tracked_through}
 use Rattle.blob_faulty.specs.Wrapper.{next_write_of, size_of}
-use Rattle.blob_journal.specs.Blobs.{ResizesFile}
 use Rattle.blob_journal.specs.Journals.{store_of}
 use Rattle.blob_journal.specs.declared.store.FileBlob.{FileBlob}
 use Rattle.blob_fs.proofs.Sizing.{resized_size}
@@ -65,8 +64,8 @@ returns-in_default-clause-fixed g c =
     λ inode at byte below spared f.
     fixed_after one _ more (contents_same one.files c.get_mut.follows.lender-at-none c.get_mut.follows.holds-at-none) (still_self one.store) inode at byte below (keeps inode at byte below f)
 
-pub invariant_of-self-in-Break-branch-6 : goal.invariant_of-self-in-Break-branch-6
-invariant_of-self-in-Break-branch-6 g c =
+pub invariant_of-self-in-Break-branch-7 : goal.invariant_of-self-in-Break-branch-7
+invariant_of-self-in-Break-branch-7 g c =
     let one = c.draw_truncation.new.self in
     let was = c.as_mut-found.result.now in
     let there = ap Some c.as_mut-found.ensures.value ∙ c.in-Some.ensures.value in
@@ -90,8 +89,8 @@ returns-in_err-reserve_shown-clause-fixed g c =
     (contents_through one.files (c.get_mut.follows.lender new) c.in_ok-inode.inode was new (ap Some c.as_mut-found.ensures.value ∙ c.in-Some.ensures.value) (c.get_mut.follows.holds new) c.reserve_shown.ensures.content)
     (still_self one.store) inode at byte below (keeps inode at byte below f)
 
-pub invariant_of-self-in-Break-branch-7 : goal.invariant_of-self-in-Break-branch-7
-invariant_of-self-in-Break-branch-7 g c =
+pub invariant_of-self-in-Break-branch-8 : goal.invariant_of-self-in-Break-branch-8
+invariant_of-self-in-Break-branch-8 g c =
     let one = c.draw_truncation.new.self in
     let was = c.as_mut-found.result.now in
     let there = ap Some c.as_mut-found.ensures.value ∙ c.in-Some.ensures.value in
@@ -116,8 +115,8 @@ returns-in_err-reserve-clause-fixed g c =
     (contents_through one.files (c.get_mut.follows.lender new) c.in_ok-inode.inode was new (ap Some c.as_mut-found.ensures.value ∙ c.in-Some.ensures.value) (c.get_mut.follows.holds new) (record { blob = c.reserve_shown.ensures.content.blob; synced = c.reserve_shown.ensures.content.synced; truncations = c.reserve.ensures.items ∙ c.reserve_shown.ensures.content.truncations }))
     (still_self one.store) inode at byte below (keeps inode at byte below f)
 
-pub invariant_of-self-in-Break-branch-8 : goal.invariant_of-self-in-Break-branch-8
-invariant_of-self-in-Break-branch-8 g c =
+pub invariant_of-self-in-Break-branch-9 : goal.invariant_of-self-in-Break-branch-9
+invariant_of-self-in-Break-branch-9 g c =
     let one = c.draw_truncation.new.self in
     let was = c.as_mut-found.result.now in
     let there = ap Some c.as_mut-found.ensures.value ∙ c.in-Some.ensures.value in
@@ -143,50 +142,50 @@ returns-in_err-edit-clause-fixed g c =
     (contents_through one.files (c.get_mut.follows.lender new) c.in_ok-inode.inode was new (ap Some c.as_mut-found.ensures.value ∙ c.in-Some.ensures.value) (c.get_mut.follows.holds new) (record { blob = c.reserve_shown.ensures.content.blob; synced = c.reserve_shown.ensures.content.synced; truncations = c.reserve.ensures.items ∙ c.reserve_shown.ensures.content.truncations }))
     c.record_truncation.ensures.still inode at byte below (keeps inode at byte below f)
 
-pub invariant_of-self-in-Break-branch-9 : goal.invariant_of-self-in-Break-branch-9
-invariant_of-self-in-Break-branch-9 g c =
+pub invariant_of-self-in-Break-branch-10 : goal.invariant_of-self-in-Break-branch-10
+invariant_of-self-in-Break-branch-10 g c =
     let one = c.draw_truncation.new.self in
     let was = c.as_mut-found.result.now in
     let there = ap Some c.as_mut-found.ensures.value ∙ c.in-Some.ensures.value in
-    let new : File = record c.reserve_shown.new.self { blob = c.resize_file.new.file; truncations = c.reserve.new.self } in
+    let new : File = record c.reserve_shown.new.self { blob = c.cut_page.new.blob; truncations = c.reserve.new.self } in
     let spares = λ (at : ℕ). at < c.args.length in
     let still : KeepsOpen one.store c.set_config.new.self = still_twice one.store c.record_truncation.new.self c.set_config.new.self c.record_truncation.ensures.still c.set_config.ensures.still in
     let sets = sets_through one.files (c.get_mut.follows.lender new) c.in_ok-inode.inode was new there (c.get_mut.follows.holds new) in
-    let resized : ChangesOpen spares c.set_config.new.self c.reserve_shown.new.self.blob c.resize_file.new.self c.resize_file.new.file =
-    changes_less (λ at. at < c.in_ok-reached.reached) spares c.set_config.new.self c.resize_file.new.self c.reserve_shown.new.self.blob c.resize_file.new.file
-    (λ at low. omega (arith, low, c.in_ok-reached.ensures.reached)) c.resize_file.ensures.still in
-    let changes : ChangesOpen spares one.store was.blob c.resize_file.new.self new.blob =
-    changes_again spares one.store c.resize_file.new.self c.reserve_shown.new.self.blob c.resize_file.new.file was.blob new.blob c.reserve_shown.ensures.content.blob refl
-    (changes_after spares one.store c.set_config.new.self c.resize_file.new.self c.reserve_shown.new.self.blob c.resize_file.new.file still resized) in
+    let resized : ChangesOpen spares c.set_config.new.self c.reserve_shown.new.self.blob c.cut_page.new.store c.cut_page.new.blob =
+    changes_less (λ at. at < c.in_ok-reached.reached) spares c.set_config.new.self c.cut_page.new.store c.reserve_shown.new.self.blob c.cut_page.new.blob
+    (λ at low. omega (arith, low, c.in_ok-reached.ensures.reached)) c.cut_page.ensures.still in
+    let changes : ChangesOpen spares one.store was.blob c.cut_page.new.store new.blob =
+    changes_again spares one.store c.cut_page.new.store c.reserve_shown.new.self.blob c.cut_page.new.blob was.blob new.blob c.reserve_shown.ensures.content.blob refl
+    (changes_after spares one.store c.set_config.new.self c.cut_page.new.store c.reserve_shown.new.self.blob c.cut_page.new.blob still resized) in
     record {
-      opened = opened_changed spares one.store c.resize_file.new.self one.files (c.get_mut.follows.lender new) c.in_ok-inode.inode was new (omega arith) there sets changes one.opened;
-      named = named_after one.store c.resize_file.new.self one.files (c.get_mut.follows.lender new) (c.resize_file.ensures.names ∙ c.set_config.ensures.names ∙ c.record_truncation.ensures.names) (links_set one.files (c.get_mut.follows.lender new) c.in_ok-inode.inode was new there sets (same_at_most (sym c.reserve_shown.ensures.links))) one.named;
-      tracked = tracked_store c.record_truncation.new.self c.resize_file.new.self (c.get_mut.follows.lender new) (c.resize_file.ensures.names ∙ c.set_config.ensures.names) (c.resize_file.ensures.told ∙ c.set_config.ensures.journal.told)
+      opened = opened_changed spares one.store c.cut_page.new.store one.files (c.get_mut.follows.lender new) c.in_ok-inode.inode was new (omega arith) there sets changes one.opened;
+      named = named_after one.store c.cut_page.new.store one.files (c.get_mut.follows.lender new) (c.cut_page.ensures.names ∙ c.set_config.ensures.names ∙ c.record_truncation.ensures.names) (links_set one.files (c.get_mut.follows.lender new) c.in_ok-inode.inode was new there sets (same_at_most (sym c.reserve_shown.ensures.links))) one.named;
+      tracked = tracked_store c.record_truncation.new.self c.cut_page.new.store (c.get_mut.follows.lender new) (c.cut_page.ensures.names ∙ c.set_config.ensures.names) (c.cut_page.ensures.told ∙ c.set_config.ensures.journal.told)
           (tracked_freed (record { may = c.bindings.ensures.one_more; within = c.bindings.ensures.within_one_more; freed = c.bindings.ensures.freed_one_more })
           one.store c.record_truncation.new.self c.in_ok-inode.inode one.files (c.get_mut.follows.lender new) c.record_truncation.ensures.names c.in_ok-edit.ensures.told
           (freed_set one.files (c.get_mut.follows.lender new) c.in_ok-inode.inode was new there sets c.reserve_shown.ensures.gone) one.named one.tracked);
     }
 
-pub returns-in_err-resize_file-clause-fixed : goal.returns-in_err-resize_file-clause-fixed
-returns-in_err-resize_file-clause-fixed g c =
+pub returns-in_err-cut_page-clause-fixed : goal.returns-in_err-cut_page-clause-fixed
+returns-in_err-cut_page-clause-fixed g c =
     let fs = c.args.self.now in
     let one = c.draw_truncation.new.self in
     let keeps : KeepsFixed fs one = fixed_twice fs c.begin_call.new.self one c.begin_call.ensures.fixed c.draw_truncation.ensures.drawn.fixed in
     let was = c.as_mut-found.result.now in
     let there = ap Some c.as_mut-found.ensures.value ∙ c.in-Some.ensures.value in
-    let new : File = record c.reserve_shown.new.self { blob = c.resize_file.new.file; truncations = c.reserve.new.self } in
+    let new : File = record c.reserve_shown.new.self { blob = c.cut_page.new.blob; truncations = c.reserve.new.self } in
     let spares = λ (at : ℕ). at < c.args.length in
     let still : KeepsOpen one.store c.set_config.new.self = still_twice one.store c.record_truncation.new.self c.set_config.new.self c.record_truncation.ensures.still c.set_config.ensures.still in
     let sets = sets_through one.files (c.get_mut.follows.lender new) c.in_ok-inode.inode was new there (c.get_mut.follows.holds new) in
-    let resized : ChangesOpen spares c.set_config.new.self c.reserve_shown.new.self.blob c.resize_file.new.self c.resize_file.new.file =
-    changes_less (λ at. at < c.in_ok-reached.reached) spares c.set_config.new.self c.resize_file.new.self c.reserve_shown.new.self.blob c.resize_file.new.file
-    (λ at low. omega (arith, low, c.in_ok-reached.ensures.reached)) c.resize_file.ensures.still in
-    let changes : ChangesOpen spares one.store was.blob c.resize_file.new.self new.blob =
-    changes_again spares one.store c.resize_file.new.self c.reserve_shown.new.self.blob c.resize_file.new.file was.blob new.blob c.reserve_shown.ensures.content.blob refl
-    (changes_after spares one.store c.set_config.new.self c.resize_file.new.self c.reserve_shown.new.self.blob c.resize_file.new.file still resized) in
+    let resized : ChangesOpen spares c.set_config.new.self c.reserve_shown.new.self.blob c.cut_page.new.store c.cut_page.new.blob =
+    changes_less (λ at. at < c.in_ok-reached.reached) spares c.set_config.new.self c.cut_page.new.store c.reserve_shown.new.self.blob c.cut_page.new.blob
+    (λ at low. omega (arith, low, c.in_ok-reached.ensures.reached)) c.cut_page.ensures.still in
+    let changes : ChangesOpen spares one.store was.blob c.cut_page.new.store new.blob =
+    changes_again spares one.store c.cut_page.new.store c.reserve_shown.new.self.blob c.cut_page.new.blob was.blob new.blob c.reserve_shown.ensures.content.blob refl
+    (changes_after spares one.store c.set_config.new.self c.cut_page.new.store c.reserve_shown.new.self.blob c.cut_page.new.blob still resized) in
     let opens = ap (λ (m : BTreeMap ℕ ℕ). get nat_cmp m (descriptor_number c.args.file)) (sym c.begin_call.ensures.files.opens) ∙ c.in_ok-inode.ensures in
     let small : c.in_ok-inode.inode < 2 ^ 64 = omega arith in
-    keeps_spared fs one _ c.args.file spares c.resize_file.new.self (c.get_mut.follows.lender new) c.in_ok-inode.inode was new opens keeps refl refl refl small there sets changes
+    keeps_spared fs one _ c.args.file spares c.cut_page.new.store (c.get_mut.follows.lender new) c.in_ok-inode.inode was new opens keeps refl refl refl small there sets changes
     (λ at low is. synced_kept at was new c.reserve_shown.ensures.content.synced (c.reserve.ensures.items ∙ c.reserve_shown.ensures.content.truncations) is) one.opened
 
 pub invariant_of-self-2 : goal.invariant_of-self-2
@@ -198,16 +197,16 @@ invariant_of-self-2 g c =
     let spares = λ (at : ℕ). at < c.args.length in
     let still : KeepsOpen one.store c.set_config.new.self = still_twice one.store c.record_truncation.new.self c.set_config.new.self c.record_truncation.ensures.still c.set_config.ensures.still in
     let sets = sets_through one.files (c.get_mut.follows.lender new) c.in_ok-inode.inode was new there (c.get_mut.follows.holds new) in
-    let resized : ChangesOpen spares c.set_config.new.self c.reserve_shown.new.self.blob c.resize_file.new.self c.resize_file.new.file =
-    changes_less (λ at. at < c.in_ok-reached.reached) spares c.set_config.new.self c.resize_file.new.self c.reserve_shown.new.self.blob c.resize_file.new.file
-    (λ at low. omega (arith, low, c.in_ok-reached.ensures.reached)) c.resize_file.ensures.still in
-    let changes : ChangesOpen spares one.store was.blob c.resize_file.new.self new.blob =
-    changes_again spares one.store c.resize_file.new.self c.reserve_shown.new.self.blob c.resize_file.new.file was.blob new.blob c.reserve_shown.ensures.content.blob c.end_truncate-now.ensures.content.blob
-    (changes_after spares one.store c.set_config.new.self c.resize_file.new.self c.reserve_shown.new.self.blob c.resize_file.new.file still resized) in
+    let resized : ChangesOpen spares c.set_config.new.self c.reserve_shown.new.self.blob c.cut_page.new.store c.cut_page.new.blob =
+    changes_less (λ at. at < c.in_ok-reached.reached) spares c.set_config.new.self c.cut_page.new.store c.reserve_shown.new.self.blob c.cut_page.new.blob
+    (λ at low. omega (arith, low, c.in_ok-reached.ensures.reached)) c.cut_page.ensures.still in
+    let changes : ChangesOpen spares one.store was.blob c.cut_page.new.store new.blob =
+    changes_again spares one.store c.cut_page.new.store c.reserve_shown.new.self.blob c.cut_page.new.blob was.blob new.blob c.reserve_shown.ensures.content.blob c.end_truncate-now.ensures.content.blob
+    (changes_after spares one.store c.set_config.new.self c.cut_page.new.store c.reserve_shown.new.self.blob c.cut_page.new.blob still resized) in
     record {
-      opened = opened_changed spares one.store c.resize_file.new.self one.files (c.get_mut.follows.lender new) c.in_ok-inode.inode was new (omega arith) there sets changes one.opened;
-      named = named_after one.store c.resize_file.new.self one.files (c.get_mut.follows.lender new) (c.resize_file.ensures.names ∙ c.set_config.ensures.names ∙ c.record_truncation.ensures.names) (links_set one.files (c.get_mut.follows.lender new) c.in_ok-inode.inode was new there sets (same_at_most (sym (c.end_truncate-now.ensures.links ∙ c.reserve_shown.ensures.links)))) one.named;
-      tracked = tracked_store c.record_truncation.new.self c.resize_file.new.self (c.get_mut.follows.lender new) (c.resize_file.ensures.names ∙ c.set_config.ensures.names) (c.resize_file.ensures.told ∙ c.set_config.ensures.journal.told)
+      opened = opened_changed spares one.store c.cut_page.new.store one.files (c.get_mut.follows.lender new) c.in_ok-inode.inode was new (omega arith) there sets changes one.opened;
+      named = named_after one.store c.cut_page.new.store one.files (c.get_mut.follows.lender new) (c.cut_page.ensures.names ∙ c.set_config.ensures.names ∙ c.record_truncation.ensures.names) (links_set one.files (c.get_mut.follows.lender new) c.in_ok-inode.inode was new there sets (same_at_most (sym (c.end_truncate-now.ensures.links ∙ c.reserve_shown.ensures.links)))) one.named;
+      tracked = tracked_store c.record_truncation.new.self c.cut_page.new.store (c.get_mut.follows.lender new) (c.cut_page.ensures.names ∙ c.set_config.ensures.names) (c.cut_page.ensures.told ∙ c.set_config.ensures.journal.told)
           (tracked_freed (record { may = c.bindings.ensures.one_more; within = c.bindings.ensures.within_one_more; freed = c.bindings.ensures.freed_one_more })
           one.store c.record_truncation.new.self c.in_ok-inode.inode one.files (c.get_mut.follows.lender new) c.record_truncation.ensures.names c.in_ok-edit.ensures.told
           (freed_set one.files (c.get_mut.follows.lender new) c.in_ok-inode.inode was new there sets (c.end_truncate-now.ensures.gone ∙ c.reserve_shown.ensures.gone)) one.named one.tracked);
@@ -224,18 +223,18 @@ returns-then-is_failed-clause-fixed g c =
     let spares = λ (at : ℕ). at < c.args.length in
     let still : KeepsOpen one.store c.set_config.new.self = still_twice one.store c.record_truncation.new.self c.set_config.new.self c.record_truncation.ensures.still c.set_config.ensures.still in
     let sets = sets_through one.files (c.get_mut.follows.lender new) c.in_ok-inode.inode was new there (c.get_mut.follows.holds new) in
-    let resized : ChangesOpen spares c.set_config.new.self c.reserve_shown.new.self.blob c.resize_file.new.self c.resize_file.new.file =
-    changes_less (λ at. at < c.in_ok-reached.reached) spares c.set_config.new.self c.resize_file.new.self c.reserve_shown.new.self.blob c.resize_file.new.file
-    (λ at low. omega (arith, low, c.in_ok-reached.ensures.reached)) c.resize_file.ensures.still in
-    let changes : ChangesOpen spares one.store was.blob c.resize_file.new.self new.blob =
-    changes_again spares one.store c.resize_file.new.self c.reserve_shown.new.self.blob c.resize_file.new.file was.blob new.blob c.reserve_shown.ensures.content.blob c.end_truncate-now.ensures.content.blob
-    (changes_after spares one.store c.set_config.new.self c.resize_file.new.self c.reserve_shown.new.self.blob c.resize_file.new.file still resized) in
+    let resized : ChangesOpen spares c.set_config.new.self c.reserve_shown.new.self.blob c.cut_page.new.store c.cut_page.new.blob =
+    changes_less (λ at. at < c.in_ok-reached.reached) spares c.set_config.new.self c.cut_page.new.store c.reserve_shown.new.self.blob c.cut_page.new.blob
+    (λ at low. omega (arith, low, c.in_ok-reached.ensures.reached)) c.cut_page.ensures.still in
+    let changes : ChangesOpen spares one.store was.blob c.cut_page.new.store new.blob =
+    changes_again spares one.store c.cut_page.new.store c.reserve_shown.new.self.blob c.cut_page.new.blob was.blob new.blob c.reserve_shown.ensures.content.blob c.end_truncate-now.ensures.content.blob
+    (changes_after spares one.store c.set_config.new.self c.cut_page.new.store c.reserve_shown.new.self.blob c.cut_page.new.blob still resized) in
     let opens = ap (λ (m : BTreeMap ℕ ℕ). get nat_cmp m (descriptor_number c.args.file)) (sym c.begin_call.ensures.files.opens) ∙ c.in_ok-inode.ensures in
     let small : c.in_ok-inode.inode < 2 ^ 64 = omega arith in
     let t : Truncation = record { edit = c.in_ok-edit.edit; length = c.in_ok-reached.reached; next_write = c.next_write-next_write.result } in
     let synced = c.end_truncate-now.ensures.content.synced ∙ c.reserve_shown.ensures.content.synced in
     let noted = c.end_truncate-now.ensures.content.truncations ∙ c.push_reserved.ensures.items ∙ ap (λ (l : List Truncation). l ++ t ∷ []) (c.reserve.ensures.items ∙ c.reserve_shown.ensures.content.truncations) in
-    keeps_spared fs one c.count.new.self c.args.file spares c.resize_file.new.self (c.get_mut.follows.lender new) c.in_ok-inode.inode was new opens keeps
+    keeps_spared fs one c.count.new.self c.args.file spares c.cut_page.new.store (c.get_mut.follows.lender new) c.in_ok-inode.inode was new opens keeps
     c.count.ensures.number c.count.ensures.files.files c.count.ensures.store small there sets changes
     (λ at low is. synced_more at was new t synced noted (omega (arith, low, c.in_ok-reached.ensures.reached)) is) one.opened
 
@@ -250,18 +249,18 @@ returns-clause-fixed g c =
     let spares = λ (at : ℕ). at < c.args.length in
     let still : KeepsOpen one.store c.set_config.new.self = still_twice one.store c.record_truncation.new.self c.set_config.new.self c.record_truncation.ensures.still c.set_config.ensures.still in
     let sets = sets_through one.files (c.get_mut.follows.lender new) c.in_ok-inode.inode was new there (c.get_mut.follows.holds new) in
-    let resized : ChangesOpen spares c.set_config.new.self c.reserve_shown.new.self.blob c.resize_file.new.self c.resize_file.new.file =
-    changes_less (λ at. at < c.in_ok-reached.reached) spares c.set_config.new.self c.resize_file.new.self c.reserve_shown.new.self.blob c.resize_file.new.file
-    (λ at low. omega (arith, low, c.in_ok-reached.ensures.reached)) c.resize_file.ensures.still in
-    let changes : ChangesOpen spares one.store was.blob c.resize_file.new.self new.blob =
-    changes_again spares one.store c.resize_file.new.self c.reserve_shown.new.self.blob c.resize_file.new.file was.blob new.blob c.reserve_shown.ensures.content.blob c.end_truncate-now.ensures.content.blob
-    (changes_after spares one.store c.set_config.new.self c.resize_file.new.self c.reserve_shown.new.self.blob c.resize_file.new.file still resized) in
+    let resized : ChangesOpen spares c.set_config.new.self c.reserve_shown.new.self.blob c.cut_page.new.store c.cut_page.new.blob =
+    changes_less (λ at. at < c.in_ok-reached.reached) spares c.set_config.new.self c.cut_page.new.store c.reserve_shown.new.self.blob c.cut_page.new.blob
+    (λ at low. omega (arith, low, c.in_ok-reached.ensures.reached)) c.cut_page.ensures.still in
+    let changes : ChangesOpen spares one.store was.blob c.cut_page.new.store new.blob =
+    changes_again spares one.store c.cut_page.new.store c.reserve_shown.new.self.blob c.cut_page.new.blob was.blob new.blob c.reserve_shown.ensures.content.blob c.end_truncate-now.ensures.content.blob
+    (changes_after spares one.store c.set_config.new.self c.cut_page.new.store c.reserve_shown.new.self.blob c.cut_page.new.blob still resized) in
     let opens = ap (λ (m : BTreeMap ℕ ℕ). get nat_cmp m (descriptor_number c.args.file)) (sym c.begin_call.ensures.files.opens) ∙ c.in_ok-inode.ensures in
     let small : c.in_ok-inode.inode < 2 ^ 64 = omega arith in
     let t : Truncation = record { edit = c.in_ok-edit.edit; length = c.in_ok-reached.reached; next_write = c.next_write-next_write.result } in
     let synced = c.end_truncate-now.ensures.content.synced ∙ c.reserve_shown.ensures.content.synced in
     let noted = c.end_truncate-now.ensures.content.truncations ∙ c.push_reserved.ensures.items ∙ ap (λ (l : List Truncation). l ++ t ∷ []) (c.reserve.ensures.items ∙ c.reserve_shown.ensures.content.truncations) in
-    keeps_spared fs one c.count.new.self c.args.file spares c.resize_file.new.self (c.get_mut.follows.lender new) c.in_ok-inode.inode was new opens keeps
+    keeps_spared fs one c.count.new.self c.args.file spares c.cut_page.new.store (c.get_mut.follows.lender new) c.in_ok-inode.inode was new opens keeps
     c.count.ensures.number c.count.ensures.files.files c.count.ensures.store small there sets changes
     (λ at low is. synced_more at was new t synced noted (omega (arith, low, c.in_ok-reached.ensures.reached)) is) one.opened
 
@@ -308,7 +307,7 @@ returns-clause-noted g c =
         long = c.in_ok-reached.ensures.whole c.if-is_failed.false;
         edit = record {
           last = added.last;
-          is = ap (λ j. unsettled_of j) c.count.ensures.store ∙ c.resize_file.ensures.unsettled ∙ c.set_config.ensures.journal.unsettled ∙ added.is
+          is = ap (λ j. unsettled_of j) c.count.ensures.store ∙ c.in_ok-cut_page.ensures.unsettled ∙ c.set_config.ensures.journal.unsettled ∙ added.is
               ∙ ap (λ (us : List Unsettled). us ++ added.last ∷ []) (drawn.unsettled ∙ c.in_ok-begin_call.ensures.journal.unsettled);
           edit = added.edit;
           about = added.about;
@@ -345,10 +344,9 @@ returns-clause-size g c =
     let small : inode < 2 ^ 64 = omega arith in
     let sets = sets_through one.files (c.get_mut.follows.lender new) inode was new there (c.get_mut.follows.holds new) in
     let still : KeepsOpen one.store c.set_config.new.self = still_twice one.store c.record_truncation.new.self c.set_config.new.self c.record_truncation.ensures.still c.set_config.ensures.still in
-    let resizes : ResizesFile reached c.set_config.new.self was.blob c.resize_file.new.self c.resize_file.new.file =
-    subst (λ (b : FileBlob). ResizesFile reached c.set_config.new.self b c.resize_file.new.self c.resize_file.new.file) c.reserve_shown.ensures.content.blob c.in_ok-resize_file.ensures.resized in
-    let sized : size_of c.resize_file.new.file.blob ≡ reached =
-    resized_size one.store c.set_config.new.self c.resize_file.new.self one.files inode reached was c.resize_file.new.file small (sym there) still resizes one.opened in
+    let sized : size_of c.cut_page.new.blob.blob ≡ reached =
+    resized_size one.store c.set_config.new.self one.files inode reached was c.cut_page.new.blob small (sym there) still
+    (subst (λ (b : FileBlob). ResizesOpen reached c.set_config.new.self b c.cut_page.new.blob) c.reserve_shown.ensures.content.blob c.in_ok-cut_page.ensures.sized) one.opened in
     record {
       inode = inode;
       was = new;
@@ -359,23 +357,26 @@ returns-clause-size g c =
       size = c.end_truncate-now.ensures.content.size sized ∙ c.in_ok-reached.ensures.whole c.if-is_failed.false;
     }
 
-pub returns-in_err-resize_file-clause-told : goal.returns-in_err-resize_file-clause-told
-returns-in_err-resize_file-clause-told g c =
+pub returns-in_err-cut_page-clause-told : goal.returns-in_err-cut_page-clause-told
+returns-in_err-cut_page-clause-told g c =
     let inode = c.in_ok-inode.inode in
     let opens = ap (λ (m : BTreeMap ℕ ℕ). get nat_cmp m (descriptor_number c.args.file)) (sym c.begin_call.ensures.files.opens) ∙ c.in_ok-inode.ensures in
     let recorded = c.in_ok-edit.ensures.told ∙ ap (λ (l : List Found). l ++ Some (resizes inode, false) ∷ []) (c.draw_truncation.ensures.drawn.told ∙ c.begin_call.ensures.told) in
-    inr (inode, opens, c.resize_file.ensures.told ∙ c.set_config.ensures.journal.told ∙ recorded)
+    inr (inode, opens, c.cut_page.ensures.told ∙ c.set_config.ensures.journal.told ∙ recorded)
 
 pub returns-then-is_failed-clause-told : goal.returns-then-is_failed-clause-told
 returns-then-is_failed-clause-told g c =
     let inode = c.in_ok-inode.inode in
     let opens = ap (λ (m : BTreeMap ℕ ℕ). get nat_cmp m (descriptor_number c.args.file)) (sym c.begin_call.ensures.files.opens) ∙ c.in_ok-inode.ensures in
     let recorded = c.in_ok-edit.ensures.told ∙ ap (λ (l : List Found). l ++ Some (resizes inode, false) ∷ []) (c.draw_truncation.ensures.drawn.told ∙ c.begin_call.ensures.told) in
-    inr (inode, opens, c.count.ensures.told ∙ c.resize_file.ensures.told ∙ c.set_config.ensures.journal.told ∙ recorded)
+    inr (inode, opens, c.count.ensures.told ∙ c.cut_page.ensures.told ∙ c.set_config.ensures.journal.told ∙ recorded)
 
 pub returns-clause-told : goal.returns-clause-told
 returns-clause-told g c =
     let inode = c.in_ok-inode.inode in
     let opens = ap (λ (m : BTreeMap ℕ ℕ). get nat_cmp m (descriptor_number c.args.file)) (sym c.begin_call.ensures.files.opens) ∙ c.in_ok-inode.ensures in
     let recorded = c.in_ok-edit.ensures.told ∙ ap (λ (l : List Found). l ++ Some (resizes inode, false) ∷ []) (c.draw_truncation.ensures.drawn.told ∙ c.begin_call.ensures.told) in
-    inr (inode, opens, c.count.ensures.told ∙ c.resize_file.ensures.told ∙ c.set_config.ensures.journal.told ∙ recorded)
+    inr (inode, opens, c.count.ensures.told ∙ c.cut_page.ensures.told ∙ c.set_config.ensures.journal.told ∙ recorded)
+
+pub returns-in_err-zeros-clause-fixed : goal.returns-in_err-zeros-clause-fixed
+returns-in_err-zeros-clause-fixed g c = λ inode at byte below spared f. c.draw_truncation.ensures.drawn.fixed inode at byte below (c.begin_call.ensures.fixed inode at byte below f)

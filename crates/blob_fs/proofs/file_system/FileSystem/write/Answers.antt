@@ -19,7 +19,7 @@ use Rattle.blob_fs.specs.Open.{KeepsCutsOf}
 use Rattle.blob_fs.proofs.Fixed.{changes_again, contents_same, contents_through, cuts_from, cuts_of, cuts_same, cuts_set, fixed_after, fixed_twice, keeps_spared, opened_changed, opened_none, opened_through, sets_through, still_self, synced_kept}
 use Rattle.blob_fs.proofs.Named.{links_set, named_after, named_none, named_through, same_at_most}
 use Rattle.blob_fs.proofs.Tracked.{freed_set, tracked_after, tracked_none, tracked_through}
-use Rattle.std.proofs.Common.{◌≡◌, List, Option, ap₂}
+use Rattle.std.proofs.Common.{◌≡◌, List, Option, ap₂, true}
 use Rattle.blob_model.specs.Files.{all_logged}
 use Rattle.blob_model.specs.Log.{Entry}
 use Rattle.blob_model.specs.Rates.{Rate}
@@ -29,7 +29,7 @@ use Rattle.blob_draws.specs.Faults.{retention}
 use Rattle.blob_draws.specs.declared.config.Config.{Config}
 use Rattle.blob_memory.specs.Store.{place}
 use Rattle.blob_faulty.specs.Keeps.{IsFor}
-use Rattle.blob_faulty.specs.Wrapper.{inside}
+use Rattle.blob_faulty.specs.Wrapper.{inside, size_of}
 use Rattle.blob_journal.specs.Journals.{store_of}
 use Rattle.blob_journal.specs.Writes.{entries_of_write as journal_entries}
 use Rattle.blob_fs.specs.Writes.{KeepsAsSet, entries_of_write, faults_of, rates_of}
@@ -48,11 +48,17 @@ pub returns-in_err-check_room-clause-fixed : goal.returns-in_err-check_room-clau
 returns-in_err-check_room-clause-fixed g c = λ inode at byte below spared f. c.begin_call.ensures.fixed inode at byte below f
 
 pub returns-in_err-how-clause-fixed : goal.returns-in_err-how-clause-fixed
-returns-in_err-how-clause-fixed g c = λ inode at byte below spared f. c.draw_write.ensures.drawn.fixed inode at byte below (c.begin_call.ensures.fixed inode at byte below f)
+returns-in_err-how-clause-fixed g c = λ inode at byte below spared f. c.draw_growth.ensures.drawn.fixed inode at byte below (c.begin_call.ensures.fixed inode at byte below f)
+
+pub returns-in_err-from-clause-fixed : goal.returns-in_err-from-clause-fixed
+returns-in_err-from-clause-fixed g c = λ inode at byte below spared f. c.begin_call.ensures.fixed inode at byte below f
+
+pub returns-in_err-from-clause-cuts : goal.returns-in_err-from-clause-cuts
+returns-in_err-from-clause-cuts g c = cuts_same c.args.self.now.files c.begin_call.new.self.files c.begin_call.ensures.files.files
 
 pub invariant_of-self : goal.invariant_of-self
 invariant_of-self g c =
-    let one = c.draw_write.new.self in
+    let one = c.draw_growth.new.self in
     record {
       opened = opened_none one.store one.files c.get_mut.follows.lender-at-none c.get_mut.follows.holds-at-none one.opened;
       named = named_none one.store one.files c.get_mut.follows.lender-at-none c.get_mut.follows.holds-at-none one.named;
@@ -61,15 +67,15 @@ invariant_of-self g c =
 
 pub returns-in_default-clause-fixed : goal.returns-in_default-clause-fixed
 returns-in_default-clause-fixed g c =
-    let one = c.draw_write.new.self in
+    let one = c.draw_growth.new.self in
     let more : one.next_inode ≤ one.next_inode = omega arith in
     λ inode at byte below spared f.
     fixed_after one _ more (contents_same one.files c.get_mut.follows.lender-at-none c.get_mut.follows.holds-at-none) (still_self one.store) inode at byte below
-    (c.draw_write.ensures.drawn.fixed inode at byte below (c.begin_call.ensures.fixed inode at byte below f))
+    (c.draw_growth.ensures.drawn.fixed inode at byte below (c.begin_call.ensures.fixed inode at byte below f))
 
-pub invariant_of-self-in-Break-branch-6 : goal.invariant_of-self-in-Break-branch-6
-invariant_of-self-in-Break-branch-6 g c =
-    let one = c.draw_write.new.self in
+pub invariant_of-self-in-Break-branch-7 : goal.invariant_of-self-in-Break-branch-7
+invariant_of-self-in-Break-branch-7 g c =
+    let one = c.draw_growth.new.self in
     let was = c.as_mut-found.result.now in
     let there = ap Some c.as_mut-found.ensures.value ∙ c.in-Some.ensures.value in
     let new : File = c.reserve_shown.new.self in
@@ -81,52 +87,55 @@ invariant_of-self-in-Break-branch-6 g c =
 
 pub returns-in_err-reserve_shown-clause-fixed : goal.returns-in_err-reserve_shown-clause-fixed
 returns-in_err-reserve_shown-clause-fixed g c =
-    let one = c.draw_write.new.self in
+    let one = c.draw_growth.new.self in
     let was = c.as_mut-found.result.now in
     let new : File = c.reserve_shown.new.self in
     let more : one.next_inode ≤ one.next_inode = omega arith in
     λ inode at byte below spared f.
     fixed_after one _ more (contents_through one.files (c.get_mut.follows.lender new) c.in_ok-inode.inode was new (ap Some c.as_mut-found.ensures.value ∙ c.in-Some.ensures.value) (c.get_mut.follows.holds new) c.reserve_shown.ensures.content)
-    (still_self one.store) inode at byte below (c.draw_write.ensures.drawn.fixed inode at byte below (c.begin_call.ensures.fixed inode at byte below f))
+    (still_self one.store) inode at byte below (c.draw_growth.ensures.drawn.fixed inode at byte below (c.begin_call.ensures.fixed inode at byte below f))
 
 pub invariant_of-self-2 : goal.invariant_of-self-2
 invariant_of-self-2 g c =
-    let one = c.draw_write.new.self in
+    let one = c.draw_growth.new.self in
     let was = c.as_mut-found.result.now in
     let there = ap Some c.as_mut-found.ensures.value ∙ c.in-Some.ensures.value in
     let new : File = c.end_write-now.new.self in
     let spares = IsBeside c.args.offset (length c.args.bytes.now) in
     let sets = sets_through one.files (c.get_mut.follows.lender new) c.in_ok-inode.inode was new there (c.get_mut.follows.holds new) in
-    let changes : ChangesOpen spares one.store was.blob c.write_blob-written.new.store new.blob =
-    changes_again spares one.store c.write_blob-written.new.store c.reserve_shown.new.self.blob c.write_blob-written.new.blob was.blob new.blob
-    c.reserve_shown.ensures.content.blob c.end_write-now.ensures.content.blob c.write_blob-written.ensures.still in
+    let changes : ChangesOpen spares one.store was.blob c.write_grown-written.new.store new.blob =
+    changes_again spares one.store c.write_grown-written.new.store c.reserve_shown.new.self.blob c.write_grown-written.new.blob was.blob new.blob
+    c.reserve_shown.ensures.content.blob c.end_write-now.ensures.content.blob c.write_grown-written.ensures.still in
     record {
-      opened = opened_changed spares one.store c.write_blob-written.new.store one.files (c.get_mut.follows.lender new) c.in_ok-inode.inode was new (omega arith) there sets changes one.opened;
-      named = named_after one.store c.write_blob-written.new.store one.files (c.get_mut.follows.lender new) c.write_blob-written.ensures.names (links_set one.files (c.get_mut.follows.lender new) c.in_ok-inode.inode was new there sets (same_at_most (sym (c.end_write-now.ensures.links ∙ c.reserve_shown.ensures.links)))) one.named;
-      tracked = tracked_after one.store c.write_blob-written.new.store one.files (c.get_mut.follows.lender new) c.write_blob-written.ensures.names c.write_blob-written.ensures.told (freed_set one.files (c.get_mut.follows.lender new) c.in_ok-inode.inode was new there sets (c.end_write-now.ensures.gone ∙ c.reserve_shown.ensures.gone)) one.tracked;
+      opened = opened_changed spares one.store c.write_grown-written.new.store one.files (c.get_mut.follows.lender new) c.in_ok-inode.inode was new (omega arith) there sets changes one.opened;
+      named = named_after one.store c.write_grown-written.new.store one.files (c.get_mut.follows.lender new) c.write_grown-written.ensures.names (links_set one.files (c.get_mut.follows.lender new) c.in_ok-inode.inode was new there sets (same_at_most (sym (c.end_write-now.ensures.links ∙ c.reserve_shown.ensures.links)))) one.named;
+      tracked = tracked_after one.store c.write_grown-written.new.store one.files (c.get_mut.follows.lender new) c.write_grown-written.ensures.names c.write_grown-written.ensures.told (freed_set one.files (c.get_mut.follows.lender new) c.in_ok-inode.inode was new there sets (c.end_write-now.ensures.gone ∙ c.reserve_shown.ensures.gone)) one.tracked;
     }
 
 pub returns-in-Ok-clause-recorded : goal.returns-in-Ok-clause-recorded
-returns-in-Ok-clause-recorded g c = λ by_mode.
+returns-in-Ok-clause-recorded g c = λ by_mode no_zeros.
     let fs = c.args.self.now in
     let begun = c.begin_call.new.self in
-    let one = c.draw_write.new.self in
+    let one = c.draw_growth.new.self in
     let same = c.begin_call.ensures.files in
-    let drawn = c.draw_write.ensures.drawn in
+    let drawn = c.draw_growth.ensures.drawn in
     let crashes = c.in_ok-begin_call.ensures.crashes in
     let inode = c.in_ok-inode.inode in
     let found : File = c.as_mut-found.result.now in
     let there = ap Some c.as_mut-found.ensures.value ∙ c.in-Some.ensures.value in
     let small : inode < 2 ^ 64 = omega arith in
+    let none : length c.in_ok-from.zeros.items ≡ 0 = c.in_ok-from.ensures.none (ap (λ (o : Options). o.profile.zeros) same.options ∙ no_zeros) in
+    let plain : c.is_empty.result ≡ true = grind (arith, none, c.is_empty.ensures) in
     let how = c.in_ok-how.ensures.how (ap (λ (o : Options). o.failed_write) same.options ∙ by_mode) in
     let offset = c.args.offset in
     let bytes = c.args.bytes.now in
     let set : KeepsAsSet begun = ap (λ (r : Config). retention r.write_rate) (c.in_ok-begin_call.ensures.rates ∙ sym (ap (λ (o : Options). o.faults) same.options)) in
-    let kept : retention (rates_of one).write_rate ≡ retention (faults_of fs).write_rate = c.in_ok-how.ensures.rates set ∙ ap (λ (o : Options). retention o.faults.write_rate) (drawn.files.options ∙ same.options) in
+    let kept : retention (rates_of one).write_rate ≡ retention (faults_of fs).write_rate = c.in_ok-how.ensures.rates plain set ∙ ap (λ (o : Options). retention o.faults.write_rate) (drawn.files.options ∙ same.options) in
     let entries : journal_entries (store_of one.store) offset bytes ≡ entries_of_write fs offset bytes =
     ap₂ (λ (k : Option (PartialWriteMode × Rate)) (n : ℕ). loose k n offset bytes) kept (drawn.crashes.next_write ∙ crashes.next_write) in
-    was_ok c.write_blob-written.result _ c.in-Ok.is c.write_blob-written.ensures.recorded (λ recorded.
-    let written = recorded how in
+    was_ok c.write_grown-written.result _ c.in-Ok.is c.write_grown-written.ensures.recorded (λ recorded.
+    let empty : length c.chosen-zeros.result.now ≡ 0 = omega (arith, c.chosen-zeros.ensures, ap (λ (l : List ℕ). length l) c.deref.ensures.value, none) in
+    let written = recorded how empty in
     record {
       inode = inode;
       opened = ap (λ (m : BTreeMap ℕ ℕ). get nat_cmp m (descriptor_number c.args.file)) (sym same.opens) ∙ c.in_ok-inode.ensures;
@@ -134,8 +143,8 @@ returns-in-Ok-clause-recorded g c = λ by_mode.
       there = ap (λ (m : BTreeMap ℕ File). get nat_cmp m inode) (sym (drawn.files.files ∙ same.files)) ∙ sym there;
       logged = λ files for.
           subst (λ (j : Journaled g.row.R.Denot). IsFor (store_of j) (all_logged files (place (inside found.blob.blob)) (entries_of_write fs offset bytes))) (sym c.count.ensures.store)
-          (subst (λ (l : List Entry). IsFor (store_of c.write_blob-written.new.store) (all_logged files (place (inside found.blob.blob)) l)) entries
-          (subst (λ (b : FileBlob). IsFor (store_of c.write_blob-written.new.store) (all_logged files (place (inside b.blob)) (journal_entries (store_of one.store) offset bytes))) c.reserve_shown.ensures.content.blob
+          (subst (λ (l : List Entry). IsFor (store_of c.write_grown-written.new.store) (all_logged files (place (inside found.blob.blob)) l)) entries
+          (subst (λ (b : FileBlob). IsFor (store_of c.write_grown-written.new.store) (all_logged files (place (inside b.blob)) (journal_entries (store_of one.store) offset bytes))) c.reserve_shown.ensures.content.blob
           (written.logged files (drawn.crashes.stands files (crashes.stands files for)))));
       left = λ kept.
           ap (λ (j : Journaled g.row.R.Denot). crashed_file j kept inode) c.count.ensures.store
@@ -145,37 +154,37 @@ returns-in-Ok-clause-recorded g c = λ by_mode.
           ∙ ap₂ (λ (l : List Entry) (x : Option (List ℕ)). option_map (λ y. replay_log y l (chosen_by (table_of kept))) x) entries (drawn.crashes.left inode kept ∙ crashes.left inode kept);
     })
 
-pub returns-in-Ok-clause-fixed : goal.returns-in-Ok-clause-fixed
-returns-in-Ok-clause-fixed g c =
-    let one = c.draw_write.new.self in
+pub returns-clause-fixed : goal.returns-clause-fixed
+returns-clause-fixed g c =
+    let one = c.draw_growth.new.self in
     let was = c.as_mut-found.result.now in
     let there = ap Some c.as_mut-found.ensures.value ∙ c.in-Some.ensures.value in
     let new : File = c.end_write-now.new.self in
     let spares = IsBeside c.args.offset (length c.args.bytes.now) in
     let sets = sets_through one.files (c.get_mut.follows.lender new) c.in_ok-inode.inode was new there (c.get_mut.follows.holds new) in
-    let changes : ChangesOpen spares one.store was.blob c.write_blob-written.new.store new.blob =
-    changes_again spares one.store c.write_blob-written.new.store c.reserve_shown.new.self.blob c.write_blob-written.new.blob was.blob new.blob
-    c.reserve_shown.ensures.content.blob c.end_write-now.ensures.content.blob c.write_blob-written.ensures.still in
+    let changes : ChangesOpen spares one.store was.blob c.write_grown-written.new.store new.blob =
+    changes_again spares one.store c.write_grown-written.new.store c.reserve_shown.new.self.blob c.write_grown-written.new.blob was.blob new.blob
+    c.reserve_shown.ensures.content.blob c.end_write-now.ensures.content.blob c.write_grown-written.ensures.still in
     let opens = ap (λ (m : BTreeMap ℕ ℕ). get nat_cmp m (descriptor_number c.args.file)) (sym c.begin_call.ensures.files.opens) ∙ c.in_ok-inode.ensures in
     let small : c.in_ok-inode.inode < 2 ^ 64 = omega arith in
-    keeps_spared c.args.self.now one c.count.new.self c.args.file spares c.write_blob-written.new.store (c.get_mut.follows.lender new) c.in_ok-inode.inode was new opens (fixed_twice c.args.self.now c.begin_call.new.self one c.begin_call.ensures.fixed c.draw_write.ensures.drawn.fixed)
+    keeps_spared c.args.self.now one c.count.new.self c.args.file spares c.write_grown-written.new.store (c.get_mut.follows.lender new) c.in_ok-inode.inode was new opens (fixed_twice c.args.self.now c.begin_call.new.self one c.begin_call.ensures.fixed c.draw_growth.ensures.drawn.fixed)
     c.count.ensures.number c.count.ensures.files.files c.count.ensures.store small there sets changes
     (λ at s. synced_kept at was new (c.end_write-now.ensures.content.synced ∙ c.reserve_shown.ensures.content.synced) (c.end_write-now.ensures.content.truncations ∙ c.reserve_shown.ensures.content.truncations)) one.opened
 
-pub returns-in-Err-clause-fixed : goal.returns-in-Err-clause-fixed
-returns-in-Err-clause-fixed g c =
-    let one = c.draw_write.new.self in
+pub returns-in-Ok-clause-fixed : goal.returns-in-Ok-clause-fixed
+returns-in-Ok-clause-fixed g c =
+    let one = c.draw_growth.new.self in
     let was = c.as_mut-found.result.now in
     let there = ap Some c.as_mut-found.ensures.value ∙ c.in-Some.ensures.value in
     let new : File = c.end_write-now.new.self in
     let spares = IsBeside c.args.offset (length c.args.bytes.now) in
     let sets = sets_through one.files (c.get_mut.follows.lender new) c.in_ok-inode.inode was new there (c.get_mut.follows.holds new) in
-    let changes : ChangesOpen spares one.store was.blob c.write_blob-written.new.store new.blob =
-    changes_again spares one.store c.write_blob-written.new.store c.reserve_shown.new.self.blob c.write_blob-written.new.blob was.blob new.blob
-    c.reserve_shown.ensures.content.blob c.end_write-now.ensures.content.blob c.write_blob-written.ensures.still in
+    let changes : ChangesOpen spares one.store was.blob c.write_grown-written.new.store new.blob =
+    changes_again spares one.store c.write_grown-written.new.store c.reserve_shown.new.self.blob c.write_grown-written.new.blob was.blob new.blob
+    c.reserve_shown.ensures.content.blob c.end_write-now.ensures.content.blob c.write_grown-written.ensures.still in
     let opens = ap (λ (m : BTreeMap ℕ ℕ). get nat_cmp m (descriptor_number c.args.file)) (sym c.begin_call.ensures.files.opens) ∙ c.in_ok-inode.ensures in
     let small : c.in_ok-inode.inode < 2 ^ 64 = omega arith in
-    keeps_spared c.args.self.now one c.count.new.self c.args.file spares c.write_blob-written.new.store (c.get_mut.follows.lender new) c.in_ok-inode.inode was new opens (fixed_twice c.args.self.now c.begin_call.new.self one c.begin_call.ensures.fixed c.draw_write.ensures.drawn.fixed)
+    keeps_spared c.args.self.now one c.count.new.self c.args.file spares c.write_grown-written.new.store (c.get_mut.follows.lender new) c.in_ok-inode.inode was new opens (fixed_twice c.args.self.now c.begin_call.new.self one c.begin_call.ensures.fixed c.draw_growth.ensures.drawn.fixed)
     c.count.ensures.number c.count.ensures.files.files c.count.ensures.store small there sets changes
     (λ at s. synced_kept at was new (c.end_write-now.ensures.content.synced ∙ c.reserve_shown.ensures.content.synced) (c.end_write-now.ensures.content.truncations ∙ c.reserve_shown.ensures.content.truncations)) one.opened
 
@@ -192,46 +201,55 @@ pub returns-in_err-check_room-clause-cuts : goal.returns-in_err-check_room-claus
 returns-in_err-check_room-clause-cuts g c = cuts_same c.args.self.now.files c.begin_call.new.self.files c.begin_call.ensures.files.files
 
 pub returns-in_err-how-clause-cuts : goal.returns-in_err-how-clause-cuts
-returns-in_err-how-clause-cuts g c = cuts_same c.args.self.now.files c.draw_write.new.self.files (c.draw_write.ensures.drawn.files.files ∙ c.begin_call.ensures.files.files)
+returns-in_err-how-clause-cuts g c = cuts_same c.args.self.now.files c.draw_growth.new.self.files (c.draw_growth.ensures.drawn.files.files ∙ c.begin_call.ensures.files.files)
 
 pub returns-in_default-clause-cuts : goal.returns-in_default-clause-cuts
 returns-in_default-clause-cuts g c =
-    let one = c.draw_write.new.self in
-    cuts_from c.args.self.now.files one.files c.get_mut.follows.lender-at-none (c.draw_write.ensures.drawn.files.files ∙ c.begin_call.ensures.files.files)
+    let one = c.draw_growth.new.self in
+    cuts_from c.args.self.now.files one.files c.get_mut.follows.lender-at-none (c.draw_growth.ensures.drawn.files.files ∙ c.begin_call.ensures.files.files)
     (cuts_same one.files c.get_mut.follows.lender-at-none c.get_mut.follows.holds-at-none)
 
 pub returns-in_err-reserve_shown-clause-cuts : goal.returns-in_err-reserve_shown-clause-cuts
 returns-in_err-reserve_shown-clause-cuts g c =
-    let one = c.draw_write.new.self in
+    let one = c.draw_growth.new.self in
     let was = c.as_mut-found.result.now in
     let new : File = c.reserve_shown.new.self in
-    cuts_from c.args.self.now.files one.files (c.get_mut.follows.lender new) (c.draw_write.ensures.drawn.files.files ∙ c.begin_call.ensures.files.files)
+    cuts_from c.args.self.now.files one.files (c.get_mut.follows.lender new) (c.draw_growth.ensures.drawn.files.files ∙ c.begin_call.ensures.files.files)
     (cuts_of one.files (c.get_mut.follows.lender new) (contents_through one.files (c.get_mut.follows.lender new) c.in_ok-inode.inode was new (ap Some c.as_mut-found.ensures.value ∙ c.in-Some.ensures.value) (c.get_mut.follows.holds new) c.reserve_shown.ensures.content))
+
+pub returns-clause-cuts : goal.returns-clause-cuts
+returns-clause-cuts g c =
+    let one = c.draw_growth.new.self in
+    let was = c.as_mut-found.result.now in
+    let there = ap Some c.as_mut-found.ensures.value ∙ c.in-Some.ensures.value in
+    let new : File = c.end_write-now.new.self in
+    let sets = sets_through one.files (c.get_mut.follows.lender new) c.in_ok-inode.inode was new there (c.get_mut.follows.holds new) in
+    cuts_from c.args.self.now.files one.files c.count.new.self.files (c.draw_growth.ensures.drawn.files.files ∙ c.begin_call.ensures.files.files)
+    (subst (λ (m : BTreeMap ℕ File). KeepsCutsOf one.files m) (sym c.count.ensures.files.files)
+    (cuts_set one.files (c.get_mut.follows.lender new) c.in_ok-inode.inode was new there sets (record {
+      synced = c.end_write-now.ensures.content.synced ∙ c.reserve_shown.ensures.content.synced;
+      truncations = c.end_write-now.ensures.content.truncations ∙ c.reserve_shown.ensures.content.truncations;
+    })))
 
 pub returns-in-Ok-clause-cuts : goal.returns-in-Ok-clause-cuts
 returns-in-Ok-clause-cuts g c =
-    let one = c.draw_write.new.self in
+    let one = c.draw_growth.new.self in
     let was = c.as_mut-found.result.now in
     let there = ap Some c.as_mut-found.ensures.value ∙ c.in-Some.ensures.value in
     let new : File = c.end_write-now.new.self in
     let sets = sets_through one.files (c.get_mut.follows.lender new) c.in_ok-inode.inode was new there (c.get_mut.follows.holds new) in
-    cuts_from c.args.self.now.files one.files c.count.new.self.files (c.draw_write.ensures.drawn.files.files ∙ c.begin_call.ensures.files.files)
+    cuts_from c.args.self.now.files one.files c.count.new.self.files (c.draw_growth.ensures.drawn.files.files ∙ c.begin_call.ensures.files.files)
     (subst (λ (m : BTreeMap ℕ File). KeepsCutsOf one.files m) (sym c.count.ensures.files.files)
     (cuts_set one.files (c.get_mut.follows.lender new) c.in_ok-inode.inode was new there sets (record {
       synced = c.end_write-now.ensures.content.synced ∙ c.reserve_shown.ensures.content.synced;
       truncations = c.end_write-now.ensures.content.truncations ∙ c.reserve_shown.ensures.content.truncations;
     })))
 
-pub returns-in-Err-clause-cuts : goal.returns-in-Err-clause-cuts
-returns-in-Err-clause-cuts g c =
-    let one = c.draw_write.new.self in
-    let was = c.as_mut-found.result.now in
+pub write_grown-written-requires : goal.write_grown-written-requires
+write_grown-written-requires g c =
+    let fs = c.args.self.now in
+    let found : File = c.as_mut-found.result.now in
     let there = ap Some c.as_mut-found.ensures.value ∙ c.in-Some.ensures.value in
-    let new : File = c.end_write-now.new.self in
-    let sets = sets_through one.files (c.get_mut.follows.lender new) c.in_ok-inode.inode was new there (c.get_mut.follows.holds new) in
-    cuts_from c.args.self.now.files one.files c.count.new.self.files (c.draw_write.ensures.drawn.files.files ∙ c.begin_call.ensures.files.files)
-    (subst (λ (m : BTreeMap ℕ File). KeepsCutsOf one.files m) (sym c.count.ensures.files.files)
-    (cuts_set one.files (c.get_mut.follows.lender new) c.in_ok-inode.inode was new there sets (record {
-      synced = c.end_write-now.ensures.content.synced ∙ c.reserve_shown.ensures.content.synced;
-      truncations = c.end_write-now.ensures.content.truncations ∙ c.reserve_shown.ensures.content.truncations;
-    })))
+    let end = c.in_ok-from.ensures.end found (ap (λ (m : BTreeMap ℕ File). get nat_cmp m c.in_ok-inode.inode) (sym c.draw_growth.ensures.drawn.files.files) ∙ sym there) in
+    let same : size_of c.reserve_shown.new.self.blob.blob ≡ size_of found.blob.blob = ap (λ (b : FileBlob). size_of b.blob) c.reserve_shown.ensures.content.blob in
+    omega (arith, same, end)
