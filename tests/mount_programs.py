@@ -32,6 +32,11 @@ def more(outcomes, others, last=()):
     return [set(outcomes), {*outcomes, *others}, {*outcomes, *others}, {*outcomes, *others, *last}]
 
 
+def zeros(outcomes, ext4, xfs=(), others=()):
+    """Outcomes that all profiles allow, with those of ext4 alone, of XFS alone, and of btrfs and POSIX."""
+    return [{*outcomes, *ext4}, {*outcomes, *xfs}, {*outcomes, *others}, {*outcomes, *others}]
+
+
 def sync_data(path):
     """fdatasync."""
     descriptor = os.open(path, os.O_RDWR)
@@ -130,14 +135,15 @@ def then(*steps):
     return lambda at: [step(at) for step in steps]
 
 
-TORN = ("AA", "BB", "B", "0B", "empty")
 MIXED = ("none", "AA", "AB", "BA", "BB")
+# Two new sectors, each of which may be zeros; and where the end may be lost too.
+LONG, SHORT = ("00", "0B", "B0", "BB"), ("empty", "0", "B")
 F = files(f=A + A)
 BA = files(a=A, b=A)
 # The program, what is durable before it, what is looked at, and the outcomes.
 PROGRAMS = [
-    ("append", append, F, "f", more(["AA", "AAB", "AABB"], ["AA0B"])),
-    ("replace", replace, F, "f", more(["AA", "BB"], TORN)),
+    ("append", append, F, "f", zeros(["AA", "AAB", "AABB", "AA0B"], ["AA0", "AA00", "AAB0"], others=["AA0", "AA00", "AAB0"])),
+    ("replace", replace, F, "f", zeros(["AA", "BB", "0B"], LONG, ["empty", "B"], [*LONG, *SHORT])),
     ("replace, file synced", lambda at: replace(at, True), F, "f", same("AA", "BB")),
     ("replace, file and folder synced", lambda at: replace(at, True, True), F, "f", same("BB")),
     ("new file, synced", lambda at: put(f"{at}/f", B + B, sync=True), None, "f", more(["BB"], [], ["none"])),
@@ -160,24 +166,33 @@ PROGRAMS = [
     ("unlink f, new file o, synced", then(lambda at: os.unlink(f"{at}/f"), lambda at: put(f"{at}/o", X, sync=True)), files(f=A), "f",
      [{"none"}, {"none"}, {"none", "A"}, {"none", "A"}]),
     ("create f, overwrite g, synced", then(lambda at: create(at, "f"), lambda at: overwrite(at, sync_file, "g")), files(g=A), "f g",
-     more(["empty/B"], ["none/B"])),
+     same("none/B", "empty/B")),
     ("create f, overwrite g, data synced", then(lambda at: create(at, "f"), lambda at: overwrite(at, sync_data, "g")), files(g=A),
      "f g", same("none/B", "empty/B")),
     ("exchange", lambda at: rename_by(f"{at}/a", f"{at}/b", 2), files(a=A, b=B), "a b", same("A/B", "B/A")),
-    ("append, truncate f to AA", then(append_one, lambda at: cut(at, 2)), F, "f", more(["AA"], ["AAB"])),
-    ("truncate f, append", then(cut, append), F, "f", more(["A", "AA", "AB", "AAB", "ABB"], ["A0B"])),
-    ("truncate f, create g", then(cut, lambda at: create(at, "g")), F, "f g", more(["AA/none", "A/none", "A/empty"], [], ["AA/empty"])),
-    ("create g, truncate f", then(lambda at: create(at, "g"), cut), F, "f g", more(["AA/none", "AA/empty", "A/empty"], [], ["A/none"])),
+    # A sector is a part of a page: except on btrfs a truncation that is lost may leave zeros behind it.
+    ("append, truncate f to AA", then(append_one, lambda at: cut(at, 2)), F, "f", same("AA", "AAB", "AA0")),
+    ("truncate f, append", then(cut, append), F, "f",
+     zeros(["A", "AA", "AB", "AAB", "ABB", "A0B"], ["A0", "A00", "AB0", "AA0"], ["A0"], ["A0", "A00", "AB0", "AA0"])),
+    ("truncate f, create g", then(cut, lambda at: create(at, "g")), F, "f g",
+     [*[{"AA/none", "A0/none", "A/none", "A/empty"}] * 2, {"AA/none", "A/none", "A/empty"},
+      {"AA/none", "A0/none", "A/none", "A/empty", "AA/empty", "A0/empty"}]),
+    ("create g, truncate f", then(lambda at: create(at, "g"), cut), F, "f g",
+     [*[{"AA/none", "A0/none", "AA/empty", "A0/empty", "A/empty"}] * 2, {"AA/none", "AA/empty", "A/empty"},
+      {"AA/none", "A0/none", "AA/empty", "A0/empty", "A/empty", "A/none"}]),
     ("truncate f, rename it g", then(cut, lambda at: os.rename(f"{at}/f", f"{at}/g")), F, "f g",
-     more(["AA/none", "A/none", "none/A"], [], ["none/AA"])),
-    ("truncate f, synced, append", then(cut, lambda at: sync_file(f"{at}/f"), append_one), F, "f", same("A", "AB")),
+     [*[{"AA/none", "A0/none", "A/none", "none/A"}] * 2, {"AA/none", "A/none", "none/A"},
+      {"AA/none", "A0/none", "A/none", "none/A", "none/AA", "none/A0"}]),
+    ("truncate f, synced, append", then(cut, lambda at: sync_file(f"{at}/f"), append_one), F, "f",
+     zeros(["A", "AB"], ["A0"], others=["A0"])),
     ("truncate f, new file o, synced", then(cut, lambda at: put(f"{at}/o", X, sync=True)), F, "f",
-     [{"A"}, {"A"}, {"A", "AA"}, {"A", "AA"}]),
-    ("truncate f, folder synced", then(cut, sync_folder), F, "f", more(["A"], ["AA"])),
+     [{"A"}, {"A"}, {"A", "AA"}, {"A", "AA", "A0"}]),
+    ("truncate f, folder synced", then(cut, sync_folder), F, "f", [{"A"}, {"A", "AA", "A0"}, {"A", "AA"}, {"A", "AA", "A0"}]),
     # Programs that are not in the table.
     ("unlink, write", lambda at: use_unlinked(at, False), F, "f", same(*MIXED)),
     ("unlink, write, sync", lambda at: use_unlinked(at, True), F, "f", more(["none"], [], ["BB"])),
-    ("open that truncates, write, close", lambda at: put(f"{at}/f", B + B, flags=os.O_TRUNC), F, "f", more(["BB"], TORN + MIXED)),
+    ("open that truncates, write, close", lambda at: put(f"{at}/f", B + B, flags=os.O_TRUNC), F, "f",
+     zeros([*MIXED[1:], "empty", "B", "0B"], ["A0", "0A", *LONG, "0"], others=["A0", "0A", *LONG, "0"])),
 ]
 
 

@@ -28,7 +28,7 @@ if ! is_current; then
     : >"$out/began"
     # shellcheck disable=SC2046,SC2086
     run "$compiler" -std=c11 -D_XOPEN_SOURCE=700 -O2 -g -Wall -Wextra -Werror "-I$top/bindings/c" "-I$here/../common" ${CFLAGS:-} \
-        $(pkg-config --cflags fuse3) -o "$program.new" "$here"/*.c "$here/../common/record.c" "$archive" ${FUSE_LIBS:-$(pkg-config --libs fuse3)} >&2 9>&-
+        $(pkg-config --cflags fuse3) -o "$program.new" "$here"/*.c "$here/../common/disk.c" "$here/../common/record.c" "$archive" ${FUSE_LIBS:-$(pkg-config --libs fuse3)} >&2 9>&-
     touch -r "$out/began" "$program.new" # a source may have changed since
     mv -f "$program.new" "$program"
     echo "$archive" >"$program.archive"

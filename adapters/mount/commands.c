@@ -29,12 +29,13 @@ static void print_status(char *reply, size_t capacity) {
 }
 
 static int crash(char *reply, size_t capacity, pid_t *child) {
-    struct layer_crash kept;
+    struct disk_crash kept;
     int error = serve_crash(&kept, child);
     if (error) return error;
     snprintf(reply, capacity,
              "ok life %" PRIu64 " writes %" PRIu64 " kept-bytes %" PRIu64 " lost-bytes %" PRIu64 " edits %" PRIu64 " kept-edits %" PRIu64,
-             power.life, kept.writes, kept.kept_bytes, kept.lost_bytes, kept.edits, kept.kept_edits);
+             power.life, kept.files.writes + kept.names.writes, kept.files.kept_bytes + kept.names.kept_bytes,
+             kept.files.lost_bytes + kept.names.lost_bytes, kept.edits, kept.kept_edits);
     return 0;
 }
 
@@ -62,7 +63,7 @@ static bool begins(const char *line, const char *word) { return strncmp(line, wo
 
 /* Whether a line is a setting of the layer that may change at any time. */
 static bool is_setting(const char *line) {
-    static const char *const words[] = {"config ", "profile ", "keep ", "failed_sync ", "syncs ", "failed_write "};
+    static const char *const words[] = {"config ", "profile ", "edits ", "keep ", "failed_sync ", "syncs ", "failed_write "};
     for (size_t at = 0; at < sizeof words / sizeof *words; at++)
         if (begins(line, words[at])) return true;
     return false;

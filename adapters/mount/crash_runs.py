@@ -120,7 +120,8 @@ class Run:
         keep, tear = self.options.keep or "1/2", self.options.tear or "sectors512"
         kept = f"{keep.replace('/', ' ')} {tear.replace('sectors', 'sectors ')}"
         calm = {"config write": f"config write 0 1 {kept}", "config resize": "config resize 0 1 0 1",
-                "failed_sync": "failed_sync keeps", "syncs": "syncs honest", "failed_write": "failed_write mode"}
+                "failed_sync": "failed_sync keeps", "syncs": "syncs honest", "failed_write": "failed_write mode",
+                "edits": f"profile {self.options.profile or 'ext4'}"}
         for fault in self.options.fault:
             words = fault.split()
             kind = " ".join(words[:2]) if words[0] == "config" else words[0]

@@ -131,7 +131,8 @@ class Workers(ThreadPoolExecutor):
         with self._lock:
             if self._is_ending:
                 raise Broken("interrupted")
-            process = subprocess.Popen(command, **options)
+            with interrupts.held():  # a Python that starts would print a traceback
+                process = subprocess.Popen(command, **options)
             self._running.add(process)
         try:
             out = process.communicate()[0]

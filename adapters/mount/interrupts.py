@@ -7,6 +7,7 @@ They raise KeyboardInterrupt, once, and only in a part that says so. What comes 
 import contextlib
 import signal
 
+_SIGNALS = (signal.SIGHUP, signal.SIGINT, signal.SIGTERM)
 _state = {"may raise": False, "has come": False, "has raised": False}
 
 
@@ -24,8 +25,19 @@ def _handle(_number, _frame):
 
 def install():
     """From here on these signals wait for such a part."""
-    for number in (signal.SIGHUP, signal.SIGINT, signal.SIGTERM):
+    for number in _SIGNALS:
         signal.signal(number, _handle)
+    signal.pthread_sigmask(signal.SIG_UNBLOCK, _SIGNALS)
+
+
+@contextlib.contextmanager
+def held():
+    """A part of a thread in which a process is started that calls `install`: until it does, signals that come to it wait."""
+    before = signal.pthread_sigmask(signal.SIG_BLOCK, _SIGNALS)
+    try:
+        yield
+    finally:
+        signal.pthread_sigmask(signal.SIG_SETMASK, before)
 
 
 @contextlib.contextmanager

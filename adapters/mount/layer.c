@@ -1,15 +1,13 @@
 #include "layer.h"
 
-#include "blobcrash_files.h"
 #include "record.h"
 
 #include <errno.h>
 #include <stdlib.h>
 #include <string.h>
 
-static struct blobcrash_files files;
-/* Bytes that no call uses. */
-static const uint8_t nothing[1];
+/* Its power stays on: power.h counts the calls of the kernel. */
+static struct disk disk;
 
 static int error_of(uint32_t status) {
     switch (status) {
@@ -31,18 +29,8 @@ static int error_of(uint32_t status) {
     }
 }
 
-static const uint8_t *bytes_of(const char *text) { return text ? (const uint8_t *)text : nothing; }
-static size_t length_of(const char *text) { return text ? strlen(text) : 0; }
-
-static struct blobcrash_file_reply apply_two(struct blobcrash_file_call call, const char *path, const char *to) {
-    struct blobcrash_file_reply reply =
-        blobcrash_files_apply(&files, &call, bytes_of(path), length_of(path), bytes_of(to), length_of(to));
-    if (record_notes) record_call(&call, path, to, reply.status);
-    return reply;
-}
-
 static struct blobcrash_file_reply apply(uint32_t kind, uint64_t number, uint64_t first, const char *path) {
-    return apply_two((struct blobcrash_file_call){.kind = kind, .number = number, .first = first}, path, NULL);
+    return disk_call(&disk, kind, number, first, path);
 }
 
 static int run(uint32_t kind, uint64_t number, uint64_t first, const char *path) {
@@ -50,17 +38,17 @@ static int run(uint32_t kind, uint64_t number, uint64_t first, const char *path)
 }
 
 int layer_begin(const char *preamble, uint64_t *line) {
-    struct blobcrash_script_ran ran = blobcrash_files_open(&files, bytes_of(preamble), length_of(preamble));
+    struct blobcrash_script_ran ran = blobcrash_files_open(&disk.files, (const uint8_t *)preamble, strlen(preamble));
     *line = ran.line;
+    disk.is_on = disk.is_recorded = true;
     record_preamble(preamble);
     return ran.status == BLOBCRASH_BAD_LINE ? EINVAL : error_of(ran.status);
 }
 
-void layer_end(void) { blobcrash_files_close(&files); }
+void layer_end(void) { blobcrash_files_close(&disk.files); }
 
 int layer_set(const char *setting) {
-    uint32_t status = blobcrash_files_configure(&files, bytes_of(setting), length_of(setting));
-    if (record_notes && status == BLOBCRASH_DONE) record_setting(setting);
+    uint32_t status = disk_set(&disk, setting);
     return status == BLOBCRASH_BAD_LINE ? EINVAL : error_of(status);
 }
 
@@ -78,7 +66,7 @@ int layer_list(uint64_t directory, struct layer_name **names, size_t *count) {
     struct layer_name *list = calloc(all + 1, sizeof *list);
     if (!list) return ENOMEM;
     for (size_t at = 0; at < all; at++) {
-        reply = blobcrash_files_name(&files, at, (uint8_t *)list[at].name, NAME_MOST);
+        reply = blobcrash_files_name(&disk.files, at, (uint8_t *)list[at].name, NAME_MOST);
         if (reply.status != BLOBCRASH_DONE) {
             free(list);
             return error_of(reply.status);
@@ -117,7 +105,7 @@ int layer_remove_directory(uint64_t directory, const char *name) {
 int layer_rename(uint64_t directory, const char *name, uint64_t to_directory, const char *to_name, enum layer_rename how) {
     struct blobcrash_file_call call = {
         .kind = BLOBCRASH_F_RENAME_AT, .number = directory, .first = to_directory, .last = (uint64_t)how};
-    return error_of(apply_two(call, name, to_name).status);
+    return error_of(disk_apply(&disk, &call, name, to_name).status);
 }
 
 int layer_sync_directory(uint64_t directory) { return run(BLOBCRASH_F_SYNC_DIRECTORY_AT, directory, 0, NULL); }
@@ -149,14 +137,11 @@ int layer_sync(uint64_t descriptor, bool only_data) {
 }
 
 int layer_write(uint64_t descriptor, uint64_t offset, const void *bytes, size_t len) {
-    uint32_t status = blobcrash_files_write(&files, descriptor, offset, bytes, len);
-    if (record_notes) record_write(descriptor, offset, bytes, len, status);
-    return error_of(status);
+    return error_of(disk_write(&disk, descriptor, offset, bytes, len));
 }
 
 int layer_read(uint64_t descriptor, uint64_t offset, void *into, size_t capacity, size_t *len) {
-    struct blobcrash_ran ran = blobcrash_files_read(&files, descriptor, offset, into, capacity);
-    if (record_notes) record_read(descriptor, offset, capacity, ran.status);
+    struct blobcrash_ran ran = disk_read(&disk, descriptor, offset, into, capacity);
     *len = ran.len;
     return error_of(ran.status);
 }
@@ -165,24 +150,4 @@ int layer_commit(void) { return run(BLOBCRASH_F_COMMIT, 0, 0, NULL); }
 
 int layer_settle(void) { return run(BLOBCRASH_F_SETTLE, 0, 0, NULL); }
 
-/* Adds what a crash kept of one write. */
-static void count_row(struct layer_crash *crash, size_t row) {
-    struct blobcrash_kept_run kept = blobcrash_files_kept_run(&files, row, 0);
-    size_t bytes = kept.bytes, count = 0;
-    while (kept.len > 0) {
-        count += kept.len;
-        kept = blobcrash_files_kept_run(&files, row, kept.start + kept.len);
-    }
-    crash->kept_bytes += count;
-    crash->lost_bytes += bytes - count;
-}
-
-int layer_crash(struct layer_crash *crash) {
-    struct blobcrash_file_reply reply = apply(BLOBCRASH_F_CRASH, 0, 0, NULL);
-    if (reply.status != BLOBCRASH_DONE) return error_of(reply.status);
-    *crash = (struct layer_crash){.writes = reply.size, .edits = reply.number};
-    for (size_t row = 0; row < reply.size; row++) count_row(crash, row);
-    for (size_t edit = 0; edit < reply.number; edit++)
-        crash->kept_edits += blobcrash_files_kept_edit(&files, edit).len == 1;
-    return 0;
-}
+int layer_crash(struct disk_crash *crash) { return error_of(disk_crash(&disk, crash)); }

@@ -2,6 +2,8 @@
 #ifndef MOUNT_LAYER_H
 #define MOUNT_LAYER_H
 
+#include "disk.h"
+
 #include <stdbool.h>
 #include <stddef.h>
 #include <stdint.h>
@@ -16,11 +18,6 @@ struct layer_name {
     uint64_t inode;
     bool is_directory;
     char name[NAME_MOST + 1];
-};
-
-/* What a crash kept. */
-struct layer_crash {
-    uint64_t writes, kept_bytes, lost_bytes, edits, kept_edits;
 };
 
 /* Opens a new, empty file system. EINVAL if a line of the preamble is bad: then `line` has its number. */
@@ -57,6 +54,6 @@ int layer_commit(void);
 /* Makes everything durable. */
 int layer_settle(void);
 /* Crashes. All descriptors are stale. After an error crash again. */
-int layer_crash(struct layer_crash *crash);
+int layer_crash(struct disk_crash *crash);
 
 #endif

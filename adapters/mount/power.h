@@ -22,6 +22,6 @@ extern struct power power;
 void power_on(void);
 
 /* Crashes the layer, and begins the next life. After an error the power is off. */
-int power_crash(struct layer_crash *crash);
+int power_crash(struct disk_crash *crash);
 
 #endif

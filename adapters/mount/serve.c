@@ -81,14 +81,14 @@ static void end_calls(void) {
 }
 
 /* Crashes, and lists what the kernel keeps before and after. */
-static int crash_between(struct layer_crash *crash, struct cached *before, struct cached *after) {
+static int crash_between(struct disk_crash *crash, struct cached *before, struct cached *after) {
     int error = cached_list(before);
     if (!error) error = power_crash(crash);
     if (!error) error = cached_list(after);
     return error;
 }
 
-int serve_crash(struct layer_crash *crash, pid_t *child) {
+int serve_crash(struct disk_crash *crash, pid_t *child) {
     struct cached before = {0}, after = {0};
     end_calls();
     int error = crash_between(crash, &before, &after);

@@ -23,6 +23,6 @@ void serve_end(void);
  * The kernel caches names, attributes and pages of the life before. To invalidate them it may wait for a call that this process is to
  * make, so a child process does it. After a crash this returns in both, with `child` 0 in the child, which only sends the reply.
  */
-int serve_crash(struct layer_crash *crash, pid_t *child);
+int serve_crash(struct disk_crash *crash, pid_t *child);
 
 #endif

@@ -1,0 +1,62 @@
+#!/bin/sh
+# calibrate.sh [FS] [SECONDS]: what ext4, XFS and btrfs of this kernel leave after power losses lies in the sets of their profiles: random
+# programs from a fixed seed for SECONDS (20) on each file system, and those of tests/calibrating/found. A state that one file system
+# leaves is outside the profile of another, so the comparison can fail. Skipped, with CI=true too, without root, loop devices, or a file
+# system of the kernel: no package brings them. The last line is `N passed, M failed`.
+top=$(CDPATH='' cd -- "$(dirname -- "$0")/.." && pwd -P)
+# shellcheck source=tests/counting.sh
+. "$top/tests/counting.sh"
+PATH=$PATH:/usr/sbin:/sbin
+kinds=${1:-ext4 ext4-nodelalloc xfs btrfs}
+seconds=${2:-20}
+
+# calibrate FS WHAT OPTION ..: counts whether all states are inside. Returns 1 if something is missing.
+calibrate() {
+    kind=$1
+    what=$2
+    shift 2
+    "$top/tools/calibrate" "$kind" "$@" >"$work/out" 2>"$work/err"
+    status=$?
+    if [ "$status" -eq 3 ]; then
+        leave_out "$kind: $(tail -n 1 "$work/err")"
+        return 1
+    fi
+    sed -n 's/^# //p' "$work/out"
+    tell "$status" "$kind: a state of $what is outside of its profile"
+    return 0
+}
+
+# told FS PROFILE PROGRAM STEPS STATE: counts whether a state that FS leaves is in the set of its profile, and outside that of PROFILE.
+told() {
+    printf '%s\t1\t%s\t%s\t0\t%s\n' "$1" "$3" "$4" "$5" >"$work/state"
+    "$top/tools/calibrate" "$1" --compare "$work/state" >"$work/out" 2>"$work/err"
+    tell "$?" "$1: a state that it leaves is outside of its profile"
+    "$top/tools/calibrate" "$1" --profile "$2" --compare "$work/state" >"$work/out" 2>"$work/err"
+    if [ $? -eq 1 ] && grep -q '^OUTSIDE' "$work/out"; then pass; else tell 1 "$1 isn't told from $2"; fi
+}
+
+if [ "$(id -u)" -ne 0 ]; then
+    leave_out 'real file systems: only root can mount them'
+    finish
+fi
+if ! has_python; then
+    skip 'there is no Python 3.8 or later'
+    finish
+fi
+for kind in $kinds; do
+    type=${kind%-*}
+    if ! has "mkfs.$type"; then
+        skip "$kind: there is no mkfs.$type (Debian: e2fsprogs, xfsprogs, btrfs-progs)"
+        continue
+    fi
+    found=$top/tests/calibrating/found
+    calibrate "$kind" 'a program that was found' --program "$found/$type.txt" --runs 3 || continue
+    calibrate "$kind" 'a program of the mount' --program "$found/programs.txt" --runs 2
+    calibrate "$kind" 'a random program' --seconds "$seconds"
+    case $kind in
+    ext4) told ext4 xfs 'f = A -- t = BB, rename t f, ~commit' 2 'f=00' ;;
+    xfs) told xfs ext4 'f = A -- t = BB, rename t f, ~commit' 2 'f=' ;;
+    btrfs) told btrfs xfs 'mkdir e -- rename e d, create d/a, fsync d/a' 3 'e/ e/a=' ;;
+    esac
+done
+finish
