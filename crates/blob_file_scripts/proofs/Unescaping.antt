@@ -1,6 +1,7 @@
 -- The bytes of a text, the first one and then the others.
 use Rattle.std.proofs.Common.{◌≡◌, ℕ, List, [], ◌∷◌, ◌++◌, true, false, Option, Some, None, option_map, refl, sym, ap, ◌∙◌, subst, append_assoc, if◌then◌else◌}
-use Rattle.blob_file_scripts.specs.PathTokens.{HasNoEscape, StartsEscaped, before, escaped, is_plain, plain, unescaped}
+use Rattle.blob_file_scripts.specs.PathTokens.{HasNoEscape, StartsEscaped, before, escaped, plain, unescaped}
+use Rattle.blob_file_sessions.specs.PathTokens.{is_plain}
 
 -- bytes that were read, and those of the rest
 abbrev pub behind : List ℕ → Option (List ℕ) → Option (List ℕ)

@@ -1,11 +1,8 @@
 -- Paths and names as tokens.
-use Rattle.std.specs.Prelude.{◌≡◌, ℕ, ◌+◌, ◌*◌, ◌==◌, ◌&&◌, nat_lt, List, [], ◌∷◌, Bool, not, Option, Some, None, option_map, option_and_then, if◌then◌else◌, codes}
+use Rattle.std.specs.Prelude.{◌≡◌, ℕ, ◌+◌, ◌*◌, ◌==◌, ◌&&◌, List, [], ◌∷◌, Option, Some, None, option_map, option_and_then, if◌then◌else◌, codes}
 use Rattle.std.specs.Str.{byte, bytes_eq}
 use Rattle.hex.specs.Hex.{hex_digit_value}
-
--- printable ASCII but the space, the backslash and the number sign
-abbrev pub is_plain : ℕ → Bool
-is_plain b = nat_lt 32 b && nat_lt b 127 && not (b == byte "\\") && not (b == byte "#")
+use Rattle.blob_file_sessions.specs.PathTokens.{is_plain}
 
 -- the byte of two hex digits, after a backslash and an `x`
 abbrev pub escaped : ℕ → ℕ → ℕ → ℕ → Option ℕ

@@ -1,7 +1,6 @@
 -- A reply as a line, without its line feed.
-use Rattle.std.specs.Prelude.{◌≡◌, ℕ, Bool, ◌/◌, ◌%◌, List, [], ◌∷◌, ◌++◌, codes, if◌then◌else◌, Vec}
+use Rattle.std.specs.Prelude.{◌≡◌, ℕ, Bool, List, [], ◌∷◌, ◌++◌, codes, if◌then◌else◌, Vec}
 use Rattle.std.specs.Global.{Global}
-use Rattle.std.specs.Char.{digit_char}
 use Rattle.std.specs.Fmt.{decimal}
 use Rattle.std.specs.List.{flat_map}
 use Rattle.blob_directory.specs.declared.edit.Binding.{Binding}
@@ -16,16 +15,7 @@ use Rattle.blob_fs.specs.declared.error.FsError.{FsError}
 use Rattle.blob_fs.specs.declared.error.FsError.TheVariants as errors
 use Rattle.blob_fs.specs.declared.reply.Reply.{Reply}
 use Rattle.blob_fs.specs.declared.reply.Reply.TheVariants.{Done, Opened, Inode, Found, Size, Names, Tree, Crashed, Refused}
-use Rattle.blob_file_scripts.specs.PathTokens.{is_plain}
-
--- a byte of a path: itself if it is plain, else `\xNN`
-abbrev pub byte_token : ℕ → List ℕ
-byte_token b = if is_plain b then b ∷ [] else codes "\\x" ++ digit_char (b / 16) ∷ digit_char (b % 16) ∷ []
-
--- a path or a name as a token
-abbrev pub path_token : List ℕ → List ℕ
-path_token [] = codes "\"\""
-path_token (b ∷ path) = flat_map byte_token (b ∷ path)
+use Rattle.blob_file_sessions.specs.PathTokens.{path_token}
 
 -- a slash after a directory
 abbrev pub slash_of : Kind → List ℕ

@@ -21,15 +21,32 @@ pub(crate) struct Issued {
     pub(crate) words: String,
 }
 
-/// A write that no sync made durable.
+/// The numbers of the pending writes that a call recorded. Without a retention rate it recorded none.
+#[derive(Clone, Copy)]
+pub(crate) struct Numbers {
+    pub(crate) first: u64,
+    pub(crate) end: u64,
+}
+
+impl Numbers {
+    /// Returns the number of the bytes of a write: the last.
+    fn bytes(&self) -> Option<u64> {
+        if self.end > self.first {
+            Some(self.end.saturating_sub(1))
+        } else {
+            None
+        }
+    }
+}
+
+/// A write that no sync made durable. That of a truncation has no bytes.
 #[derive(Drop)]
 pub(crate) struct Unsynced {
     /// The line of its call.
     pub(crate) line: u64,
     pub(crate) offset: u64,
     pub(crate) bytes: Vec<u8>,
-    /// Whether a crash draws for it, unless its bytes become durable before.
-    pub(crate) is_drawn: bool,
+    pub(crate) numbers: Numbers,
 }
 
 /// A file before a crash.
@@ -39,7 +56,6 @@ struct File {
     /// Empty if no name reaches it.
     path: String,
     size: u64,
-    synced: u64,
     durable: Vec<u8>,
 }
 
@@ -91,7 +107,6 @@ fn file_of(
         inode,
         path,
         size: fs.size_of(inode),
-        synced: fs.synced_size_of(inode),
         durable,
     }))
 }
@@ -182,51 +197,33 @@ pub(crate) fn push_to<T: Drop>(
     Ok(())
 }
 
-/// Returns the rows of each file's writes, by its inode.
-fn rows_by_file(alloc: Global, crash: &Crash) -> Result<BTreeMap<u64, Vec<usize>>, AllocError> {
+/// Returns the row of each write of a file, by the write's number.
+fn rows_of_files(alloc: Global, crash: &Crash) -> Result<BTreeMap<u64, usize>, AllocError> {
     let mut rows = BTreeMap::new(alloc);
-    for (i, place) in crash.places.iter().enumerate() {
-        if let Some(inode) = place.inode {
-            push_to(&mut rows, alloc, inode, i)?;
+    for (i, (place, (number, _))) in crash
+        .places
+        .iter()
+        .zip(crash.rows.rows().iter())
+        .enumerate()
+    {
+        if place.inode.is_some() {
+            rows.insert(*number, i)?;
         }
     }
     Ok(rows)
 }
 
-/// Returns the write's number and its choices in a row, if the row may be that of this write.
-fn row_of<'a>(write: &Unsynced, crash: &'a Crash, row: usize) -> Option<&'a (u64, Vec<bool>)> {
+/// Returns what a crash chose for the bytes of a pending write, and where the write was. `None` if it didn't draw for it.
+fn choices_of<'a>(
+    crash: &'a Crash,
+    rows: &BTreeMap<u64, usize>,
+    number: Option<u64>,
+) -> Option<(u64, u64, &'a [bool])> {
+    let number = number?;
+    let row = rows.get(&number).copied()?;
     let place = crash.places.get(row)?;
-    let found = crash.rows.rows().get(row)?;
-    let fits = place.offset == write.offset && found.1.len() == write.bytes.len();
-    if fits && write.is_drawn {
-        Some(found)
-    } else {
-        None
-    }
-}
-
-/// Returns the row of each write of a file, if it has one. Both are in the order of their calls, and of writes with the same place
-/// the last ones are pending.
-fn match_rows(
-    alloc: Global,
-    writes: &[Unsynced],
-    rows: &[usize],
-    crash: &Crash,
-) -> Result<Vec<Option<usize>>, AllocError> {
-    let mut matched = Vec::new(alloc);
-    let mut left = rows;
-    for write in writes.iter().rev() {
-        let mut found = None;
-        if let Some((row, others)) = left.split_last() {
-            if row_of(write, crash, *row).is_some() {
-                found = Some(*row);
-                left = others;
-            }
-        }
-        matched.push(found)?;
-    }
-    matched.reverse();
-    Ok(matched)
+    let (_, choices) = crash.rows.rows().get(row)?;
+    Some((number, place.offset, choices.as_slice()))
 }
 
 /// Returns whether bytes were durable at an offset.
@@ -240,70 +237,83 @@ fn is_durable(durable: &[u8], offset: u64, bytes: &[u8]) -> bool {
     durable.get(offset as usize..end as usize) == Some(bytes)
 }
 
+/// Appends what a crash did with the bytes of a pending write, or with zeros, by its number.
+fn push_choices(
+    before: &Before,
+    number: u64,
+    choices: &[bool],
+    offset: u64,
+    text: &mut String,
+) -> Result<(), AllocError> {
+    let covered: &[(u64, u64)] = match before.holes.get(&number) {
+        None => &[],
+        Some(holes) => holes,
+    };
+    push_outcomes(choices, covered, offset, text)?;
+    text.push('\n')
+}
+
+/// Appends what a crash did with the zeros that a call wrote before the bytes of a write, or for a truncation.
+fn push_zeros(
+    before: &Before,
+    write: &Unsynced,
+    crash: &Crash,
+    rows: &BTreeMap<u64, usize>,
+    text: &mut String,
+) -> Result<(), AllocError> {
+    let bytes = write.numbers.bytes();
+    for number in write.numbers.first..write.numbers.end {
+        if bytes == Some(number) && !write.bytes.is_empty() {
+            continue;
+        }
+        let Some((number, offset, choices)) = choices_of(crash, rows, Some(number)) else {
+            continue;
+        };
+        let (line, end) = (write.line, offset.saturating_add(choices.len() as u64));
+        write!(text, "  line {line}: zeros {offset}..{end}: ")?;
+        push_choices(before, number, choices, offset, text)?;
+    }
+    Ok(())
+}
+
 /// Appends what a crash did with the bytes of a write. Appends nothing if they were durable before.
 fn push_write(
     before: &Before,
     file: &File,
     write: &Unsynced,
-    row: Option<&(u64, Vec<bool>)>,
+    crash: &Crash,
+    rows: &BTreeMap<u64, usize>,
     text: &mut String,
 ) -> Result<(), AllocError> {
-    if row.is_none() && is_durable(&file.durable, write.offset, &write.bytes) {
+    let chosen = choices_of(crash, rows, write.numbers.bytes());
+    if write.bytes.is_empty()
+        || (chosen.is_none() && is_durable(&file.durable, write.offset, &write.bytes))
+    {
         return Ok(());
     }
     let (line, offset) = (write.line, write.offset);
     let end = offset.saturating_add(write.bytes.len() as u64);
     write!(text, "  line {line}: write {offset}..{end}: ")?;
-    match row {
-        None => text.push_str("lost")?,
-        Some((number, choices)) => {
-            let covered: &[(u64, u64)] = match before.holes.get(number) {
-                None => &[],
-                Some(holes) => holes,
-            };
-            push_outcomes(choices, covered, offset, text)?;
-        }
+    match chosen {
+        None => text.push_str("lost\n"),
+        Some((number, offset, choices)) => push_choices(before, number, choices, offset, text),
     }
-    text.push('\n')
 }
 
-/// Appends the lines of a file's writes, and that the profile truncated it.
+/// Appends the lines of a file's writes.
 fn push_lines(
-    alloc: Global,
-    fs: &FileSystem<ScriptedRng>,
     crash: &Crash,
     before: &Before,
     file: &File,
     writes: &[Unsynced],
-    rows: &[usize],
+    rows: &BTreeMap<u64, usize>,
     text: &mut String,
 ) -> Result<(), AllocError> {
-    let matched = match_rows(alloc, writes, rows, crash)?;
-    for (write, row) in writes.iter().zip(matched.iter()) {
-        let row = match row {
-            None => None,
-            Some(row) => row_of(write, crash, *row),
-        };
-        push_write(before, file, write, row, text)?;
+    for write in writes {
+        push_zeros(before, write, crash, rows, text)?;
+        push_write(before, file, write, crash, rows, text)?;
     }
-    let (found, size) = (fs.found_size_of(file.inode), fs.size_of(file.inode));
-    push_cut(found, size, file.synced, text)
-}
-
-/// Appends that the profile truncated a file, if it did: beyond the size at its last sync, or beyond a kept truncation.
-fn push_cut(found: u64, size: u64, synced: u64, text: &mut String) -> Result<(), AllocError> {
-    if size >= found {
-        return Ok(());
-    }
-    write!(
-        text,
-        "  truncated from {found} to {size}, at its first lost byte "
-    )?;
-    if size < synced {
-        text.push_str("beyond a kept truncation\n")
-    } else {
-        writeln!(text, "beyond the synced size {synced}")
-    }
+    Ok(())
 }
 
 /// Appends a file's path and sizes, and the path that it had before the crash if that was another one.
@@ -357,7 +367,7 @@ pub(crate) fn push_files(
     writes: &BTreeMap<u64, Vec<Unsynced>>,
     text: &mut String,
 ) -> Result<(), AllocError> {
-    let rows = rows_by_file(alloc, crash)?;
+    let rows = rows_of_files(alloc, crash)?;
     for file in &before.files {
         let Some(path) = path_after(alloc, fs, paths, file)? else {
             if !file.path.is_empty() {
@@ -370,12 +380,8 @@ pub(crate) fn push_files(
             None => &[],
             Some(writes) => writes,
         };
-        let rows: &[usize] = match rows.get(&file.inode) {
-            None => &[],
-            Some(rows) => rows,
-        };
         let mut lines = String::new(alloc);
-        push_lines(alloc, fs, crash, before, file, of_file, rows, &mut lines)?;
+        push_lines(crash, before, file, of_file, &rows, &mut lines)?;
         if !lines.is_empty() || fs.size_of(file.inode) != file.size {
             push_sizes(fs, file, &path, text)?;
             text.push_str(&lines)?;

@@ -1,23 +1,16 @@
 //! Paths and names as tokens of a line.
 ghost use Rattle.std.specs.Prelude.{◌≡◌, ◌++◌, OnOk, string_bytes, IfSome, IfNone, Err, IfOk, None, Some, ◌<◌};
 ghost use Rattle.std.specs.Char.{digit_char};
-ghost use Rattle.blob_file_scripts.specs.ReplyLines.{byte_token, path_token};
 ghost use Rattle.hex.specs.Hex.{hex_digit_value};
-ghost use Rattle.blob_file_scripts.specs.PathTokens.{HasNoEscape, StartsEscaped, is_plain, path_of, unescaped};
+ghost use Rattle.blob_file_scripts.specs.PathTokens.{HasNoEscape, StartsEscaped, path_of, unescaped};
+ghost use Rattle.blob_file_sessions.specs.PathTokens.{byte_token, is_plain, path_token};
 
+use blob_file_sessions::path_text::is_plain;
 use blob_tokens::RefusedLine;
 use std::alloc::{AllocError, Global};
 
 /// The token of an empty path.
 const EMPTY: &str = "\"\"";
-
-/// Returns whether a byte of a path stands for itself: printable ASCII but the space, the backslash and the number sign, with
-/// which a comment begins.
-fn is_plain(byte: u8) -> bool
-    ensures { result ≡ is_plain byte }
-{
-    byte > b' ' && byte < 127 && byte != b'\\' && byte != b'#'
-}
 
 /// Returns the value of a hex digit.
 fn digit(byte: u8) -> Option<u8>

@@ -1,10 +1,9 @@
 //! A run that is watched, call by call, and the text that follows each reply.
 use crate::call::{Line, Named, OnFile};
-use crate::crash_text::{Before, Issued, Unsynced, push_edits, push_files, push_to};
+use crate::crash_text::{Before, Issued, Numbers, Unsynced, push_edits, push_files, push_to};
 use crate::edit_text::push_edit;
 use crate::paths::Paths;
 use blob_directory::unsettled::Unsettled;
-use blob_draws::faults::retained;
 use blob_file_sessions::{KeptFiles, Reply};
 use blob_fs::call::{Call, NumberCall, PathCall};
 use blob_fs::{Crash, FileSystem, FsError, Syncs};
@@ -23,6 +22,8 @@ pub(crate) struct Watch {
     next_edit: u64,
     /// The writes of each file that no sync made durable, by its inode.
     writes: BTreeMap<u64, Vec<Unsynced>>,
+    /// The number of the next pending write before the call.
+    next_write: u64,
     /// Of a crash that has no reply yet.
     before: Option<Before>,
 }
@@ -61,6 +62,7 @@ impl Watch {
             edits: Vec::new(alloc),
             next_edit: 0,
             writes: BTreeMap::new(alloc),
+            next_write: 0,
             before: None,
         }
     }
@@ -68,6 +70,7 @@ impl Watch {
     /// Looks at the files before a call.
     pub(crate) fn before(&mut self, files: &KeptFiles, call: &Line<'_>) -> Result<(), AllocError> {
         let fs = files.fs();
+        self.next_write = fs.store().next_write();
         if let Line::Call(Call::Crash) = call {
             self.paths = Paths::read(self.alloc, fs)?;
             self.before = Some(Before::read(self.alloc, fs, &self.paths, &self.writes)?);
@@ -88,6 +91,7 @@ impl Watch {
         let is_done = reply == "ok";
         self.note_edit(line, fs, call)?;
         match call {
+            Line::On(file, OnFile::Truncate(_)) => self.note_write(line, fs, file, 0, &[])?,
             Line::On(file, call) if is_done => self.after_file(line, fs, file, call, &mut text)?,
             Line::On(..) => {}
             Line::Call(call) => match files.reply() {
@@ -98,7 +102,7 @@ impl Watch {
         Ok(text)
     }
 
-    /// Notes a write that returned Ok.
+    /// Notes a write that returned Ok, or the zeros that a truncation wrote. Before the bytes of a write there may be zeros too.
     fn note_write(
         &mut self,
         line: u64,
@@ -110,14 +114,18 @@ impl Watch {
         let Some(inode) = inode_named(fs, file)? else {
             return Ok(());
         };
-        if bytes.is_empty() {
+        let numbers = Numbers {
+            first: self.next_write,
+            end: fs.store().next_write(),
+        };
+        if bytes.is_empty() && numbers.first == numbers.end {
             return Ok(());
         }
         let write = Unsynced {
             line,
             offset,
             bytes: Vec::from_slice(self.alloc, bytes)?,
-            is_drawn: retained(fs.options().faults.write_rate).is_some(),
+            numbers,
         };
         push_to(&mut self.writes, self.alloc, inode, write)
     }

@@ -3,10 +3,11 @@ use Rattle.std.specs.Prelude.{◌≡◌, ℕ, List, Option, Some, None, length}
 use Rattle.blob_sessions.specs.Sessions.{stopped}
 use Rattle.blob_statuses.specs.declared.ran.Ran.{Ran}
 use Rattle.blob_statuses.specs.declared.ran.TheConstants.{CLOSED}
-use Rattle.blob_file_sessions.specs.Calls.{Answers, Configures, Reads, TakesWords, Writes}
+use Rattle.blob_file_sessions.specs.Calls.{Configures, TakesWords}
 use Rattle.blob_file_sessions.specs.Held.{files_of}
 use Rattle.blob_file_sessions.specs.LastParts.{CopiesEntry}
 use Rattle.blob_file_sessions.specs.Replies.{no_reply}
+use Rattle.blob_file_sessions.specs.Supplies.{AnswersSupplied, ReadsSupplied, WritesSupplied}
 use Rattle.blob_file_sessions.specs.Trees.{CopiesDurable, CopiesPath}
 use Rattle.blob_file_sessions.specs.declared.call.FileCall.{FileCall}
 use Rattle.blob_file_sessions.specs.declared.call.FileReply.{FileReply}
@@ -29,19 +30,19 @@ ReadsFiles before after Open Closed = OnFiles before after (λ k k'. (k' ≡ k) 
 
 -- a call by its kind, numbers and paths
 abbrev pub AnswersCall : Files → FileCall → List ℕ → List ℕ → Files → FileReply → Type 0
-AnswersCall before asked path to after reply = OnFiles before after (λ k k'. Answers k asked path to k' reply) (reply ≡ no_reply CLOSED)
+AnswersCall before asked path to after reply = OnFiles before after (λ k k'. AnswersSupplied k asked path to k' reply) (reply ≡ no_reply CLOSED)
 
 abbrev pub MakesSetting : Files → Files → ℕ → Type 0
 MakesSetting before after status = OnFiles before after (λ k k'. Configures k k' status) (status ≡ CLOSED)
 
 -- a write of these bytes
 abbrev pub WritesBytes : Files → ℕ → ℕ → List ℕ → Files → ℕ → Type 0
-WritesBytes before n offset bytes after status = OnFiles before after (λ k k'. Writes k n offset bytes k' status) (status ≡ CLOSED)
+WritesBytes before n offset bytes after status = OnFiles before after (λ k k'. WritesSupplied k n offset bytes k' status) (status ≡ CLOSED)
 
 -- a read into a buffer
 abbrev pub ReadsInto : Files → ℕ → ℕ → List ℕ → List ℕ → Files → Ran → Type 0
 ReadsInto before n offset old new after ran =
-    OnFiles before after (λ k k'. Reads k n offset (length old) k' ran) ((ran ≡ stopped CLOSED) × (new ≡ old))
+    OnFiles before after (λ k k'. ReadsSupplied k n offset old new k' ran) ((ran ≡ stopped CLOSED) × (new ≡ old))
 
 -- the name of an entry of the last reply
 abbrev pub CopiesEntryFrom : Files → Files → ℕ → FileReply → List ℕ → List ℕ → Type 0

@@ -1,8 +1,13 @@
+pub mod CallLines
 pub mod Calls
+pub mod Effects
 pub mod Exports
 pub mod Held
 pub mod Kinds
 pub mod LastParts
+pub mod Names
 pub mod Owned
+pub mod PathTokens
 pub mod Replies
+pub mod Supplies
 pub mod Trees

@@ -5,6 +5,7 @@ ghost use Rattle.blob_file_sessions.specs.Held.{fs_of};
 ghost use Rattle.blob_fs.specs.Acts.{Tree, act_of};
 ghost use Rattle.blob_file_sessions.specs.Calls.{Answers, Configures, Makes, Reads, TakesWords, TellsFileWords, Writes};
 ghost use Rattle.blob_file_sessions.specs.Replies.{last_reply};
+ghost use Rattle.blob_statuses.specs.Powers.{always_on};
 
 use crate::by_kind::read_kind;
 use crate::call::{FileCall, FileReply};
@@ -15,6 +16,7 @@ use blob_fs::{Call, Descriptor, FileSystem, Reply};
 use blob_lab::ScriptedRng;
 use blob_lab::script::RefusedLine;
 use blob_sessions::Ran;
+use blob_sessions::power::Power;
 use blob_sessions::ran::{BAD_CALL, BAD_LINE, DONE, ENDLESS, NO_MEMORY};
 use std::alloc::Global;
 
@@ -23,6 +25,7 @@ pub struct KeptFiles {
     alloc: Global,
     fs: FileSystem<ScriptedRng>,
     pub(crate) last: Option<Reply>,
+    pub(crate) power: Power,
 }
 
 impl Drop for KeptFiles {
@@ -31,6 +34,7 @@ impl Drop for KeptFiles {
             alloc: _,
             fs: _,
             last: _,
+            power: _,
         } = self;
     }
 }
@@ -39,11 +43,13 @@ impl KeptFiles {
     pub fn new(alloc: Global, fs: FileSystem<ScriptedRng>) -> KeptFiles
         ensures fs { fs_of result ≡ fs }
         ensures last { result.last ≡ None }
+        ensures power { result.power ≡ always_on }
     {
         KeptFiles {
             alloc,
             fs,
             last: None,
+            power: Power::on(),
         }
     }
 
@@ -83,7 +89,8 @@ impl KeptFiles {
     ///
     /// `BAD_CALL` if the kind is unknown, or the number of a rename is above 2: nothing has changed.
     pub fn apply(&mut self, asked: &FileCall, path: &[u8], to: &[u8]) -> FileReply
-        ensures { Answers self.old asked.now path.now to.now self.new result }
+        ensures answers { Answers self.old asked.now path.now to.now self.new result }
+        ensures power { self.new.power ≡ self.old.power }
     {
         let Some(call) = read_kind(asked, path, to) else {
             return FileReply::stopped(BAD_CALL);
@@ -94,7 +101,8 @@ impl KeptFiles {
 
     /// Makes a call. Its reply is then the last one.
     pub fn make(&mut self, call: &Call<'_>)
-        ensures { Makes self.old (act_of call.now) self.new (last_reply self.new) }
+        ensures makes { Makes self.old (act_of call.now) self.new (last_reply self.new) }
+        ensures power { self.new.power ≡ self.old.power }
     {
         let reply = self.fs.answer(call);
         self.last = Some(reply);
@@ -134,7 +142,8 @@ impl KeptFiles {
 
     /// Writes bytes through a descriptor, unsynced. Returns `DONE` or a refusal.
     pub fn write(&mut self, descriptor: u64, offset: u64, bytes: &[u8]) -> u32
-        ensures { Writes self.old descriptor offset bytes.now self.new result }
+        ensures writes { Writes self.old descriptor offset bytes.now self.new result }
+        ensures power { self.new.power ≡ self.old.power }
     {
         let written = self
             .fs
@@ -145,7 +154,8 @@ impl KeptFiles {
 
     /// Reads bytes through a descriptor, as many as there are and as `into` takes. Returns in `len` how many.
     pub fn read(&mut self, descriptor: u64, offset: u64, into: &mut [u8]) -> Ran
-        ensures { Reads self.old descriptor offset (length into.old) self.new result }
+        ensures reads { Reads self.old descriptor offset (length into.old) self.new result }
+        ensures power { self.new.power ≡ self.old.power }
     {
         let read = self.fs.read(Descriptor::numbered(descriptor), offset, into);
         self.last = Some(counted(read));

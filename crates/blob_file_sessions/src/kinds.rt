@@ -56,6 +56,11 @@ pub const SYNC: u32 = 35;
 pub const SYNC_DATA: u32 = 36;
 /// Returns the inode of the descriptor `number`.
 pub const INODE_OF: u32 = 37;
+/// Reads at most `last` bytes of the descriptor `number`, from the offset `first` on. It has a function of its own: as a typed call it
+/// is a `BAD_CALL`.
+pub const READ: u32 = 38;
+/// Writes to the descriptor `number`, from the offset `first` on: the bytes are the path. As a typed call it is a `BAD_CALL`.
+pub const WRITE: u32 = 39;
 /// Makes the bytes of all files and all names durable.
 pub const SYNC_ALL: u32 = 48;
 /// The same without a draw.

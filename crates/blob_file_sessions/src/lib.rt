@@ -4,15 +4,20 @@
 
 mod by_kind;
 pub mod call;
+pub mod effects;
 pub mod files;
 pub mod kept;
 pub mod kinds;
+pub mod line_text;
 mod loose;
+pub mod names;
 pub mod parts;
+pub mod path_text;
 pub mod preamble;
 pub mod reader;
 pub mod refusals;
 pub mod setting;
+pub mod supply;
 pub mod tree;
 
 pub use blob_fs::Reply;

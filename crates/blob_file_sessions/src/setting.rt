@@ -1,6 +1,6 @@
 // The lines that set what a file system does, other than those of a script of blobs.
 use blob_base::Probability;
-use blob_fs::{FailedSync, FailedWrite, Options, Profile, Syncs};
+use blob_fs::{FailedSync, FailedWrite, Keeps, Options, Profile, Syncs};
 use blob_lab::script::{Line, RefusedLine, read_line};
 use blob_script::script::setting::copy_of;
 use blob_script::script::token::Tokens;
@@ -11,6 +11,8 @@ use std::alloc::Global;
 pub enum FileSetting {
     /// What a crash may leave and a sync settles.
     Profile(Profile),
+    /// Which of the edits that nothing settled a crash may keep, in place of what the profile says.
+    Edits(Keeps),
     /// How often a crash keeps an edit that nothing settled.
     Keep(Probability),
     /// The limits.
@@ -35,6 +37,15 @@ fn profile(tokens: &mut Tokens) -> Option<Profile> {
         "xfs" => Some(Profile::xfs()),
         "btrfs" => Some(Profile::btrfs()),
         "posix" => Some(Profile::posix()),
+        _ => None,
+    }
+}
+
+/// Returns which edits a crash may keep, by its name.
+fn edits(tokens: &mut Tokens) -> Option<Keeps> {
+    match tokens.next()? {
+        "prefix" => Some(Keeps::Prefix),
+        "any" => Some(Keeps::Any),
         _ => None,
     }
 }
@@ -86,6 +97,7 @@ pub fn read_file_line(alloc: Global, line: &[u8]) -> Result<FileLine, RefusedLin
         Some("profile") => {
             FileSetting::Profile(profile(&mut tokens).ok_or(RefusedLine::BadCall)?)
         }
+        Some("edits") => FileSetting::Edits(edits(&mut tokens).ok_or(RefusedLine::BadCall)?),
         Some("keep") => FileSetting::Keep(rate(&mut tokens)?),
         Some("space") => FileSetting::Space {
             bytes: tokens.number()?,
@@ -142,6 +154,7 @@ impl FileSetting {
         let mut changed = copied(options);
         match self {
             FileSetting::Profile(profile) => changed.profile = profile,
+            FileSetting::Edits(keeps) => changed.profile.keeps = keeps,
             FileSetting::Keep(rate) => changed.edit_rate = rate,
             FileSetting::Space { bytes, files } => {
                 changed.max_bytes = bytes;

@@ -4,5 +4,6 @@ pub mod LineCalls
 pub mod Putting
 pub mod Registry
 pub mod Resolving
+pub mod Supplying
 pub mod TypedCalls
 pub mod Values

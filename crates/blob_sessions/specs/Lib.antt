@@ -1,12 +1,16 @@
 pub mod Applying
+pub mod CallLines
 pub mod Debts
 pub mod DurableBlobs
+pub mod Effects
 pub mod Headers
+pub mod Names
 pub mod Owned
 pub mod Parts
 pub mod Preambles
 pub mod ReplyTexts
 pub mod Sessions
+pub mod Supplies
 pub mod Typed
 pub mod WholeScripts
 pub mod Words

@@ -1,5 +1,5 @@
 -- What a session holds, and what its calls do to that.
-use Rattle.std.specs.Prelude.{◌≡◌, ◌≢◌, ◌⊎◌, ◌<◌, ◌≤◌, ◌^◌, ℕ, List, [], Bool, length, take, drop, Option, Some, None, IfSome, MatchOption}
+use Rattle.std.specs.Prelude.{◌≡◌, ◌≢◌, ◌==◌, ◌⊎◌, ◌<◌, ◌≤◌, ◌^◌, ℕ, List, [], Bool, length, take, drop, Option, Some, None, IfSome, MatchBool, MatchOption}
 use Rattle.blob_draws.specs.declared.config.Config.{Config}
 use Rattle.blob_script.specs.declared.reply.Reply.{Reply}
 use Rattle.blob_script.specs.declared.reply.Reply.TheVariants as replies
@@ -10,12 +10,15 @@ use Rattle.blob_script.specs.Readers.{SaysCall, config_of}
 use Rattle.blob_script.specs.Replies.{reply_line}
 use Rattle.blob_lab.specs.Scripts.{Script, with_line}
 use Rattle.blob_sessions.specs.Debts.{MakesDebtCall, no_debt}
+use Rattle.blob_statuses.specs.Powers.{permits}
+use Rattle.blob_sessions.specs.Effects.{effect_of}
+use Rattle.blob_sessions.specs.Supplies.{FollowsCall, IsOffFor, Supplied, after_last}
 use Rattle.blob_sessions.specs.declared.debts.DebtCall.{DebtCall}
 use Rattle.blob_sessions.specs.declared.debts.DebtReply.{DebtReply}
 use Rattle.blob_sessions.specs.declared.kept.Kept.{Kept}
 use Rattle.blob_sessions.specs.declared.session.Session.{Session}
 use Rattle.blob_statuses.specs.declared.ran.Ran.{Ran}
-use Rattle.blob_statuses.specs.declared.ran.TheConstants.{DONE, BAD_LINE, NO_MEMORY, NO_ROOM, CLOSED, UNPRINTED}
+use Rattle.blob_statuses.specs.declared.ran.TheConstants.{DONE, BAD_LINE, NO_MEMORY, NO_ROOM, CLOSED, POWER_LOSS, UNPRINTED}
 use Rattle.blob_statuses.specs.Statuses.{refused_status}
 
 -- A laboratory with its settings, the last reply and the registry.
@@ -33,7 +36,11 @@ settings_of k = config_of k.reader
 
 -- the call of a line was made, with a reply of which this holds
 abbrev pub Calls : Kept → List ℕ → Kept → (Reply → Type 0) → Type 0
-Calls k line k' P = (act : Act) × (reply : Reply) × SaysCall (settings_of k) (line_of line) act (settings_of k') × Makes k act reply k' × P reply
+Calls k line k' P = (act : Act) × (reply : Reply) × SaysCall (settings_of k) (line_of line) act (settings_of k') × Makes k act reply k' × FollowsCall k act reply k' × P reply
+
+-- the call of a line was not made, since the power is off
+abbrev pub IsPowerLoss : Kept → List ℕ → Kept → Type 0
+IsPowerLoss k line k' = (act : Act) × SaysCall (settings_of k) (line_of line) act (settings_of k') × IsOffFor k act k'
 
 -- the call of a line was made and its reply is printed; or the line says nothing, and nothing was done
 abbrev pub PrintsReply : Kept → List ℕ → Kept → List ℕ → Type 0
@@ -56,7 +63,8 @@ pub record RunsLine (k k' : Kept) (line : List ℕ) (ran : Ran) (old new : List 
   pub unprinted : ran.status ≡ UNPRINTED → Calls k line k' IsTooLong
   pub bad_line : ran.status ≡ BAD_LINE → IsNoCall line × (k' ≡ k)
   pub no_memory : ran.status ≡ NO_MEMORY → k' ≡ k
-  pub status : (ran.status ≡ DONE) ⊎ (ran.status ≡ NO_ROOM) ⊎ (ran.status ≡ UNPRINTED) ⊎ (ran.status ≡ BAD_LINE) ⊎ (ran.status ≡ NO_MEMORY)
+  pub off : ran.status ≡ POWER_LOSS → IsPowerLoss k line k'
+  pub status : (ran.status ≡ DONE) ⊎ (ran.status ≡ NO_ROOM) ⊎ (ran.status ≡ UNPRINTED) ⊎ (ran.status ≡ BAD_LINE) ⊎ (ran.status ≡ NO_MEMORY) ⊎ (ran.status ≡ POWER_LOSS)
   pub no_reply : (ran.status ≡ DONE) ⊎ (ran.status ≡ NO_ROOM) ⊎ (ran.len ≡ 0)
   -- `len` is larger than the buffer only with `NO_ROOM`
   pub within : (ran.status ≡ NO_ROOM) ⊎ (ran.len ≤ length old)
@@ -77,6 +85,23 @@ pub record TellsAgain (k k' : Kept) (ran : Ran) (old new : List ℕ) : Type 0 wh
   -- the bytes of the buffer after the reply don't change
   pub behind : drop ran.len new ≡ drop ran.len old
   pub same : k' ≡ k
+
+-- a call was made, the power has followed it, and its reply is printed
+pub record CallsAndTells (k : Kept) (act : Act) (k' : Kept) (ran : Ran) (old new : List ℕ) : Type 0 where
+  pub made : Kept
+  pub followed : Kept
+  pub reply : Reply
+  pub makes : Makes k act reply made
+  pub reader : made.reader ≡ k.reader
+  pub power : made.power ≡ k.power
+  pub follows : followed ≡ record made { power = after_last made (effect_of act) }
+  pub tells : TellsAgain followed k' ran old new
+
+-- a call under the supply of power
+abbrev pub RunsCall : Kept → Act → Kept → Ran → List ℕ → List ℕ → Type 0
+RunsCall k act k' ran old new =
+    MatchBool (permits k.power (effect_of act)) (CallsAndTells k act k' ran old new)
+    ((ran ≡ record { status = POWER_LOSS; len = 0 }) × (k' ≡ k) × (new ≡ old))
 
 -- a write, which asks to be done
 pub record AnswersWrite (k k' : Kept) (handle offset : ℕ) (bytes : List ℕ) (sync : Bool) (status : ℕ) : Type 0 where
@@ -102,6 +127,17 @@ pub record AnswersRead (k k' : Kept) (handle offset : ℕ) (status : ℕ) (old n
   pub unwritten : status ≢ DONE → new ≡ old
   pub settings : settings_of k' ≡ settings_of k
 
+-- a write and a read under the supply of power
+abbrev pub WritesSupplied : Kept → Kept → ℕ → ℕ → List ℕ → Bool → ℕ → Type 0
+WritesSupplied k k' handle offset bytes sync status =
+    Supplied (effect_of (Through handle (Write offset bytes sync))) (status == DONE) (λ made. AnswersWrite k made handle offset bytes sync status)
+    (status ≡ POWER_LOSS) k k'
+
+abbrev pub ReadsSupplied : Kept → Kept → ℕ → ℕ → ℕ → List ℕ → List ℕ → Type 0
+ReadsSupplied k k' handle offset status old new =
+    Supplied (effect_of (Through handle (Read offset (length old)))) (status == DONE) (λ made. AnswersRead k made handle offset status old new)
+    ((status ≡ POWER_LOSS) × (new ≡ old)) k k'
+
 -- without a reply
 abbrev pub stopped : ℕ → Ran
 stopped status = record { status = status; len = 0 }
@@ -126,7 +162,7 @@ OnHeld old new Open Closed = ⊥
 -- a read through a session; if the session is closed, the status says so and the buffer doesn't change
 abbrev pub ReadsInto : Session → Session → ℕ → ℕ → ℕ → List ℕ → List ℕ → Type 0
 ReadsInto before after handle offset status old new =
-    OnHeld (kept_of before) (kept_of after) (λ k k'. AnswersRead k k' handle offset status old new) ((status ≡ CLOSED) × (new ≡ old))
+    OnHeld (kept_of before) (kept_of after) (λ k k'. ReadsSupplied k k' handle offset status old new) ((status ≡ CLOSED) × (new ≡ old))
 
 -- the call of a line
 abbrev pub RunsLineIn : Session → Session → List ℕ → Ran → List ℕ → List ℕ → Type 0
@@ -139,7 +175,7 @@ RepeatsReply before after ran old new = OnHeld (kept_of before) (kept_of after) 
 -- a write
 abbrev pub WritesBytes : Session → Session → ℕ → ℕ → List ℕ → Bool → ℕ → Type 0
 WritesBytes before after handle offset bytes sync status =
-    OnHeld (kept_of before) (kept_of after) (λ k k'. AnswersWrite k k' handle offset bytes sync status) (status ≡ CLOSED)
+    OnHeld (kept_of before) (kept_of after) (λ k k'. WritesSupplied k k' handle offset bytes sync status) (status ≡ CLOSED)
 
 -- a call of the registry of durability debt, which changes no other part of the session
 abbrev pub MakesDebt : Session → Session → DebtCall → List ℕ → List ℕ → DebtReply → Type 0

@@ -5,8 +5,13 @@ ghost use Rattle.blob_script.specs.Lines.{Blank, line_of};
 ghost use Rattle.blob_script.specs.Readers.{IfCall, IfNoCall, SaysCall, config_of, has_begun};
 
 use crate::debts::{DebtCall, DebtReply, Debts};
+use crate::effect::Effect;
+use crate::effects::effect_of;
 use crate::kinds::{ADMIT, OPEN, OPEN_LOOSE, REMOVE_BLOB, REMOVE_PARTITION, SCAN};
-use crate::ran::{BAD_CALL, BAD_LINE, DONE, ENDLESS, NO_MEMORY, NO_ROOM, Ran, UNPRINTED};
+use crate::power::Power;
+use crate::ran::{
+    BAD_CALL, BAD_LINE, DONE, ENDLESS, NO_MEMORY, NO_ROOM, POWER_LOSS, Ran, UNPRINTED,
+};
 use crate::refusals::{refused_status, write_status};
 use crate::reply_text::{line_len, write_line};
 use crate::typed::{TypedCall, TypedReply, numbered_call, versions};
@@ -23,6 +28,7 @@ pub struct Kept {
     pub(crate) last: Option<Reply>,
     /// A registry that no call of the laboratory changes.
     pub(crate) debts: Debts,
+    pub(crate) power: Power,
     ghost begun: { has_begun reader ≡ true },
 }
 
@@ -33,6 +39,7 @@ impl Drop for Kept {
             reader: _,
             last: _,
             debts,
+            power: _,
         } = self;
         debts.end();
         lab.end();
@@ -42,21 +49,25 @@ impl Drop for Kept {
 impl Kept {
     ghost use Rattle.blob_sessions.specs.Applying.{Applies, HasSize};
     ghost use Rattle.blob_sessions.specs.Debts.{IsNew, MakesDebtCall};
-    ghost use Rattle.blob_sessions.specs.Sessions.{RunsLine, AnswersRead, AnswersWrite, IsNoCall, Makes, TellsAgain};
+    ghost use Rattle.blob_sessions.specs.Sessions.{RunsCall, RunsLine, AnswersRead, AnswersWrite, IsNoCall, Makes, TellsAgain};
     ghost use Rattle.blob_sessions.specs.Typed.{IsNamed, last_reply};
+    ghost use Rattle.blob_sessions.specs.Supplies.{after_last};
     ghost use Rattle.blob_sessions.specs.Words.{TakesWords, TellsWordsLeft};
+    ghost use Rattle.blob_statuses.specs.Powers.{always_on};
 
     pub fn new(alloc: Global, lab: Lab, config: Config) -> Kept
         ensures lab { result.lab ≡ lab }
         ensures config { config_of result.reader ≡ config }
         ensures last { result.last ≡ None }
         ensures debts { IsNew result.debts }
+        ensures power { result.power ≡ always_on }
     {
         Kept {
             lab,
             reader: Reader::begun(alloc, config),
             last: None,
             debts: Debts::new(alloc),
+            power: Power::on(),
         }
     }
 
@@ -77,18 +88,30 @@ impl Kept {
 
     /// Makes the call of a line, and prints its reply. For an empty line or a comment it makes no call and prints
     /// nothing.
+    ///
+    /// `POWER_LOSS` if the power is off: no call was made.
     pub fn call(&mut self, alloc: Global, line: &[u8], reply: &mut [u8]) -> Ran
         ensures { RunsLine self.old self.new line.now result reply.old reply.new }
     {
         match self.read_call(alloc, line) {
-            Ok(Some(call)) => {
-                self.make(&call);
-                self.tell(reply)
-            }
+            Ok(Some(call)) => self.run(&call, reply),
             Ok(None) => Ran::stopped(DONE),
             Err(RefusedLine::BadCall) => Ran::stopped(BAD_LINE),
             Err(RefusedLine::NoMemory) => Ran::stopped(NO_MEMORY),
         }
+    }
+
+    /// Makes a call and prints its reply, if the power permits it.
+    fn run(&mut self, call: &Call, reply: &mut [u8]) -> Ran
+        ensures { RunsCall self.old (act_of call.now) self.new result reply.old reply.new }
+    {
+        let effect = effect_of(call);
+        if !self.power.permits(effect) {
+            return Ran::stopped(POWER_LOSS);
+        }
+        self.make(call);
+        self.follow(effect);
+        self.tell(reply)
     }
 
     /// Prints the reply to the last call, or nothing if there was none. Allocates nothing.
@@ -115,7 +138,8 @@ impl Kept {
     ///
     /// `BAD_CALL` changes nothing: no call was made.
     pub fn apply(&mut self, asked: &TypedCall, partition: &[u8], name: &[u8]) -> TypedReply
-        ensures { Applies self.old self.new asked.now partition.now name.now result }
+        ensures applies { Applies self.old self.new asked.now partition.now name.now result }
+        ensures power { self.new.power ≡ self.old.power }
     {
         match asked.kind {
             OPEN | OPEN_LOOSE | ADMIT | REMOVE_BLOB | REMOVE_PARTITION | SCAN => {
@@ -135,7 +159,8 @@ impl Kept {
     #[inline(never)]
     fn apply_named(&mut self, asked: &TypedCall, partition: &[u8], name: &[u8]) -> TypedReply
         requires { IsNamed asked.now.kind }
-        ensures { Applies self.old self.new asked.now partition.now name.now result }
+        ensures applies { Applies self.old self.new asked.now partition.now name.now result }
+        ensures power { self.new.power ≡ self.old.power }
     {
         let Ok(partition) = std::str::from_utf8(partition) else {
             return TypedReply::stopped(BAD_CALL);
@@ -179,7 +204,8 @@ impl Kept {
 
     /// Writes bytes through a handle.
     pub fn write(&mut self, handle: usize, offset: u64, bytes: &[u8], sync: bool) -> u32
-        ensures { AnswersWrite self.old self.new handle offset bytes.now sync result }
+        ensures writes { AnswersWrite self.old self.new handle offset bytes.now sync result }
+        ensures power { self.new.power ≡ self.old.power }
     {
         let reply = self.lab.write(handle, offset, bytes, sync);
         let status = write_status(&reply);
@@ -189,7 +215,8 @@ impl Kept {
 
     /// Reads as many bytes through a handle as `into` has.
     pub fn read(&mut self, handle: usize, offset: u64, into: &mut [u8]) -> u32
-        ensures { AnswersRead self.old self.new handle offset result into.old into.new }
+        ensures reads { AnswersRead self.old self.new handle offset result into.old into.new }
+        ensures power { self.new.power ≡ self.old.power }
     {
         let reply = self.lab.read(handle, offset, into.len());
         let status = match &reply {
@@ -242,8 +269,17 @@ impl Kept {
     fn make(&mut self, call: &Call)
         ensures made { (reply : Reply) × Makes self.old (act_of call.now) reply self.new }
         ensures reader { self.new.reader ≡ self.old.reader }
+        ensures power { self.new.power ≡ self.old.power }
     {
         let reply = self.lab.apply(call);
         self.last = Some(reply);
+    }
+
+    /// Lets the power follow the last call, which had this effect.
+    fn follow(&mut self, effect: Effect)
+        ensures { self.new ≡ record self.old { power = after_last self.old effect } }
+    {
+        let is_done = self.last().status == DONE;
+        self.power.follow(effect, is_done);
     }
 }

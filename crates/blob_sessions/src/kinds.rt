@@ -28,3 +28,14 @@ pub const SCAN: u32 = 11;
 pub const CRASH: u32 = 12;
 /// Reopens the store, after a crash or without one.
 pub const REOPEN: u32 = 13;
+
+// Calls that have functions of their own, or a line alone. A typed call of these kinds is a `BAD_CALL`.
+
+/// Reads `last` bytes through the handle `number`, from the offset `first` on.
+pub const READ: u32 = 14;
+/// Writes through the handle `number`, from the offset `first` on: the bytes are the name.
+pub const WRITE: u32 = 15;
+/// The same as a SYNC write.
+pub const WRITE_SYNC: u32 = 16;
+/// Replaces the configuration: the line `config`.
+pub const CONFIGURE: u32 = 17;

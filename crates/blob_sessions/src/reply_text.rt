@@ -158,7 +158,7 @@ fn put_names(into: &mut [u8], at: usize, names: &[Vec<u8>]) -> Option<usize>
     Some(end)
 }
 
-fn put_name(into: &mut [u8], at: usize, name: &[u8]) -> Option<usize>
+pub fn put_name(into: &mut [u8], at: usize, name: &[u8]) -> Option<usize>
     ensures { Puts at (codes " " ++ hex_field name.now) into.old into.new result }
 {
     let Some(end) = put(into, at, " ") else {
@@ -211,7 +211,7 @@ fn digit(kept: bool) -> &'static str
 
 /// Writes bytes in lower-case hex, no bytes as a dash.
 #[tactic(auto, using(crate::proofs::Putting::no_digits, crate::proofs::Putting::some_digits))]
-fn put_hex(into: &mut [u8], at: usize, bytes: &[u8]) -> Option<usize>
+pub(crate) fn put_hex(into: &mut [u8], at: usize, bytes: &[u8]) -> Option<usize>
     ensures { Puts at (hex_field bytes.now) into.old into.new result }
 {
     if bytes.is_empty() {
@@ -235,7 +235,7 @@ fn put_digits(into: &mut [u8], at: usize, bytes: &[u8]) -> Option<usize>
     Some(end)
 }
 
-fn put_all(into: &mut [u8], at: usize, texts: &[&str]) -> Option<usize>
+pub(crate) fn put_all(into: &mut [u8], at: usize, texts: &[&str]) -> Option<usize>
     ensures { Puts at (flat_map (λ text. text.now) texts.now) into.old into.new result }
 {
     let mut end = at;
@@ -249,7 +249,7 @@ fn put_all(into: &mut [u8], at: usize, texts: &[&str]) -> Option<usize>
 }
 
 /// Writes a text into a buffer from index `at` on, if it fits. Returns the index after it, `None` if that doesn't fit in 64 bits.
-fn put(into: &mut [u8], at: usize, text: &str) -> Option<usize>
+pub fn put(into: &mut [u8], at: usize, text: &str) -> Option<usize>
     ensures { Puts at text.now into.old into.new result }
 {
     let end = at.checked_add(text.len())?;

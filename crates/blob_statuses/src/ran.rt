@@ -19,6 +19,8 @@ pub const OTHER_REPLY: u32 = 6;
 pub const UNPRINTED: u32 = 7;
 /// A typed call has an unknown kind, a version that doesn't fit in 16 bits or a partition that isn't UTF-8. No call was made.
 pub const BAD_CALL: u32 = 8;
+/// The power is off. No call was made.
+pub const POWER_LOSS: u32 = 9;
 
 /// How a call ended, and how many bytes its reply has.
 #[repr(C)]

@@ -1,5 +1,6 @@
 use Rattle.std.proofs.Common.{◌≡◌, ◌∷◌, false, true, rules}
-use Rattle.blob_file_scripts.specs.PathTokens.{StartsEscaped, is_plain}
+use Rattle.blob_file_scripts.specs.PathTokens.{StartsEscaped}
+use Rattle.blob_file_sessions.specs.PathTokens.{is_plain}
 use Rattle.blob_file_scripts.proofs.Unescaping.{reads_escape, reads_plain}
 use Rattle.blob_file_scripts.proofs.path_text.unescape.Goals as goal
 

@@ -5,8 +5,8 @@ use Rattle.blob_fs.proofs.Performing.{performs, writes}
 use Rattle.blob_file_sessions.proofs.Calling.{is_descriptor}
 use Rattle.blob_file_sessions.proofs.kept.KeptFiles.write.Goals as goal
 
-pub returns : goal.returns
-returns c =
+pub returns-clause-writes : goal.returns-clause-writes
+returns-clause-writes c =
     let fs = c.args.self.now.fs in
     let fs' = c.write-written.new.self in
     let w = c.write-written.ensures in

@@ -6,8 +6,8 @@ use Rattle.blob_sessions.proofs.TypedCalls.{applied}
 use Rattle.blob_sessions.proofs.kept.Kept.apply.Goals.{in_default-via-then-asked-lt9, in_default-via-else-asked-lt9+else-asked-lt12}
 use Rattle.blob_sessions.proofs.kept.Kept.apply.Goals as goal
 
-pub returns-in-Some : goal.returns-in-Some
-returns-in-Some c =
+pub returns-in-Some-clause-applies : goal.returns-in-Some-clause-applies
+returns-in-Some-clause-applies c =
     let numbered : typed_act c.args.asked.now c.args.partition.now c.args.name.now ≡ by_kind c.args.asked.now.kind (numbered_acts c.args.asked.now) = elim c.in_default.branch [
       | in_default-via-then-asked-lt9 w ↦ search rules
       | in_default-via-else-asked-lt9+else-asked-lt12 w ↦ search rules

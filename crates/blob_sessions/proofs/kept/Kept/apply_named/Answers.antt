@@ -3,8 +3,8 @@ use Rattle.blob_sessions.proofs.TypedCalls.{applied, not_applied, same_kept, IsP
 use Rattle.blob_sessions.proofs.kept.Kept.apply_named.Goals.{in-2, in-9, in-10, in-0+in-Some+then-asked-eq-OPEN, in-0+in-Some+else-asked-eq-OPEN, in_default-kind}
 use Rattle.blob_sessions.proofs.kept.Kept.apply_named.Goals as goal
 
-pub returns : goal.returns
-returns c =
+pub returns-clause-applies : goal.returns-clause-applies
+returns-clause-applies c =
     let performed : IsPerformed c.args.self.now.lab c.match-asked.self.1.0 c.args.asked.now c.args.partition.now c.args.name.now c.match-asked.reply = elim c.match-asked.branch [
       | in-2 w ↦ search rules
       | in-9 w ↦ search rules
@@ -16,5 +16,5 @@ returns c =
     applied c.args.self.now _ c.args.asked.now c.args.partition.now c.args.name.now performed.act c.match-asked.reply c.last.result performed.built
     (record { performs = performed.performs; last = refl; debts = refl }) refl c.last.ensures
 
-pub returns-in_default-versions : goal.returns-in_default-versions
-returns-in_default-versions c = not_applied c.args.self.now _ c.args.asked.now c.args.partition.now c.args.name.now _ (search rules) (same_kept c.args.self.now _) c.stopped-in_default-versions.ensures
+pub returns-in_default-versions-clause-applies : goal.returns-in_default-versions-clause-applies
+returns-in_default-versions-clause-applies c = not_applied c.args.self.now _ c.args.asked.now c.args.partition.now c.args.name.now _ (search rules) (same_kept c.args.self.now _) c.stopped-in_default-versions.ensures

@@ -1,0 +1,7 @@
+use Rattle.blob_sessions.proofs.Putting.{puts_then}
+use Rattle.blob_file_sessions.specs.CallLines.{entry_field}
+use Rattle.blob_sessions.specs.CallLines.{number_field}
+use Rattle.blob_file_sessions.proofs.line_text.put_link.Goals as goal
+
+pub returns : goal.returns
+returns c = puts_then c.args.at (number_field c.args.asked.now.first) (entry_field c.args.asked.now.number c.args.name.now) c.args.into.now c.put_number.new.into c.put_entry.new.into c.in-Some.end c.put_entry.result c.in-Some.ensures c.put_entry.ensures
