@@ -12,16 +12,25 @@ TOP = os.path.dirname(os.path.dirname(os.path.abspath(__file__)))
 sys.path.insert(0, os.path.join(TOP, "bindings", "python"))
 
 from blobcrash import foreign
+from blobcrash.calls import Call
+from blobcrash.power import CHANGES
 
 HEADERS = os.path.join(TOP, "bindings", "c")
 CRATES = os.path.join(TOP, "crates")
 # The source files of a crate that have numbers, each with what precedes their names in the header.
-STATUSES = {"ran.rt": "", "refusals.rt": "E_"}
+STATUSES = {"ran.rt": "", "refusals.rt": "E_", "effect.rt": ""}
 SESSIONS = {"kinds.rt": "", "headers.rt": "H_", "debts.rt": "DEBT_"}
 FILES = {"kinds.rt": "F_", "refusals.rt": "F_"}
+WORDS = {"names.rt": "W_"}
 TREES = {"choice.rt": ""}
 # Names that the header has otherwise.
 OTHERWISE = {"E_BLOB_CLOSED": "E_CLOSED", "DEBT_CLOSE_OPEN": "DEBT_CLOSE"}
+# The kinds of typed calls that have other words in a script.
+KINDS = {"loose": "OPEN_LOOSE", "startsync": "START_SYNC", "remove": "REMOVE_BLOB", "remove partition": "REMOVE_PARTITION"}
+KINDS.update({"writes": "WRITE_SYNC", "config": "CONFIGURE"})
+# A call of each kind.
+CALLS = [Call(word, 7, 1, 2, "a-B_9", b"\0n\xff") for word in foreign.KINDS if word not in ("config", "remove")]
+CALLS += [Call("remove", partition="p", name=b""), Call("remove", partition="p"), Call("scan", partition="no name"), Call("admit", name=b"")]
 STRUCTS = {
     "blobcrash_session": foreign.Session,
     "blobcrash_ran": foreign.Ran,
@@ -29,6 +38,8 @@ STRUCTS = {
     "blobcrash_choice": foreign.Choice,
     "blobcrash_explorer": foreign.Explorer,
     "blobcrash_branch": foreign.Branch,
+    "blobcrash_asked": foreign.Asked,
+    "blobcrash_typed_reply": foreign.TypedReply,
 }
 
 
@@ -99,11 +110,34 @@ def own_layouts():
     return lines
 
 
+def word_of(table, number):
+    """A word of the library's tables."""
+    room = ctypes.create_string_buffer(64)
+    ran = foreign.function("word")(table, number, room, len(room))
+    return room.raw[: ran.len].decode() if ran.status == foreign.DONE else None
+
+
+def line_of(call):
+    """The line of a call, as the library has it."""
+    kind = foreign.REMOVE_PARTITION if call.word == "remove" and call.name is None else foreign.KINDS[call.word]
+    asked, room = foreign.Asked(kind, call.number, call.first or 0, call.last or 0), ctypes.create_string_buffer(256)
+    partition, name = call.partition.encode(), call.name or b""
+    ran = foreign.function("line_of")(asked, partition, len(partition), name, len(name), room, len(room))
+    return room.raw[: ran.len].decode() if ran.status == foreign.DONE else None
+
+
 def main():
     checks = [(f"{name} is {value}", numbers_of("blobcrash.h").get(name) == value) for name, value in named().items()]
-    checks.append(("nine numbers are compared", len(checks) == 9))
+    checks.append(("ten numbers are compared", len(checks) == 10))
+    own = {**foreign.KINDS, "remove partition": foreign.REMOVE_PARTITION}
+    kinds = {KINDS.get(word, word.upper()): number for word, number in own.items()}
+    checks.append(("the kinds", {name: numbers_of("blobcrash.h").get(name) for name in kinds} == kinds))
+    checks.append(("the words of kinds", [word_of(0, number) for number in foreign.KINDS.values()] == list(foreign.KINDS)))
+    changes = {word for word, number in foreign.KINDS.items() if foreign.function("effect")(number) & 1}
+    checks.append(("which calls change what a crash leaves", changes == CHANGES))
+    checks.append(("the lines of calls", len(CALLS) == 19 and [str(call) for call in CALLS] == list(map(line_of, CALLS))))
     for crates, header in (
-        ({"blob_statuses": STATUSES, "blob_sessions": SESSIONS, "blob_tree": TREES}, "blobcrash.h"),
+        ({"blob_statuses": STATUSES, "blob_sessions": SESSIONS, "blob_file_sessions": WORDS, "blob_tree": TREES}, "blobcrash.h"),
         ({"blob_file_sessions": FILES}, "blobcrash_files.h"),
     ):
         numbers = {}

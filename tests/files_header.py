@@ -12,14 +12,15 @@ sys.path.insert(0, os.path.join(TOP, "bindings", "python"))
 
 from passing import run_tests
 
-from blobcrash import foreign_files
+from blobcrash import PROFILES, foreign, foreign_files
+from c_numbers import word_of
 
 HEADER = os.path.join(TOP, "bindings", "c", "blobcrash_files.h")
 NAMES = {
     "mkdir": "MAKE_DIRECTORY",
     "rmdir": "REMOVE_DIRECTORY",
     "listdir": "LIST",
-    "fsync_directory": "SYNC_DIRECTORY",
+    "fsyncdir": "SYNC_DIRECTORY",
     "fsync": "SYNC",
     "fdatasync": "SYNC_DATA",
     "sync": "SYNC_ALL",
@@ -33,7 +34,8 @@ def test_the_numbers_of_the_header():
         text += file.read()
     numbers = {name: int(value) for name, value in re.findall(r"^ *BLOBCRASH_(\w+) = (\d+)", text, re.M)}
     for word, number in foreign_files.KINDS.items():
-        assert numbers["F_" + NAMES.get(word, word.upper())] == number, word
+        of, at = word[: -len("_at")] if word.endswith("_at") else word, "_AT" if word.endswith("_at") else ""
+        assert numbers["F_" + NAMES.get(of, of.upper()) + at] == number, word
     for number, refusal in foreign_files.REFUSALS.items():
         name = re.sub("(?!^)([A-Z])", r"_\1", refusal.name).upper()
         assert numbers[("F_" if number >= 64 else "E_") + name] == number, name
@@ -41,12 +43,19 @@ def test_the_numbers_of_the_header():
     assert refusals == {number for number in foreign_files.REFUSALS if number >= 64}
 
 
+def test_the_words_of_the_library():
+    for table, words in ((1, foreign_files.KINDS), (3, {name: number for number, name in enumerate(PROFILES)})):
+        assert {word: word_of(table, number) for word, number in words.items()} == {word: word for word in words}
+    assert all(word_of(2, number) == refusal.name for number, refusal in foreign_files.REFUSALS.items())
+    assert word_of(3, len(PROFILES)) is None and word_of(5, foreign_files.REFUSES) == "noreplace"
+
+
 def test_the_structs_of_the_header():
     structs = {
-        "blobcrash_files": foreign_files.FilesSession,
-        "blobcrash_file_call": foreign_files.AskedFile,
-        "blobcrash_file_reply": foreign_files.FileReply,
-        "blobcrash_kept_run": foreign_files.KeptRun,
+        "blobcrash_files": foreign.Session,
+        "blobcrash_file_call": foreign.Asked,
+        "blobcrash_file_reply": foreign.FileReply,
+        "blobcrash_kept_run": foreign.KeptRun,
     }
     lines, own = [], []
     for name, struct in structs.items():

@@ -41,9 +41,8 @@ uint32_t disk_start(struct disk *disk, const char *preamble) {
     if (ran.status != BLOBCRASH_DONE) return ran.status;
     disk->is_recorded = false;
     begin_record(disk, preamble);
-    disk->calls_left = -1;
     disk->is_on = true;
-    disk->changes = disk->faults = 0;
+    disk->faults = 0;
     return BLOBCRASH_DONE;
 }
 
@@ -64,19 +63,21 @@ void disk_note(struct disk *disk, const char *text) {
     if (disk->is_recorded) record_note(text);
 }
 
-void disk_power_off_after(struct disk *disk, int64_t calls) { disk->calls_left = calls < 0 ? -1 : calls; }
-
-/* Whether the power is on for a call that changes something, which is counted. */
-static bool may_change(struct disk *disk) {
-    if (disk->calls_left == 0) disk->is_on = false;
-    if (!disk->is_on) return false;
-    if (disk->calls_left > 0) disk->calls_left--;
-    disk->changes++;
-    return true;
+void disk_power_off_after(struct disk *disk, int64_t calls) {
+    if (calls >= 0)
+        blobcrash_files_power_off_after(&disk->files, (uint64_t)calls);
+    else if (!blobcrash_files_power(&disk->files).is_off)
+        blobcrash_files_power_on(&disk->files);
 }
 
-/* Counts a fault, and returns the status. */
+uint64_t disk_changes(struct disk *disk) { return blobcrash_files_power(&disk->files).changes; }
+
+/* Notes a fault and that the power is off. Returns the status. */
 static uint32_t noted(struct disk *disk, uint32_t status) {
+    if (status == BLOBCRASH_POWER_LOSS || status == BLOBCRASH_CLOSED) {
+        disk->is_on = false;
+        return DISK_OFF;
+    }
     if (status == BLOBCRASH_E_INJECTED) {
         disk->faults++;
         disk_trace("  injected");
@@ -84,31 +85,11 @@ static uint32_t noted(struct disk *disk, uint32_t status) {
     return status;
 }
 
-/* Whether a call changes something that a crash may lose, or makes it durable. */
-static bool changes(uint32_t kind) {
-    switch (kind) {
-    case BLOBCRASH_F_OPEN:
-    case BLOBCRASH_F_OPEN_INODE:
-    case BLOBCRASH_F_LIST:
-    case BLOBCRASH_F_LIST_AT:
-    case BLOBCRASH_F_FIND:
-    case BLOBCRASH_F_FIND_AT:
-    case BLOBCRASH_F_CLOSE:
-    case BLOBCRASH_F_SIZE:
-    case BLOBCRASH_F_INODE_OF:
-    case BLOBCRASH_F_SETTLE:
-    case BLOBCRASH_F_COMMIT: return false;
-    default: return true;
-    }
-}
-
 struct blobcrash_file_reply disk_apply(struct disk *disk, const struct blobcrash_file_call *call, const char *path, const char *to) {
-    struct blobcrash_file_reply reply = {.status = DISK_OFF};
-    bool is_made = changes(call->kind) ? may_change(disk) : disk->is_on || call->kind == BLOBCRASH_F_CLOSE;
-    if (!is_made) return reply;
-    reply = blobcrash_files_apply(&disk->files, call, bytes_of(path), length_of(path), bytes_of(to), length_of(to));
+    struct blobcrash_file_reply reply =
+        blobcrash_files_apply(&disk->files, call, bytes_of(path), length_of(path), bytes_of(to), length_of(to));
     if (disk->is_recorded) record_call(call, path, to, reply.status);
-    noted(disk, reply.status);
+    reply.status = noted(disk, reply.status);
     return reply;
 }
 
@@ -118,34 +99,32 @@ struct blobcrash_file_reply disk_call(struct disk *disk, uint32_t kind, uint64_t
 }
 
 uint32_t disk_write(struct disk *disk, uint64_t descriptor, uint64_t offset, const void *bytes, size_t len) {
-    if (!may_change(disk)) return DISK_OFF;
     uint32_t status = blobcrash_files_write(&disk->files, descriptor, offset, (const uint8_t *)bytes, len);
     if (disk->is_recorded) record_write(descriptor, offset, bytes, len, status);
     return noted(disk, status);
 }
 
 struct blobcrash_ran disk_read(struct disk *disk, uint64_t descriptor, uint64_t offset, void *into, size_t capacity) {
-    struct blobcrash_ran ran = {.status = DISK_OFF};
-    if (!disk->is_on) return ran;
-    ran = blobcrash_files_read(&disk->files, descriptor, offset, (uint8_t *)into, capacity);
+    struct blobcrash_ran ran = blobcrash_files_read(&disk->files, descriptor, offset, (uint8_t *)into, capacity);
     if (disk->is_recorded) record_read(descriptor, offset, capacity, ran.status);
-    noted(disk, ran.status);
+    ran.status = noted(disk, ran.status);
     return ran;
 }
 
-/* Adds what a crash kept of one write. The sector of a change of names is a write too, to no file. */
+/* Adds what a crash kept of one write. */
 static void count_row(struct disk *disk, struct disk_crash *crash, size_t row) {
     struct blobcrash_kept_run kept = blobcrash_files_kept_run(&disk->files, row, 0);
+    bool is_of_names = blobcrash_files_kept_place(&disk->files, row).number == 0;
+    struct disk_rows *rows = is_of_names ? &crash->names : &crash->files;
     size_t bytes = kept.bytes, count = 0;
     crash->kept_draws += kept.len > 0;
-    if (blobcrash_files_kept_place(&disk->files, row).number == 0) return;
     while (kept.len > 0) {
         count += kept.len;
         kept = blobcrash_files_kept_run(&disk->files, row, kept.start + kept.len);
     }
-    crash->writes++;
-    crash->kept_bytes += count;
-    crash->lost_bytes += bytes - count;
+    rows->writes++;
+    rows->kept_bytes += count;
+    rows->lost_bytes += bytes - count;
 }
 
 /* Counts what the crash kept that was the last call. */
@@ -165,7 +144,7 @@ uint32_t disk_crash(struct disk *disk, struct disk_crash *crash) {
     if (disk->is_recorded) record_call(&call, NULL, NULL, reply.status);
     if (reply.status != BLOBCRASH_DONE) return reply.status;
     if (crash) count_crash(disk, &reply, crash);
-    disk->calls_left = -1;
+    blobcrash_files_power_on(&disk->files);
     disk->is_on = true;
     return BLOBCRASH_DONE;
 }

@@ -16,21 +16,25 @@ extern "C" {
 #endif
 
 /* The status of a call while the power is off. All others are those of blobcrash_files.h. It changes nothing. */
-enum { DISK_OFF = 128 };
+enum { DISK_OFF = BLOBCRASH_POWER_LOSS };
 
 /* Of all zeros it has no file system, and is off. */
 struct disk {
     struct blobcrash_files files;
-    /* The calls before the power goes off; negative if it stays on. */
-    int64_t calls_left;
+    /* `is_on` until a call found the power off. */
     bool is_on, is_recorded;
-    /* Since disk_start. */
-    uint64_t changes, faults;
+    uint64_t faults; /* since disk_start */
+};
+
+/* Writes for which a crash drew, and their bytes. */
+struct disk_rows {
+    uint64_t writes, kept_bytes, lost_bytes;
 };
 
 /* What a crash kept of the writes for which it drew, and of the changes of names that nothing had settled. */
 struct disk_crash {
-    uint64_t writes, kept_bytes, lost_bytes, edits, kept_edits;
+    struct disk_rows files, names; /* a change of names is written too, to no file */
+    uint64_t edits, kept_edits;
     /* The writes and changes for which it drew and kept something. Of a change that follows a lost one a profile may keep nothing. */
     uint64_t kept_draws;
 };
@@ -50,7 +54,10 @@ uint32_t disk_set(struct disk *disk, const char *setting);
 /* Adds a comment to the record, if there is one. */
 void disk_note(struct disk *disk, const char *text);
 
-/* Lets `calls` more calls change something. After them every call except a close fails until the crash. A negative number cancels this. */
+/* Returns how many calls have changed what a crash leaves, since disk_start. */
+uint64_t disk_changes(struct disk *disk);
+
+/* Lets `calls` more calls change what a crash leaves. After them every call fails until the crash. A negative number cancels this. */
 void disk_power_off_after(struct disk *disk, int64_t calls);
 
 /*

@@ -1,8 +1,6 @@
 #define _GNU_SOURCE
 #include "record.h"
 
-#include "blobcrash_files_lines.h"
-
 #include <errno.h>
 #include <fcntl.h>
 #include <signal.h>
@@ -15,7 +13,6 @@
 enum {
     PREAMBLE_MOST = 512,
     FLUSH_AT = 1 << 18,
-    BLOCK = 16,
     LINE_MOST = (1 << 21) + (1 << 16), /* a write has at most 1 MB, and a byte of a name takes four */
 };
 
@@ -67,29 +64,6 @@ static void put_text(const char *text) {
     end += len;
 }
 
-static inline void write_hex(char *restrict to, const uint8_t *restrict bytes, size_t len) {
-    for (size_t at = 0; at < len; at++) {
-        uint8_t high = bytes[at] >> 4, low = bytes[at] & 15;
-        to[2 * at] = (char)(high + (high > 9 ? 'a' - 10 : '0'));
-        to[2 * at + 1] = (char)(low + (low > 9 ? 'a' - 10 : '0'));
-    }
-}
-
-/* Puts bytes in hex. A compiler vectorizes the loop of a block, whose count is constant. */
-static void put_hex(const uint8_t *bytes, size_t len) {
-    char *to = end;
-    size_t at = 0;
-    for (; at + BLOCK <= len; at += BLOCK) write_hex(to + 2 * at, bytes + at, BLOCK);
-    write_hex(to + 2 * at, bytes + at, len - at);
-    end = to + 2 * len;
-}
-
-/* Puts bytes as a token. */
-static void put_bytes(const uint8_t *bytes, size_t len) {
-    if (len == 0) *end++ = '-';
-    put_hex(bytes, len);
-}
-
 /* Stops before a call that a replay can't repeat. */
 static void stop_before(int error) {
     flush();
@@ -112,29 +86,25 @@ static void end_line(void) {
     if (end - buffer >= FLUSH_AT) flush();
 }
 
-/* Whether a call only looks: it changes nothing and draws nothing. */
-static bool only_looks(uint32_t kind) {
-    switch (kind) {
-    case BLOBCRASH_F_FIND:
-    case BLOBCRASH_F_FIND_AT:
-    case BLOBCRASH_F_LIST:
-    case BLOBCRASH_F_LIST_AT:
-    case BLOBCRASH_F_SIZE:
-    case BLOBCRASH_F_INODE_OF: return true;
-    default: return false;
+/* Puts the line of a call that returned this status. */
+static void put_call(const struct blobcrash_file_call *call, const void *path, size_t path_len, const void *to, size_t to_len,
+                     uint32_t status) {
+    static const uint8_t nothing[1];
+    if (!begin_line(0, status)) return;
+    struct blobcrash_ran ran =
+        blobcrash_files_line_of(call, path ? path : nothing, path_len, to ? to : nothing, to_len, (uint8_t *)end, LINE_MOST - 1);
+    if (ran.status != BLOBCRASH_DONE) {
+        stop_before(ran.status == BLOBCRASH_BAD_CALL ? ENOSYS : EMSGSIZE);
+        return;
     }
+    end += ran.len;
+    end_line();
 }
 
 void record_call(const struct blobcrash_file_call *call, const char *path, const char *to, uint32_t status) {
-    if (only_looks(call->kind) || status == BLOBCRASH_BAD_CALL) return;
-    size_t path_len = path ? strlen(path) : 0, to_len = to ? strlen(to) : 0;
-    if (!begin_line(blobcrash_file_line_most(path_len, to_len), status)) return;
-    if (!blobcrash_file_form(call->kind)) {
-        stop_before(ENOSYS);
-        return;
-    }
-    end = blobcrash_put_file_call(end, call, (const uint8_t *)path, path_len, (const uint8_t *)to, to_len);
-    end_line();
+    bool is_made = status != BLOBCRASH_BAD_CALL && status != BLOBCRASH_POWER_LOSS && status != BLOBCRASH_CLOSED;
+    if (!is_made || (blobcrash_files_effect(call->kind) & BLOBCRASH_LOOKS)) return;
+    put_call(call, path, path ? strlen(path) : 0, to, to ? strlen(to) : 0, status);
     if (call->kind == BLOBCRASH_F_CRASH && file >= 0) flush();
 }
 
@@ -153,16 +123,13 @@ void record_note(const char *text) {
 }
 
 void record_write(uint64_t descriptor, uint64_t offset, const void *bytes, size_t len, uint32_t status) {
-    if (!begin_line(2 * len + 64, status)) return;
-    end = blobcrash_put_moved(end, "write ", descriptor, offset);
-    put_bytes(bytes, len);
-    end_line();
+    struct blobcrash_file_call call = {.kind = BLOBCRASH_F_WRITE, .number = descriptor, .first = offset};
+    if (status != BLOBCRASH_POWER_LOSS) put_call(&call, bytes, len, NULL, 0, status);
 }
 
 void record_read(uint64_t descriptor, uint64_t offset, size_t len, uint32_t status) {
-    if (!reads_draw || !begin_line(64, status)) return;
-    end = blobcrash_put_number(blobcrash_put_moved(end, "read ", descriptor, offset), len);
-    end_line();
+    struct blobcrash_file_call call = {.kind = BLOBCRASH_F_READ, .number = descriptor, .first = offset, .last = len};
+    if (reads_draw && status != BLOBCRASH_POWER_LOSS) put_call(&call, NULL, 0, NULL, 0, status);
 }
 
 void record_preamble(const char *text) { snprintf(preamble, sizeof preamble, "%s", text); }

@@ -2,7 +2,7 @@
 # Builds out/leveldb/crash if it is older than its sources, and crashes LevelDB:
 #
 #     sh adapters/leveldb/crash.sh 100                  100 seeds of each mode, and the table
-#     sh adapters/leveldb/crash.sh --seed 34 sync-reads one life; BLOBCRASH_TRACE=1 shows each call
+#     sh adapters/leveldb/crash.sh --seed 47 sync-reads one life; BLOBCRASH_TRACE=1 shows each call
 #     sh adapters/leveldb/crash.sh --scenarios          those of LevelDB's own test of faults
 #
 # docs/LEVELDB.md describes the modes and the exit statuses.

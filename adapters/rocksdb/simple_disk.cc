@@ -112,9 +112,8 @@ blobcrash_file_reply SimpleDisk::by_descriptor(const blobcrash_file_call& call) 
 }
 
 blobcrash_file_reply SimpleDisk::apply(const blobcrash_file_call& call, const std::string& path, const std::string& to) {
-    bool only_looks = call.kind == BLOBCRASH_F_OPEN || call.kind == BLOBCRASH_F_LIST || call.kind == BLOBCRASH_F_FIND ||
-                      call.kind == BLOBCRASH_F_SIZE || call.kind == BLOBCRASH_F_CLOSE || call.kind == BLOBCRASH_F_SETTLE;
-    if (only_looks ? is_off_ : !may_change()) return status(DISK_OFF);
+    bool changes = blobcrash_files_effect(call.kind) & BLOBCRASH_CHANGES;
+    if (changes ? !may_change() : is_off_) return status(DISK_OFF);
     if (call.kind == BLOBCRASH_F_SETTLE) {
         for (auto& file : files_) file.second->synced = file.second->bytes.size();
         made_.clear();

@@ -33,7 +33,7 @@ static void sql_crash(sqlite3_context *context, int count, sqlite3_value **argum
     (void)count, (void)arguments;
     int code = blobcrash_vfs_crash(&crash);
     if (code) give(context, code);
-    else sqlite3_result_int64(context, (sqlite3_int64)crash.lost_bytes);
+    else sqlite3_result_int64(context, (sqlite3_int64)crash.files.lost_bytes);
 }
 
 static void sql_power_off(sqlite3_context *context, int count, sqlite3_value **arguments) {

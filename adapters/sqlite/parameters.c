@@ -5,7 +5,7 @@
 #include <stdlib.h>
 #include <string.h>
 
-enum { RATE_SIZE = 48, LINE_SIZE = 160, CALLS = 3, SWITCHES = 5 };
+enum { RATE_SIZE = 48, LINE_SIZE = 160, CALLS = 3, SWITCHES = 6 };
 
 /* The calls that have a `config` line of their own, with a rate alone. */
 static const char *const calls[CALLS] = {"open", "read", "sync"};
@@ -15,9 +15,9 @@ static const struct {
     const char *name, *setting;
     const char *const words[5];
 } switches[SWITCHES] = {
-    {"profile", "profile", {"ext4", "xfs", "btrfs", "posix"}}, {"syncs", "syncs", {"honest", "lie"}},
-    {"failed_sync", "failed_sync", {"keeps", "drops"}},        {"failed_write", "failed_write", {"mode", "prefix"}},
-    {"keep_names", "keep", {NULL}},
+    {"profile", "profile", {"ext4", "xfs", "btrfs", "posix"}}, {"edits", "edits", {"prefix", "any"}},
+    {"syncs", "syncs", {"honest", "lie"}},                     {"failed_sync", "failed_sync", {"keeps", "drops"}},
+    {"failed_write", "failed_write", {"mode", "prefix"}},      {"keep_names", "keep", {NULL}},
 };
 
 /* Parts of `config` lines. An empty text is one that wasn't given. */

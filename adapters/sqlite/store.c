@@ -277,7 +277,7 @@ int blobcrash_vfs_power_off_after(int64_t calls) {
 }
 
 bool blobcrash_vfs_is_off(void) { return owner && !store.disk.is_on; }
-uint64_t blobcrash_vfs_changes(void) { return store.disk.changes; }
+uint64_t blobcrash_vfs_changes(void) { return disk_changes(&store.disk); }
 uint64_t blobcrash_vfs_faults(void) { return store.disk.faults; }
 
 int blobcrash_vfs_crash(struct disk_crash *crash) {

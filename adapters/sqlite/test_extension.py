@@ -157,7 +157,7 @@ class ExtensionTest(unittest.TestCase):
             "tear=sectors18446744073709551616", "keep=1", "keep=2/1", "keep=1/0", "keep=-1/2", "keep=1/2 ", "keep=/", "partial=x",
             "seed=", "seed=-1", "seed=18446744073709551616", "seed=7x", "power_off=-1", "power_off=9223372036854775808",
             "sector=0", "sector=513", "sector=131072", "device=x", "device=4294967296", "profile=", "profile=zfs", "syncs=no",
-            "failed_sync=drop", "failed_write=x", "keep_names=2/1", "keep_names=none", "directory=lags", "fail_scan=1/2", "resizes=survive", "fail_=1/2", "fail_sync=1", "fail_sync=1/1/1", "fail_size=1/2", "seed=1%0acrash",
+            "failed_sync=drop", "failed_write=x", "edits=none", "keep_names=2/1", "keep_names=none", "directory=lags", "fail_scan=1/2", "resizes=survive", "fail_=1/2", "fail_sync=1", "fail_sync=1/1/1", "fail_size=1/2", "seed=1%0acrash",
         ):  # fmt: skip
             self.refused("&" + parameter, "not a parameter: " + parameter.replace("%0a", "\n"))
         self.refused("&seed=1&seed=2", "the parameter seed is given twice")

@@ -162,7 +162,8 @@ static void test_a_crash_keeps_what_was_synced(void) {
     CHECK(write_text(&file, "later", 0) == SQLITE_OK && write_text(&file, "er", 3) == SQLITE_OK);
     CHECK(blobcrash_vfs_set("config write 0 1 0 1 prefix") == SQLITE_OK && write_text(&file, "none", 0) == SQLITE_OK);
     CHECK(blobcrash_vfs_crash(&crash) == SQLITE_OK);
-    CHECK(crash.writes == 2 && crash.kept_bytes + crash.lost_bytes == 7);
+    // The two bytes by which the file grows are zeros before they are data: a write of their own.
+    CHECK(crash.files.writes == 3 && crash.files.kept_bytes + crash.files.lost_bytes == 9);
     CHECK(write_text(&file, "x", 0) == SQLITE_IOERR_WRITE && sync_file(&file) == SQLITE_IOERR_FSYNC);
     shut(&file);
     CHECK(open_file("/a", &file) == SQLITE_OK && read_text(&file, text, 3, 0) == SQLITE_OK);

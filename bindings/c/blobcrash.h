@@ -53,7 +53,9 @@ enum blobcrash_status {
     /* The call was made. The length of its reply doesn't fit in 64 bits. The reply is kept. */
     BLOBCRASH_UNPRINTED = 7,
     /* A typed call has an unknown kind, a version above 65535 or a partition that isn't UTF-8. No call was made. */
-    BLOBCRASH_BAD_CALL = 8
+    BLOBCRASH_BAD_CALL = 8,
+    /* The power is off (blobcrash_power_off_after). No call was made. */
+    BLOBCRASH_POWER_LOSS = 9
 };
 
 /* The status of a call without a line that was made and refused. */
@@ -92,7 +94,30 @@ enum blobcrash_kind {
     BLOBCRASH_REMOVE_PARTITION = 10, /* partition */
     BLOBCRASH_SCAN = 11,             /* partition */
     BLOBCRASH_CRASH = 12,
-    BLOBCRASH_REOPEN = 13
+    BLOBCRASH_REOPEN = 13,
+    /* Calls with functions of their own, or a line alone: blobcrash_apply refuses them as BAD_CALL. */
+    BLOBCRASH_READ = 14,             /* number, first: the offset, last: the length */
+    BLOBCRASH_WRITE = 15,            /* number, first: the offset; the bytes are the name */
+    BLOBCRASH_WRITE_SYNC = 16,       /* the same */
+    BLOBCRASH_CONFIGURE = 17
+};
+
+/* What a call may do, as bits. */
+enum blobcrash_effects {
+    BLOBCRASH_CHANGES = 1, /* what a crash leaves may differ after it: it counts for the power */
+    BLOBCRASH_DRAWS = 2,   /* it may take words of the generator */
+    BLOBCRASH_SYNCS = 4,   /* it makes something durable, if it is done */
+    BLOBCRASH_LOOKS = 8    /* it returns something and does nothing else: a record may leave it out */
+};
+
+/* The tables of words, by the numbers of what they name. */
+enum blobcrash_words {
+    BLOBCRASH_W_KINDS = 0,      /* the first words of the lines of a store, by kinds */
+    BLOBCRASH_W_FILE_KINDS = 1, /* those of files */
+    BLOBCRASH_W_REFUSALS = 2,   /* by statuses, also those of files */
+    BLOBCRASH_W_PROFILES = 3,   /* from 0 on */
+    BLOBCRASH_W_MODES = 4,      /* of partial writes, from 0 on */
+    BLOBCRASH_W_RENAMES = 5     /* what a rename does if the new name is taken: 0, that it replaces it, has no word */
 };
 
 /* Why a header is refused: the first check that it fails. */
@@ -178,6 +203,20 @@ struct blobcrash_kept_run {
     /* The run is the bytes from `start` to before `start + len`; without one `start` is `bytes`, and `len` 0. */
     size_t start;
     size_t len;
+};
+
+/* The supply of power of a session or of files. */
+struct blobcrash_power_state {
+    /* DONE, or CLOSED. */
+    uint32_t status;
+    bool is_off;
+    /* The store has crashed while the power was off, and hasn't reopened. */
+    bool has_crashed;
+    bool is_counting;
+    /* How many calls that change what a crash leaves were made, whatever they returned. */
+    uint64_t changes;
+    /* If they are counted, how many are made before the power goes off. */
+    uint64_t left;
 };
 
 /* Which headers are accepted: the layouts from `oldest` to `newest`, 0 or 1, and the versions from `least` to `greatest`. */
@@ -373,6 +412,40 @@ struct blobcrash_ran blobcrash_words_left(struct blobcrash_session *session);
  * DONE; NO_MEMORY and CLOSED, which change nothing.
  */
 uint32_t blobcrash_push_words(struct blobcrash_session *session, const uint64_t *words, size_t count);
+
+/*
+ * Lets the power of a session go off after this number of calls that change what a crash leaves (BLOBCRASH_CHANGES), whatever they return;
+ * with 0 it is off now. From then on each call returns POWER_LOSS and changes nothing, except settings and a crash, and after the crash a
+ * close and the reopening, which turns the power on. A crash while it is on doesn't end the count.
+ *
+ * DONE; POWER_LOSS if it is off, and CLOSED, which change nothing.
+ */
+uint32_t blobcrash_power_off_after(struct blobcrash_session *session, uint64_t calls);
+
+/* Turns the power on, and counts nothing. DONE; CLOSED. */
+uint32_t blobcrash_power_on(struct blobcrash_session *session);
+
+/* Returns the supply of power. Its status is DONE, or CLOSED. Changes nothing. */
+struct blobcrash_power_state blobcrash_power(struct blobcrash_session *session);
+
+/* Returns what a call of a kind may do to a store, as bits. Of an unknown kind there are none. */
+uint32_t blobcrash_effect(uint32_t kind);
+
+/*
+ * Copies the word of a number in a table to the start of `into`, and returns its length in `len`.
+ *
+ * DONE; NO_ROOM with the length; OTHER_REPLY if the table has no such number. Only DONE changes `into`.
+ */
+struct blobcrash_ran blobcrash_word(uint32_t table, uint32_t number, uint8_t *into, size_t capacity);
+
+/*
+ * Writes the line of a call, without its line feed, to the start of `into`, and returns its length in `len`. A partition whose name isn't
+ * valid is `!`, which makes the same draw and gets the same refusal.
+ *
+ * DONE; NO_ROOM with the length; BAD_CALL if no line has the kind. Only DONE changes `into`.
+ */
+struct blobcrash_ran blobcrash_line_of(const struct blobcrash_asked *asked, const uint8_t *partition, size_t partition_len,
+                                       const uint8_t *name, size_t name_len, uint8_t *into, size_t capacity);
 
 /*
  * Makes a call of the registry of durability debt, which each session has next to its store. The store doesn't change. The

@@ -67,6 +67,9 @@ enum blobcrash_file_kind {
     BLOBCRASH_F_SYNC = 35,
     BLOBCRASH_F_SYNC_DATA = 36,
     BLOBCRASH_F_INODE_OF = 37,  /* returns an inode in `number` */
+    /* Calls with functions of their own: blobcrash_files_apply refuses them as BAD_CALL. */
+    BLOBCRASH_F_READ = 38,      /* first: the offset, last: the most bytes */
+    BLOBCRASH_F_WRITE = 39,     /* first: the offset; the bytes are the path */
     /* The whole file system. */
     BLOBCRASH_F_SYNC_ALL = 48,
     BLOBCRASH_F_SETTLE = 49,    /* makes all durable, without a draw: the state before a test */
@@ -101,7 +104,8 @@ struct blobcrash_file_reply {
 
 /*
  * Opens a new, empty file system. The preamble has the lines `words W ..` and `seed N`, and then settings, in any order and all
- * optional: `profile ext4|xfs|btrfs|posix` (ext4 without one); `config ..` as for a session (the faults of calls on files, and which
+ * optional: `profile ext4|xfs|btrfs|posix` (ext4 without one), and after it `edits prefix|any`, which edits a crash may keep in place of
+ * what the profile says; `config ..` as for a session (the faults of calls on files, and which
  * bytes of an unsynced write a crash keeps: none without one); `keep N D`, how often a crash keeps an edit that nothing settled (1 2
  * without one); `space BYTES FILES`, the limits; `failed_sync keeps|drops`, `syncs honest|lie` and `failed_write mode|prefix`, the switches
  * of docs/FILES.md (the first of each without one). If the files were open, their file system ends.
@@ -201,6 +205,22 @@ struct blobcrash_ran blobcrash_files_kept_edit(struct blobcrash_files *files, si
 /* As blobcrash_words_left and blobcrash_push_words. */
 struct blobcrash_ran blobcrash_files_words_left(struct blobcrash_files *files);
 uint32_t blobcrash_files_push_words(struct blobcrash_files *files, const uint64_t *words, size_t count);
+
+/*
+ * As blobcrash_power_off_after, blobcrash_power_on and blobcrash_power. A crash turns the power on, since it recovers the files too.
+ */
+uint32_t blobcrash_files_power_off_after(struct blobcrash_files *files, uint64_t calls);
+uint32_t blobcrash_files_power_on(struct blobcrash_files *files);
+struct blobcrash_power_state blobcrash_files_power(struct blobcrash_files *files);
+
+/* As blobcrash_effect. */
+uint32_t blobcrash_files_effect(uint32_t kind);
+
+/*
+ * As blobcrash_line_of: the line of `blobcrash files` (docs/FORMATS.md). The bytes of a write are the path.
+ */
+struct blobcrash_ran blobcrash_files_line_of(const struct blobcrash_file_call *asked, const uint8_t *path, size_t path_len,
+                                             const uint8_t *to, size_t to_len, uint8_t *into, size_t capacity);
 
 /* Closes files and frees their file system. Closed ones stay closed. */
 void blobcrash_files_close(struct blobcrash_files *files);

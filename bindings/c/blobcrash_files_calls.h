@@ -21,44 +21,25 @@
 #include <string.h>
 
 #ifdef BLOBCRASH_ON_FILES_LINE
-#include "blobcrash_files_lines.h"
+#include "blobcrash_lines.h"
 
-#include <stdlib.h>
-
-/* Records the line of a call that was made. */
-static inline void blobcrash_record_file_call(struct blobcrash_files *files, const struct blobcrash_file_call *asked, const char *path,
-                                              const char *to) {
-    size_t path_len = strlen(path), to_len = strlen(to);
-    char *line = (char *)malloc(blobcrash_file_line_most(path_len, to_len)), *end = line;
-    if (line != NULL) end = blobcrash_put_file_call(line, asked, (const uint8_t *)path, path_len, (const uint8_t *)to, to_len);
-    BLOBCRASH_ON_FILES_LINE(files, line, (size_t)(end - line));
+/* Passes the line of a call on that was made. */
+static inline void blobcrash_record_file_call(struct blobcrash_files *files, const struct blobcrash_file_call *asked, const void *path,
+                                              size_t path_len, const char *to) {
+    size_t len;
+    char *line = blobcrash_new_files_line(asked, path, path_len, to, strlen(to), &len);
+    BLOBCRASH_ON_FILES_LINE(files, line, line == NULL ? 0 : len);
     free(line);
 }
 
-/* Records the line of a read or a write that was made. A read has no bytes. */
-static inline void blobcrash_record_moved(struct blobcrash_files *files, uint64_t descriptor, uint64_t offset, const void *bytes, size_t len,
-                                          bool writes) {
-    size_t written = writes ? len : 0;
-    char *line = written <= (SIZE_MAX - 96) / 2 ? (char *)malloc(96 + 2 * written) : NULL, *end = line;
-    if (line != NULL) {
-        end = blobcrash_put_moved(line, writes ? "write " : "read ", descriptor, offset);
-        end = writes ? blobcrash_put_hex(end, bytes, len) : blobcrash_put_number(end, len);
-    }
-    BLOBCRASH_ON_FILES_LINE(files, line, (size_t)(end - line));
-    free(line);
-}
-
-#define BLOBCRASH_RECORD_FILE_CALL(files, asked, path, to) blobcrash_record_file_call(files, asked, path, to)
-#define BLOBCRASH_RECORD_MOVED(files, descriptor, offset, bytes, len, writes) \
-    blobcrash_record_moved(files, descriptor, offset, bytes, len, writes)
+#define BLOBCRASH_RECORD_FILE_CALL blobcrash_record_file_call
 #else
-#define BLOBCRASH_RECORD_FILE_CALL(files, asked, path, to) ((void)0)
-#define BLOBCRASH_RECORD_MOVED(files, descriptor, offset, bytes, len, writes) ((void)0)
+#define BLOBCRASH_RECORD_FILE_CALL(files, asked, path, path_len, to) ((void)0)
 #endif
 
 /* Whether a call was made, also one that was refused. */
 static inline bool blobcrash_is_file_call_made(uint32_t status) {
-    return status != BLOBCRASH_BAD_CALL && status != BLOBCRASH_NO_MEMORY && status != BLOBCRASH_CLOSED;
+    return status != BLOBCRASH_BAD_CALL && status != BLOBCRASH_NO_MEMORY && status != BLOBCRASH_CLOSED && status != BLOBCRASH_POWER_LOSS;
 }
 
 /* Any call, by its fields. */
@@ -69,7 +50,7 @@ static inline struct blobcrash_file_reply blobcrash_file_make(struct blobcrash_f
     if (path == NULL || to == NULL) return none;
     struct blobcrash_file_reply reply =
         blobcrash_files_apply(files, &asked, (const uint8_t *)path, strlen(path), (const uint8_t *)to, strlen(to));
-    if (blobcrash_is_file_call_made(reply.status)) BLOBCRASH_RECORD_FILE_CALL(files, &asked, path, to);
+    if (blobcrash_is_file_call_made(reply.status)) BLOBCRASH_RECORD_FILE_CALL(files, &asked, path, strlen(path), to);
     return reply;
 }
 
@@ -215,7 +196,11 @@ static inline uint32_t blobcrash_file_read(struct blobcrash_files *files, uint64
     uint8_t none;
     if (into == NULL && len > 0) return BLOBCRASH_BAD_CALL;
     struct blobcrash_ran ran = blobcrash_files_read(files, descriptor, offset, into == NULL ? &none : (uint8_t *)into, len);
-    if (blobcrash_is_file_call_made(ran.status)) BLOBCRASH_RECORD_MOVED(files, descriptor, offset, NULL, len, false);
+    if (blobcrash_is_file_call_made(ran.status)) {
+        struct blobcrash_file_call asked = {BLOBCRASH_F_READ, descriptor, offset, len};
+        (void)asked;
+        BLOBCRASH_RECORD_FILE_CALL(files, &asked, "", 0, "");
+    }
     if (ran.status == BLOBCRASH_DONE && found != NULL) *found = ran.len;
     return ran.status;
 }
@@ -225,7 +210,11 @@ static inline uint32_t blobcrash_file_write(struct blobcrash_files *files, uint6
                                             size_t len) {
     if (bytes == NULL && len > 0) return BLOBCRASH_BAD_CALL;
     uint32_t status = blobcrash_files_write(files, descriptor, offset, (const uint8_t *)(bytes == NULL ? "" : bytes), len);
-    if (blobcrash_is_file_call_made(status)) BLOBCRASH_RECORD_MOVED(files, descriptor, offset, bytes, len, true);
+    if (blobcrash_is_file_call_made(status)) {
+        struct blobcrash_file_call asked = {BLOBCRASH_F_WRITE, descriptor, offset, 0};
+        (void)asked;
+        BLOBCRASH_RECORD_FILE_CALL(files, &asked, bytes, len, "");
+    }
     return status;
 }
 

@@ -31,6 +31,7 @@
 #define BLOBCRASH_EXPLORE_H
 
 #include "blobcrash.h"
+#include "blobcrash_lines.h"
 #include "unkept.h"
 
 #include <inttypes.h>
@@ -54,9 +55,6 @@ enum {
 /* The limit of a run for which none is set. */
 enum { BLOBCRASH_CALLS_PER_RUN = 10000 };
 
-/* The status of a call that isn't made because the power is off. No other status has this value. */
-enum { BLOBCRASH_POWER_LOSS = 255 };
-
 /* The kind of a choice that is no draw: whether the power stays on, which comes first, or fails. */
 enum { BLOBCRASH_POWER = 1 };
 
@@ -75,8 +73,6 @@ struct blobcrash_paths {
     /* Of the run that is under way: */
     unsigned losses;        /* how often the power failed */
     bool is_off;            /* the power is off */
-    bool has_crashed;       /* and the store has crashed since */
-    bool has_truncated;     /* of files: an open has truncated one since the last crash */
     bool has_no_memory;
     bool is_running;
     bool is_long;           /* it has too many calls */
@@ -189,8 +185,7 @@ static inline int blobcrash_begin_run(struct blobcrash_paths *paths, uint32_t op
     if (opened == BLOBCRASH_NO_MEMORY) return BLOBCRASH_EXPLORE_NO_MEMORY;
     if (opened != BLOBCRASH_DONE) return BLOBCRASH_EXPLORE_BAD_SETTINGS;
     paths->losses = 0;
-    paths->is_off = paths->has_crashed = paths->has_truncated = false;
-    paths->has_no_memory = paths->is_long = false;
+    paths->is_off = paths->has_no_memory = paths->is_long = false;
     paths->is_running = true;
     paths->calls = 0;
     blobcrash_unsynced_begin(&paths->unsynced, settings);

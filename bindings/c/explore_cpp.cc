@@ -46,7 +46,7 @@ static void stores() {
     blobcrash_free_paths(&paths);
 }
 
-/* A new name and a sector, each kept or lost, or the power fails at one of three calls before the crash. */
+/* A new name, a sector of zeros and one of data, each kept or lost, or the power fails at one of three calls before the crash. */
 static void files() {
     std::set<std::string> found;
     blobcrash_paths paths = {};
@@ -70,8 +70,8 @@ static void files() {
         blobcrash_recover_files(&paths, &at, [](void *context) { return (*static_cast<std::function<bool()> *>(context))(); }, &read);
         if (blobcrash_end_files_run(&paths, &at) == BLOBCRASH_EXPLORE_RUN) found.insert(left);
     }
-    tell(status == BLOBCRASH_EXPLORE_END && paths.runs == 1 + 2 + 4, "files have seven runs");
-    tell(found == std::set<std::string>({"none", "", "text"}), "what files may have");
+    tell(status == BLOBCRASH_EXPLORE_END && paths.runs == 1 + 2 + 8, "files have eleven runs");
+    tell(found == std::set<std::string>({"none", "", "text", std::string(4, 0)}), "what files may have");
     tell(!lines.empty() && lines[0] == "open /f", "the calls of files as lines");
     blobcrash_free_paths(&paths);
 }

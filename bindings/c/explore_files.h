@@ -15,8 +15,8 @@
  *     blobcrash_free_paths(&paths);
  *
  * With `paths.power_losses` the power may fail at each explored call that may change what a crash leaves. This call and all later ones
- * aren't made and return BLOBCRASH_POWER_LOSS, until the files have crashed: a crash of files recovers them too. A SETTLE or a COMMIT is no
- * such call, and a CLOSE only if an open has truncated a file since the last crash. explore_files.c has examples.
+ * aren't made and return BLOBCRASH_POWER_LOSS, until the files have crashed: a crash of files recovers them too. A CLOSE, a SETTLE or a
+ * COMMIT is no such call. explore_files.c has examples.
  *
  * `paths.script` gets a script: with blobcrash_repeat_run the words, the settings and a line for each explored call of the run, with which
  * `blobcrash files` makes the same calls, to the same outcome. A comment says what a call opened or was refused, and what a crash kept.
@@ -25,7 +25,6 @@
 #define BLOBCRASH_EXPLORE_FILES_H
 
 #include "blobcrash_files.h"
-#include "blobcrash_files_lines.h"
 #include "explore.h"
 
 /* What the files of a run begin with, as a mount does, if no setting is one of writes: a crash keeps half of the unsynced sectors. */
@@ -74,58 +73,40 @@ static inline int blobcrash_end_files_run(struct blobcrash_paths *paths, struct 
 /* As blobcrash_count_call. */
 static inline void blobcrash_count_files_call(struct blobcrash_paths *paths, struct blobcrash_files *files) {
     uint64_t words[BLOBCRASH_FALSE_WORDS];
-    if (blobcrash_is_past_limit(paths) && blobcrash_ends_draws(paths, blobcrash_files_words_left(files), words)) {
+    if (!blobcrash_is_past_limit(paths)) return;
+    if (blobcrash_ends_draws(paths, blobcrash_files_words_left(files), words)) {
         blobcrash_files_push_words(files, words, BLOBCRASH_FALSE_WORDS);
     }
+    if (paths->is_long) blobcrash_files_power_on(files);
 }
 
-/* As blobcrash_power_fails. */
-static inline bool blobcrash_files_power_fails(struct blobcrash_paths *paths, struct blobcrash_files *files, bool changes) {
+/* As blobcrash_power_fails, for a call of a kind. */
+static inline bool blobcrash_files_power_fails(struct blobcrash_paths *paths, struct blobcrash_files *files, uint32_t kind) {
     blobcrash_count_files_call(paths, files);
-    if (!blobcrash_may_fail(paths, changes)) return paths->is_off;
+    if (!blobcrash_may_fail(paths, blobcrash_files_effect(kind) & BLOBCRASH_CHANGES)) return paths->is_off;
     blobcrash_count_words(paths, blobcrash_files_words_left(files));
-    return blobcrash_fails_now(paths);
-}
-
-/* Returns whether a call may change what a crash leaves. */
-static inline bool blobcrash_file_call_changes(const struct blobcrash_paths *paths, uint32_t kind) {
-    switch (kind) {
-    case BLOBCRASH_F_OPEN: case BLOBCRASH_F_LIST: case BLOBCRASH_F_FIND: case BLOBCRASH_F_LIST_AT: case BLOBCRASH_F_FIND_AT:
-    case BLOBCRASH_F_OPEN_INODE: case BLOBCRASH_F_SIZE: case BLOBCRASH_F_INODE_OF: case BLOBCRASH_F_SETTLE: case BLOBCRASH_F_TREE:
-    case BLOBCRASH_F_COMMIT:
-        return false;
-    case BLOBCRASH_F_CLOSE:
-        return paths->has_truncated;
-    default:
-        return true;
-    }
+    return blobcrash_fails_now(paths) && blobcrash_files_power_off_after(files, 0) != BLOBCRASH_CLOSED;
 }
 
 /* Prints what a line says of a status. */
 static inline void blobcrash_print_refusal(FILE *script, uint32_t status) {
-    static const char *const names[] = {"Exists", "NotFound", "NotEmpty", "IsDirectory", "NotDirectory", "NameTooLong", "InvalidName",
-                                        "TooManyLinks", "Stale", "NoSpace", "Loop", "Crashed"};
+    uint8_t word[32];
+    struct blobcrash_ran ran = blobcrash_word(BLOBCRASH_W_REFUSALS, status, word, sizeof word);
     if (status == BLOBCRASH_DONE) return;
-    if (status >= BLOBCRASH_F_EXISTS && status <= BLOBCRASH_F_CRASHED) fprintf(script, " # is %s", names[status - BLOBCRASH_F_EXISTS]);
-    else if (status == BLOBCRASH_E_INJECTED) fputs(" # is Injected", script);
-    else if (status == BLOBCRASH_E_MEMORY) fputs(" # is Memory", script);
+    if (ran.status == BLOBCRASH_DONE) fprintf(script, " # is %.*s", (int)ran.len, (const char *)word);
     else fprintf(script, " # is %" PRIu32, status);
 }
 
-/* Prints the line of a call. Without memory for it the run doesn't count. */
+/* Prints the line of a call, and what it opened or how it was refused. */
 static inline void blobcrash_print_file_call(struct blobcrash_paths *paths, const struct blobcrash_file_call *asked,
                                              struct blobcrash_file_reply reply, const uint8_t *path, size_t path_len, const uint8_t *to,
                                              size_t to_len) {
     uint32_t kind = asked->kind;
     bool opens = kind <= BLOBCRASH_F_OPEN_TRUNCATED || kind == BLOBCRASH_F_CREATE_AT || kind == BLOBCRASH_F_OPEN_INODE ||
                  kind == BLOBCRASH_F_OPEN_INODE_TRUNCATED;
-    char *line = (char *)malloc(blobcrash_file_line_most(path_len, to_len));
-    if (line == NULL) {
-        paths->has_no_memory = true;
-        return;
-    }
-    fwrite(line, 1, (size_t)(blobcrash_put_file_call(line, asked, path, path_len, to, to_len) - line), paths->script);
-    free(line);
+    size_t len;
+    char *line = blobcrash_new_files_line(asked, path, path_len, to, to_len, &len);
+    blobcrash_print_line(paths, line, len);
     blobcrash_print_refusal(paths->script, reply.status);
     if (reply.status == BLOBCRASH_DONE && opens) fprintf(paths->script, " # is %" PRIu64, reply.number);
     fputc('\n', paths->script);
@@ -168,18 +149,15 @@ static inline void blobcrash_follow_apply(struct blobcrash_paths *paths, struct 
 static inline struct blobcrash_file_reply blobcrash_explored_apply(struct blobcrash_paths *paths, struct blobcrash_files *files,
                                                                    const struct blobcrash_file_call *asked, const uint8_t *path,
                                                                    size_t path_len, const uint8_t *to, size_t to_len) {
-    struct blobcrash_file_reply none = {BLOBCRASH_POWER_LOSS, 0, 0, 0};
     bool crashes = asked->kind == BLOBCRASH_F_CRASH;
-    if (crashes) blobcrash_count_files_call(paths, files);
-    else if (blobcrash_files_power_fails(paths, files, blobcrash_file_call_changes(paths, asked->kind))) return none;
+    blobcrash_files_power_fails(paths, files, asked->kind);
     struct blobcrash_file_reply reply = blobcrash_files_apply(files, asked, path, path_len, to, to_len);
+    if (reply.status == BLOBCRASH_POWER_LOSS) return reply;
     if (paths->script != NULL) blobcrash_print_file_call(paths, asked, reply, path, path_len, to, to_len);
-    if (asked->kind == BLOBCRASH_F_OPEN_TRUNCATED || asked->kind == BLOBCRASH_F_OPEN_INODE_TRUNCATED) paths->has_truncated = true;
-    if (reply.status == BLOBCRASH_DONE) blobcrash_follow_apply(paths, files, asked->kind, asked->number);
-    if (crashes && reply.status == BLOBCRASH_DONE) {
-        paths->is_off = paths->has_truncated = false;
-        if (paths->script != NULL) blobcrash_print_kept(paths->script, files, reply);
-    }
+    if (reply.status != BLOBCRASH_DONE) return reply;
+    blobcrash_follow_apply(paths, files, asked->kind, asked->number);
+    if (crashes) paths->is_off = false;
+    if (crashes && paths->script != NULL) blobcrash_print_kept(paths->script, files, reply);
     return reply;
 }
 
@@ -202,29 +180,22 @@ static inline struct blobcrash_file_reply blobcrash_explored_number(struct blobc
 /* As blobcrash_files_write, or POWER_LOSS. */
 static inline uint32_t blobcrash_explored_files_write(struct blobcrash_paths *paths, struct blobcrash_files *files, uint64_t descriptor,
                                                       uint64_t offset, const uint8_t *bytes, size_t len) {
-    if (blobcrash_files_power_fails(paths, files, true)) return BLOBCRASH_POWER_LOSS;
-    uint32_t status = blobcrash_files_write(files, descriptor, offset, bytes, len);
-    if (status == BLOBCRASH_DONE && len > 0) blobcrash_unsynced_write(&paths->unsynced, blobcrash_explored_inode(files, descriptor));
-    if (paths->script != NULL) {
-        fprintf(paths->script, "write %" PRIu64 " %" PRIu64 " %s", descriptor, offset, len == 0 ? "-" : "");
-        for (size_t i = 0; i < len; i++) fprintf(paths->script, "%02x", bytes[i]);
-        blobcrash_print_refusal(paths->script, status);
-        fputc('\n', paths->script);
-    }
-    return status;
+    struct blobcrash_file_call asked = {BLOBCRASH_F_WRITE, descriptor, offset, 0};
+    blobcrash_files_power_fails(paths, files, asked.kind);
+    struct blobcrash_file_reply reply = {blobcrash_files_write(files, descriptor, offset, bytes, len), 0, 0, 0};
+    if (reply.status == BLOBCRASH_DONE && len > 0) blobcrash_unsynced_write(&paths->unsynced, blobcrash_explored_inode(files, descriptor));
+    if (paths->script != NULL && reply.status != BLOBCRASH_POWER_LOSS) blobcrash_print_file_call(paths, &asked, reply, bytes, len, NULL, 0);
+    return reply.status;
 }
 
 /* As blobcrash_files_read, or POWER_LOSS, which leaves `into` as it was. */
 static inline struct blobcrash_ran blobcrash_explored_files_read(struct blobcrash_paths *paths, struct blobcrash_files *files,
                                                                  uint64_t descriptor, uint64_t offset, uint8_t *into, size_t capacity) {
-    struct blobcrash_ran none = {BLOBCRASH_POWER_LOSS, 0};
-    if (blobcrash_files_power_fails(paths, files, false)) return none;
+    struct blobcrash_file_call asked = {BLOBCRASH_F_READ, descriptor, offset, capacity};
+    blobcrash_count_files_call(paths, files);
     struct blobcrash_ran ran = blobcrash_files_read(files, descriptor, offset, into, capacity);
-    if (paths->script != NULL) {
-        fprintf(paths->script, "read %" PRIu64 " %" PRIu64 " %zu", descriptor, offset, capacity);
-        blobcrash_print_refusal(paths->script, ran.status);
-        fputc('\n', paths->script);
-    }
+    struct blobcrash_file_reply reply = {ran.status, 0, 0, 0};
+    if (paths->script != NULL && ran.status != BLOBCRASH_POWER_LOSS) blobcrash_print_file_call(paths, &asked, reply, NULL, 0, NULL, 0);
     return ran;
 }
 
@@ -234,7 +205,7 @@ static inline bool blobcrash_recover_files(struct blobcrash_paths *paths, struct
                                            void *context) {
     while (blobcrash_explored_number(paths, files, BLOBCRASH_F_CRASH, 0, 0).status == BLOBCRASH_DONE) {
         bool is_recovered = step(context);
-        if (!paths->is_off) return is_recovered;
+        if (!blobcrash_files_power(files).is_off) return is_recovered;
     }
     return false;
 }

@@ -65,6 +65,7 @@ static void preambles(void) {
         {"keep 1\n", 1}, {"keep 1 0\n", 1}, {"keep 2 1\n", 1}, {"keep 1 2 3\n", 1}, {"space 1\n", 1}, {"space 1 2 3\n", 1},
         {"space -1 2\n", 1}, {"space 18446744073709551616 2\n", 1}, {"seed 1\nseed 2\n", 2}, {"profile xfs\nseed 1\n", 2},
         {"failed_sync drops\nsyncs lie\nfailed_write prefix\nfailed_sync keeps\nsyncs honest\nfailed_write mode\n", 0},
+        {"profile xfs\nedits any\nedits prefix\n", 0}, {"edits\n", 1}, {"edits all\n", 1}, {"edits any any\n", 1},
         {"failed_sync\n", 1}, {"failed_sync lie\n", 1}, {"failed_sync drops drops\n", 1}, {"syncs\n", 1}, {"syncs drops\n", 1},
         {"syncs lie 1\n", 1}, {"failed_write\n", 1}, {"failed_write sectors 4\n", 1}, {"failed_write subset\n", 1},
         {"keep 1 2\n\nwords 1\n", 3}, {"image p 61 -\n", 1}, {"open p 61\n", 1}, {"config\n", 1}, {"config keep 1 2\n", 1},
@@ -293,12 +294,14 @@ static void crashes(void) {
     CHECK(refuses(by(BLOBCRASH_F_SIZE, 1), BLOBCRASH_F_STALE) && write_at(1, 0, "x") == BLOBCRASH_F_STALE);
     CHECK(is(on(BLOBCRASH_F_OPEN, "/b"), 0, 2, 0) && write_at(2, 0, "old!") == BLOBCRASH_DONE &&
           is(by(BLOBCRASH_F_SYNC, 2), 0, 0, 0));
-    /* Of the three sectors of `newest` the second is lost. */
-    const uint64_t words[] = {0, UINT64_MAX};
-    CHECK(write_at(2, 0, "newest") == BLOBCRASH_DONE && blobcrash_files_push_words(&files, words, 2) == BLOBCRASH_DONE);
-    CHECK(blobcrash_files_words_left(&files).len == 2 && is(by(BLOBCRASH_F_CRASH, 0), 0, 0, 1));
-    CHECK(is_run(blobcrash_files_kept_run(&files, 0, 0), 6, 0, 2) && is_run(blobcrash_files_kept_run(&files, 0, 2), 6, 4, 2));
-    CHECK(is(blobcrash_files_kept_place(&files, 0), 0, 3, 0) && refuses(blobcrash_files_kept_place(&files, 1), BLOBCRASH_OTHER_REPLY));
+    /* The zeros of the new sector are lost, and of the three sectors of `newest` the second. */
+    const uint64_t words[] = {UINT64_MAX, 0, UINT64_MAX};
+    CHECK(write_at(2, 0, "newest") == BLOBCRASH_DONE && blobcrash_files_push_words(&files, words, 3) == BLOBCRASH_DONE);
+    CHECK(blobcrash_files_words_left(&files).len == 3 && is(by(BLOBCRASH_F_CRASH, 0), 0, 0, 2));
+    CHECK(is_run(blobcrash_files_kept_run(&files, 0, 0), 2, 2, 0));
+    CHECK(is_run(blobcrash_files_kept_run(&files, 1, 0), 6, 0, 2) && is_run(blobcrash_files_kept_run(&files, 1, 2), 6, 4, 2));
+    CHECK(is(blobcrash_files_kept_place(&files, 0), 0, 3, 4) && is(blobcrash_files_kept_place(&files, 1), 0, 3, 0) &&
+          refuses(blobcrash_files_kept_place(&files, 2), BLOBCRASH_OTHER_REPLY));
     CHECK(is(on(BLOBCRASH_F_OPEN, "/b"), 0, 3, 0) && reads(3, 0, "ned!st"));
     CHECK(is(by(BLOBCRASH_F_CRASH, 0), 0, 0, 0) && is(by(BLOBCRASH_F_CRASH, 0), 0, 0, 0) && lists("/", "b,"));
     /* On ext4 an edit behind a lost one is lost too. */

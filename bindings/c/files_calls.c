@@ -120,6 +120,15 @@ static void no_calls(void) {
     CHECK(lines == before + 1);
 }
 
+/* Prints the bytes of a call as its line has them, after the first `skipped` bytes. */
+static void print_token(uint32_t kind, const void *bytes, size_t len, size_t skipped) {
+    struct blobcrash_file_call asked = {kind, 0, 0, 0};
+    size_t line_len;
+    char *line = blobcrash_new_files_line(&asked, bytes, len, NULL, 0, &line_len);
+    printf("%.*s", (int)(line_len - skipped), line + skipped);
+    free(line);
+}
+
 /* Prints the tree, as `blobcrash files` does. */
 static void print_tree(void) {
     uint64_t paths = 0, fd = 0, size = 0;
@@ -130,17 +139,16 @@ static void print_tree(void) {
         DONE(blobcrash_files_tree(&files, NULL));
         struct blobcrash_file_reply one = blobcrash_files_path(&files, at, path, sizeof path - 1);
         path[one.size] = 0;
-        char text[1200];
-        *blobcrash_put_path(text, path, (size_t)one.size) = 0;
-        printf(" %s%s", text, one.kind == 1 ? "/" : "=");
+        printf(" ");
+        print_token(BLOBCRASH_F_FIND, path, (size_t)one.size, strlen("find "));
+        printf("%s", one.kind == 1 ? "/" : "=");
         if (one.kind == 1) continue;
         DONE(blobcrash_file_open(&files, (const char *)path, &fd));
         DONE(blobcrash_file_size(&files, fd, &size));
         size_t found = 0;
         DONE(blobcrash_file_read(&files, fd, 0, bytes, sizeof bytes, &found));
         CHECK(found == size);
-        *blobcrash_put_hex(text, bytes, found) = 0;
-        printf("%s", text);
+        print_token(BLOBCRASH_F_WRITE, bytes, found, strlen("write 0 0 "));
     }
     printf("\n");
     DONE(blobcrash_files_tree(&files, NULL));

@@ -83,6 +83,10 @@ static void kinds_of_calls(void) {
         first[0] = 0;
         add_lines(&by_line, before, first);
         const struct blobcrash_asked asked = {kinds[i].kind, 0, 0, 9};
+        char line[64];
+        struct blobcrash_ran ran = blobcrash_line_of(&asked, TEXT("p"), TEXT("a"), (uint8_t *)line, sizeof line);
+        check(ran.status == BLOBCRASH_DONE && ran.len == strlen(kinds[i].line) - 1 && memcmp(line, kinds[i].line, ran.len) == 0,
+              kinds[i].line, __LINE__);
         struct blobcrash_typed_reply reply = blobcrash_apply(&numbered, &asked, TEXT("p"), TEXT("a"));
         check((reply.status == BLOBCRASH_DONE) == (strncmp(kinds[i].reply, "error", 5) != 0), kinds[i].line, __LINE__);
         add_reply(&numbered, texts[i]);
@@ -117,6 +121,11 @@ static const struct { uint32_t status; const char *lines, *reply; } refusals[] =
 
 static void refusals_of_calls(void) {
     for (size_t i = 0; i < sizeof refusals / sizeof *refusals; i++) {
+        uint8_t word[64];
+        struct blobcrash_ran said = blobcrash_word(BLOBCRASH_W_REFUSALS, refusals[i].status, word, sizeof word);
+        size_t word_len = strcspn(refusals[i].reply + strlen("error "), " ");
+        check(said.status == BLOBCRASH_DONE && said.len == word_len && memcmp(word, refusals[i].reply + strlen("error "), word_len) == 0,
+              refusals[i].reply, __LINE__);
         struct blobcrash_session session = {0};
         char text[CAPACITY] = "";
         begin(&session, "image q 62 5857494b00000000\n");

@@ -1,9 +1,9 @@
 /*
  * Power losses of an explored run. explore.h includes this header.
  *
- * With `paths.power_losses` the power may fail at each call that may change what a crash leaves. This call and all later ones aren't made
- * and return BLOBCRASH_POWER_LOSS, until the store has crashed and reopened. A run counts the calls that these functions make
- * (`paths.calls_per_run`). Before any other call of the session, call blobcrash_power_fails.
+ * With `paths.power_losses` the power of the session may fail at each call that may change what a crash leaves (BLOBCRASH_CHANGES). This call
+ * and all later ones aren't made and return BLOBCRASH_POWER_LOSS, until the store has crashed and reopened. A run counts the calls that these
+ * functions make (`paths.calls_per_run`). Before any other call of the session, call blobcrash_power_fails.
  */
 #ifndef BLOBCRASH_POWER_H
 #define BLOBCRASH_POWER_H
@@ -18,13 +18,13 @@ static inline bool blobcrash_is_past_limit(struct blobcrash_paths *paths) {
     return paths->is_running && ++paths->calls > blobcrash_most_calls(paths);
 }
 
-/* Follows a call past the limit, where `left` counts the words that are left: the power is on. Returns whether `words`, which make draws
- * false, are to be pushed. */
+/* Follows a call past the limit, where `left` counts the words that are left: no power loss follows. Returns whether `words`, which make
+ * draws false, are to be pushed. */
 static inline bool blobcrash_ends_draws(struct blobcrash_paths *paths, struct blobcrash_ran left, uint64_t *words) {
     if (left.status != BLOBCRASH_DONE) return false;
     if (!paths->is_long) paths->kept = left.len;
     paths->is_long = true;
-    paths->is_off = paths->has_crashed = false;
+    paths->is_off = false;
     paths->losses = paths->power_losses;
     memset(words, 0xff, BLOBCRASH_FALSE_WORDS * sizeof *words);
     return left.len <= paths->kept;
@@ -44,12 +44,19 @@ static inline bool blobcrash_fails_now(struct blobcrash_paths *paths) {
     return true;
 }
 
+/* Prints a line to the script, and frees it. Without memory for it the run doesn't count. */
+static inline void blobcrash_print_line(struct blobcrash_paths *paths, char *line, size_t len) {
+    paths->has_no_memory |= line == NULL;
+    if (line != NULL) fwrite(line, 1, len, paths->script);
+    free(line);
+}
+
 /* Counts an explored call. From the first one past the limit on no draw is true and the power is on. */
 static inline void blobcrash_count_call(struct blobcrash_paths *paths, struct blobcrash_session *session) {
     uint64_t words[BLOBCRASH_FALSE_WORDS];
-    if (blobcrash_is_past_limit(paths) && blobcrash_ends_draws(paths, blobcrash_words_left(session), words)) {
-        blobcrash_push_words(session, words, BLOBCRASH_FALSE_WORDS);
-    }
+    if (!blobcrash_is_past_limit(paths)) return;
+    if (blobcrash_ends_draws(paths, blobcrash_words_left(session), words)) blobcrash_push_words(session, words, BLOBCRASH_FALSE_WORDS);
+    if (paths->is_long) blobcrash_power_on(session);
 }
 
 /* Returns whether the power is off at a call, which then isn't made. `changes` says that it may change what a crash leaves: it opens,
@@ -58,22 +65,24 @@ static inline bool blobcrash_power_fails(struct blobcrash_paths *paths, struct b
     blobcrash_count_call(paths, session);
     if (!blobcrash_may_fail(paths, changes)) return paths->is_off;
     blobcrash_count_draws(paths, session);
-    return blobcrash_fails_now(paths);
+    return blobcrash_fails_now(paths) && blobcrash_power_off_after(session, 0) != BLOBCRASH_CLOSED;
 }
 
 static inline bool blobcrash_was_made(uint32_t status) {
     return status == BLOBCRASH_DONE || status == BLOBCRASH_NO_ROOM || status == BLOBCRASH_UNPRINTED;
 }
 
-/* Returns whether the first word of a line is one of `words`, each of which ends with a space. */
-static inline bool blobcrash_has_word(const uint8_t *line, size_t len, const char *words) {
+/* Returns the kind of the call of a line, by its first word. Of a line that is none it is that of a setting, which is made anyway. */
+static inline uint32_t blobcrash_line_kind(const uint8_t *line, size_t len) {
     while (len > 0 && *line == ' ') line++, len--;
     size_t word = 0;
     while (word < len && line[word] != ' ') word++;
-    for (const char *end; (end = strchr(words, ' ')) != NULL; words = end + 1) {
-        if ((size_t)(end - words) == word && memcmp(line, words, word) == 0) return true;
+    for (uint32_t kind = 0; word > 0 && kind < BLOBCRASH_CONFIGURE; kind++) {
+        uint8_t known[16];
+        size_t known_len = blobcrash_word(BLOBCRASH_W_KINDS, kind, known, sizeof known).len;
+        if (known_len == word && memcmp(line, known, word) == 0) return kind;
     }
-    return false;
+    return BLOBCRASH_CONFIGURE;
 }
 
 /* A resize, and the size before it. */
@@ -83,9 +92,13 @@ struct blobcrash_resize_made {
     uint64_t from, to;
 };
 
-/* Reads the number after the spaces at `*at`, and moves `*at` after it. The library rejects a line in which it isn't one. */
+/* Reads the number after the first word of a line, or after another number. The library rejects a line in which it isn't one. */
 static inline uint64_t blobcrash_number_at(const uint8_t *line, size_t len, size_t *at) {
     uint64_t number = 0;
+    if (*at == 0) {
+        while (*at < len && line[*at] == ' ') ++*at;
+        while (*at < len && line[*at] != ' ') ++*at;
+    }
     while (*at < len && line[*at] == ' ') ++*at;
     for (; *at < len && line[*at] >= '0' && line[*at] <= '9'; ++*at) number = 10 * number + (uint64_t)(line[*at] - '0');
     return number;
@@ -95,9 +108,6 @@ static inline uint64_t blobcrash_number_at(const uint8_t *line, size_t len, size
 static inline struct blobcrash_resize_made blobcrash_before_resize(struct blobcrash_session *session, const uint8_t *line, size_t len) {
     struct blobcrash_resize_made resize = {false, 0, 0, 0};
     size_t at = 0;
-    if (!blobcrash_has_word(line, len, "resize ")) return resize;
-    while (line[at] == ' ') at++;
-    at += strlen("resize");
     resize.handle = (size_t)blobcrash_number_at(line, len, &at);
     resize.to = blobcrash_number_at(line, len, &at);
     struct blobcrash_typed_reply size = blobcrash_tracked_size(session, resize.handle);
@@ -116,42 +126,40 @@ static inline void blobcrash_after_resize(struct blobcrash_paths *paths, struct 
 }
 
 /* Follows which handles have unsynced writes, after the call of a line. */
-static inline void blobcrash_follow_line(struct blobcrash_paths *paths, struct blobcrash_session *session, const uint8_t *line, size_t len) {
+static inline void blobcrash_follow_line(struct blobcrash_paths *paths, struct blobcrash_session *session, uint32_t kind, const uint8_t *line,
+                                         size_t len) {
     struct blobcrash_unsynced *unsynced = &paths->unsynced;
     size_t at = 0;
-    if (blobcrash_has_word(line, len, "config ")) blobcrash_unsynced_set(unsynced, (const char *)line, len);
-    if (!blobcrash_has_word(line, len, "write sync startsync crash reopen ") || blobcrash_last(session).status != BLOBCRASH_DONE) return;
-    while (at < len && line[at] == ' ') at++;
-    while (at < len && line[at] != ' ') at++;
-    uint64_t handle = blobcrash_number_at(line, len, &at);
-    if (blobcrash_has_word(line, len, "crash ")) blobcrash_unsynced_crash(unsynced);
-    else if (blobcrash_has_word(line, len, "reopen ")) unsynced->count = 0;
-    else if (!blobcrash_has_word(line, len, "write ")) blobcrash_unsynced_sync(unsynced, handle);
-    else if (line[len - 1] != '-') blobcrash_unsynced_write(unsynced, handle);
+    if (kind == BLOBCRASH_CONFIGURE) {
+        blobcrash_unsynced_set(unsynced, (const char *)line, len);
+        return;
+    }
+    if (blobcrash_last(session).status != BLOBCRASH_DONE) return;
+    switch (kind) {
+    case BLOBCRASH_WRITE:
+        if (line[len - 1] != '-') blobcrash_unsynced_write(unsynced, blobcrash_number_at(line, len, &at));
+        break;
+    case BLOBCRASH_SYNC:
+    case BLOBCRASH_START_SYNC: blobcrash_unsynced_sync(unsynced, blobcrash_number_at(line, len, &at)); break;
+    case BLOBCRASH_CRASH: blobcrash_unsynced_crash(unsynced); break;
+    case BLOBCRASH_REOPEN: unsynced->count = 0; break;
+    default: break;
+    }
 }
 
 /* As blobcrash_call. POWER_LOSS if the power is off: then only `crash`, settings, comments and, after the crash, `close` and `reopen` are
  * made. */
 static inline struct blobcrash_ran blobcrash_explored_call(struct blobcrash_paths *paths, struct blobcrash_session *session,
                                                            const uint8_t *line, size_t len, uint8_t *reply, size_t reply_room) {
-    bool crashes = blobcrash_has_word(line, len, "crash "), reopens = blobcrash_has_word(line, len, "reopen ");
-    size_t first = 0;
-    while (first < len && line[first] == ' ') first++;
-    bool is_made_anyway = crashes || first == len || line[first] == '#' || blobcrash_has_word(line, len, "config ") ||
-                          (paths->has_crashed && (reopens || blobcrash_has_word(line, len, "close ")));
-    struct blobcrash_ran none = {BLOBCRASH_POWER_LOSS, 0};
-    bool changes = blobcrash_has_word(line, len, "open loose admit write writes resize sync startsync finish remove ");
-    if (is_made_anyway) blobcrash_count_call(paths, session);
-    else if (blobcrash_power_fails(paths, session, changes)) return none;
-    struct blobcrash_resize_made resize = blobcrash_before_resize(session, line, len);
+    uint32_t kind = blobcrash_line_kind(line, len);
+    blobcrash_power_fails(paths, session, blobcrash_effect(kind) & BLOBCRASH_CHANGES);
+    struct blobcrash_resize_made resize = {false, 0, 0, 0};
+    if (kind == BLOBCRASH_RESIZE) resize = blobcrash_before_resize(session, line, len);
     struct blobcrash_ran ran = blobcrash_call(session, line, len, reply, reply_room);
     if (!blobcrash_was_made(ran.status)) return ran;
     blobcrash_after_resize(paths, session, &resize);
-    blobcrash_follow_line(paths, session, line, len);
-    /* A refused crash has lost nothing, and a refused reopening hasn't reopened. */
-    bool is_refused = (crashes || reopens) && blobcrash_last(session).status != BLOBCRASH_DONE;
-    if (crashes && !is_refused) paths->has_crashed = paths->is_off;
-    if (reopens && !is_refused) paths->is_off = paths->has_crashed = false;
+    blobcrash_follow_line(paths, session, kind, line, len);
+    if (kind == BLOBCRASH_REOPEN) paths->is_off = blobcrash_power(session).is_off;
     if (paths->script != NULL) {
         fwrite(line, 1, len, paths->script);
         fputc('\n', paths->script);
@@ -159,26 +167,32 @@ static inline struct blobcrash_ran blobcrash_explored_call(struct blobcrash_path
     return ran;
 }
 
+/* Prints the line of a read or a write that was made. */
+static inline void blobcrash_print_moved(struct blobcrash_paths *paths, const struct blobcrash_asked *asked, const uint8_t *bytes, size_t len) {
+    size_t line_len;
+    char *line = blobcrash_new_line(asked, NULL, 0, bytes, len, &line_len);
+    blobcrash_print_line(paths, line, line_len);
+    fputc('\n', paths->script);
+}
+
 /* As blobcrash_read. POWER_LOSS, which leaves `into` as it was. */
 static inline uint32_t blobcrash_explored_read(struct blobcrash_paths *paths, struct blobcrash_session *session, size_t handle,
                                                uint64_t offset, uint8_t *into, size_t len) {
-    if (blobcrash_power_fails(paths, session, false)) return BLOBCRASH_POWER_LOSS;
+    struct blobcrash_asked asked = {BLOBCRASH_READ, handle, offset, len};
+    blobcrash_count_call(paths, session);
     uint32_t status = blobcrash_read(session, handle, offset, into, len);
-    if (paths->script != NULL && status != BLOBCRASH_CLOSED) fprintf(paths->script, "read %zu %" PRIu64 " %zu\n", handle, offset, len);
+    if (paths->script != NULL && status != BLOBCRASH_CLOSED && status != BLOBCRASH_POWER_LOSS) blobcrash_print_moved(paths, &asked, NULL, 0);
     return status;
 }
 
 /* As blobcrash_write, or POWER_LOSS. */
 static inline uint32_t blobcrash_explored_write(struct blobcrash_paths *paths, struct blobcrash_session *session, size_t handle,
                                                 uint64_t offset, const uint8_t *bytes, size_t len, bool sync) {
-    if (blobcrash_power_fails(paths, session, true)) return BLOBCRASH_POWER_LOSS;
+    struct blobcrash_asked asked = {(uint32_t)(sync ? BLOBCRASH_WRITE_SYNC : BLOBCRASH_WRITE), handle, offset, 0};
+    blobcrash_power_fails(paths, session, true);
     uint32_t status = blobcrash_write(session, handle, offset, bytes, len, sync);
     if (status == BLOBCRASH_DONE && !sync && len > 0) blobcrash_unsynced_write(&paths->unsynced, handle);
-    if (paths->script != NULL && status != BLOBCRASH_CLOSED) {
-        fprintf(paths->script, "%s %zu %" PRIu64 " %s", sync ? "writes" : "write", handle, offset, len == 0 ? "-" : "");
-        for (size_t i = 0; i < len; i++) fprintf(paths->script, "%02x", bytes[i]);
-        fputc('\n', paths->script);
-    }
+    if (paths->script != NULL && status != BLOBCRASH_CLOSED && status != BLOBCRASH_POWER_LOSS) blobcrash_print_moved(paths, &asked, bytes, len);
     return status;
 }
 
@@ -201,7 +215,7 @@ static inline bool blobcrash_recover(struct blobcrash_paths *paths, struct blobc
                                      void *context) {
     while (blobcrash_restart(paths, session) == BLOBCRASH_DONE) {
         bool is_recovered = step(context);
-        if (!paths->is_off) return is_recovered;
+        if (!blobcrash_power(session).is_off) return is_recovered;
     }
     return false;
 }

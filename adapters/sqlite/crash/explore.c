@@ -11,7 +11,7 @@
 /* A crash makes a choice for each sector of an unsynced write and for each change of names. This is the most that is explored. */
 enum { MOST_CHOICES = 20, MOST_PREAMBLE = 16 + 4 * 2 * MOST_CHOICES + WORDS_PREAMBLE };
 
-static const char *const default_names[] = {"delete-extra", "truncate-full", "persist-full", "wal-full"};
+static const char *const default_names[] = {"delete-extra-xfs", "truncate-full-xfs", "persist-full-xfs", "wal-full-xfs"};
 
 /* What was found after crashes. */
 struct findings {

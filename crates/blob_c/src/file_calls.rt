@@ -70,8 +70,8 @@ pub extern "C" fn blobcrash_files_configure(alloc: Global, files: &mut Files, se
 
 /// Makes a call: its numbers in `asked`, its paths or names as bytes. Returns the numbers of its reply.
 ///
-/// `BAD_CALL` if the kind is unknown or the number of a rename is above 2, and `CLOSED`: nothing has changed. Any other status but
-/// `DONE` is a refusal of the call that was made.
+/// `BAD_CALL` if the kind is unknown or the number of a rename is above 2, `POWER_LOSS` and `CLOSED`: nothing has changed. Any other
+/// status but `DONE` is a refusal of the call that was made.
 #[unsafe(no_mangle)]
 pub extern "C" fn blobcrash_files_apply(
     alloc: Global,
@@ -85,12 +85,12 @@ pub extern "C" fn blobcrash_files_apply(
     let Some(mut kept) = files.take(alloc) else {
         return FileReply::stopped(CLOSED);
     };
-    let reply = kept.apply(asked, path, to);
+    let reply = kept.supplied_apply(asked, path, to);
     files.put(kept);
     reply
 }
 
-/// Writes bytes at an offset, unsynced. Returns `DONE`, a refusal, or `CLOSED`.
+/// Writes bytes at an offset, unsynced. Returns `DONE`, a refusal, `POWER_LOSS` or `CLOSED`.
 #[unsafe(no_mangle)]
 pub extern "C" fn blobcrash_files_write(
     alloc: Global,
@@ -104,13 +104,13 @@ pub extern "C" fn blobcrash_files_write(
     let Some(mut kept) = files.take(alloc) else {
         return CLOSED;
     };
-    let status = kept.write(descriptor, offset, bytes);
+    let status = kept.supplied_write(descriptor, offset, bytes);
     files.put(kept);
     status
 }
 
-/// Reads the bytes from an offset on, as many as there are and as `into` takes. Returns in `len` how many. `DONE`, a refusal, or
-/// `CLOSED`.
+/// Reads the bytes from an offset on, as many as there are and as `into` takes. Returns in `len` how many. `DONE`, a refusal,
+/// `POWER_LOSS` or `CLOSED`.
 #[unsafe(no_mangle)]
 pub extern "C" fn blobcrash_files_read(
     alloc: Global,
@@ -124,7 +124,7 @@ pub extern "C" fn blobcrash_files_read(
     let Some(mut kept) = files.take(alloc) else {
         return Ran::stopped(CLOSED);
     };
-    let ran = kept.read(descriptor, offset, into);
+    let ran = kept.supplied_read(descriptor, offset, into);
     files.put(kept);
     ran
 }

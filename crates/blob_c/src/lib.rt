@@ -7,6 +7,8 @@ pub mod explain_calls;
 pub mod explorer_calls;
 pub mod file_calls;
 pub mod header_calls;
+pub mod power_calls;
+pub mod word_calls;
 
 ghost use Rattle.std.specs.Prelude.{◌≡◌, ◌⊎◌, ◌<◌, ◌≤◌, None, IsSome, IfSome, take, drop, length};
 ghost use Rattle.blob_lab.specs.Scripts.{lines_of};
@@ -84,8 +86,8 @@ pub extern "C" fn blobcrash_open(alloc: Global, session: &mut Session, preamble:
 /// Makes the call of a line, and writes its reply to the start of `reply`, without a line feed. The bytes after it
 /// don't change. An empty line or a comment makes no call, and its reply has no bytes.
 ///
-/// `NO_ROOM` and `UNPRINTED`: the call was made, and its reply is kept for `blobcrash_reply`. `BAD_LINE` and
-/// `NO_MEMORY` change nothing; a call that was refused memory is `DONE`, and its reply says so.
+/// `NO_ROOM` and `UNPRINTED`: the call was made, and its reply is kept for `blobcrash_reply`. `BAD_LINE`, `NO_MEMORY` and
+/// `POWER_LOSS` change nothing; a call that was refused memory is `DONE`, and its reply says so.
 #[unsafe(no_mangle)]
 pub extern "C" fn blobcrash_call(
     alloc: Global,
@@ -118,7 +120,7 @@ pub extern "C" fn blobcrash_reply(alloc: Global, session: &mut Session, reply: &
 
 /// Writes bytes through a handle, with `sync` as a SYNC write: the call `write` or `writes`, without text.
 ///
-/// Any other status but `DONE` and `CLOSED` is a refusal, and `blobcrash_reply` returns its texts.
+/// `POWER_LOSS` changes nothing. Any other status but `DONE` and `CLOSED` is a refusal, and `blobcrash_reply` returns its texts.
 #[unsafe(no_mangle)]
 pub extern "C" fn blobcrash_write(
     alloc: Global,
@@ -133,14 +135,15 @@ pub extern "C" fn blobcrash_write(
     let Some(mut kept) = session.take(alloc) else {
         return CLOSED;
     };
-    let status = kept.write(handle, offset, bytes, sync);
+    let status = kept.supplied_write(handle, offset, bytes, sync);
     session.put(kept);
     status
 }
 
 /// Fills `into` with bytes that are read through a handle: the call `read`, without text.
 ///
-/// Any other status but `DONE` and `CLOSED` is a refusal: `into` doesn't change, and `blobcrash_reply` returns its texts.
+/// `POWER_LOSS` changes nothing. Any other status but `DONE` and `CLOSED` is a refusal: `into` doesn't change, and `blobcrash_reply` returns
+/// its texts.
 #[unsafe(no_mangle)]
 pub extern "C" fn blobcrash_read(
     alloc: Global,
@@ -154,7 +157,7 @@ pub extern "C" fn blobcrash_read(
     let Some(mut kept) = session.take(alloc) else {
         return CLOSED;
     };
-    let status = kept.read(handle, offset, into);
+    let status = kept.supplied_read(handle, offset, into);
     session.put(kept);
     status
 }
@@ -163,7 +166,7 @@ pub extern "C" fn blobcrash_read(
 ///
 /// Errors, with nothing changed:
 /// - `BAD_CALL` if the kind is unknown, a version doesn't fit in 16 bits or the partition isn't UTF-8.
-/// - `CLOSED`.
+/// - `POWER_LOSS`, `CLOSED`.
 ///
 /// Any other status but `DONE` is a refusal of the call that was made.
 #[unsafe(no_mangle)]
@@ -179,7 +182,7 @@ pub extern "C" fn blobcrash_apply(
     let Some(mut kept) = session.take(alloc) else {
         return TypedReply::stopped(CLOSED);
     };
-    let reply = kept.apply(asked, partition, name);
+    let reply = kept.supplied_apply(asked, partition, name);
     session.put(kept);
     reply
 }
