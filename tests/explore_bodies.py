@@ -170,22 +170,22 @@ def test_the_power_fails_after_some_calls():
 
 def test_a_refused_crash_has_not_crashed():
     class Refuses(Library):
-        refused = b""
+        refused = ""
 
-        def call(self, line):
-            return b"error Memory" if line == self.refused else super().call(line)
+        def apply(self, asked):
+            return blobcrash.Reply("error Memory") if asked.word == self.refused else super().apply(asked)
 
     with Store(7, by=Refuses) as store:
         store.open("p", b"b")[0].write(0, b"kept", sync=True)
         store.crash_after(0)
         raises(PowerLoss, store.scan, "p")
-        for refused in (b"crash", b"reopen"):
+        for refused in ("crash", "reopen"):
             Refuses.refused = refused
             raises(blobcrash.Memory, store.restart)
             raises(PowerLoss, store.scan, "p")
-            if refused == b"crash":
+            if refused == "crash":
                 raises(PowerLoss, store.reopen)
-        Refuses.refused = b""
+        Refuses.refused = ""
         store.restart()
         assert store.open("p", b"b")[1] == 4
 
@@ -438,6 +438,11 @@ def test_seeds():
     again, chosen = chosen, []
     seeds(lambda store: chosen.append(store.choose(1000)), range(5), by=Library)
     assert chosen == again and len(set(chosen)) > 1
+    # As in Rust. The first numbers of SplitMix64 for this seed, as Rosetta Code lists them, end in these digits.
+    for named in ({"by": Library}, {"profile": "xfs"}):
+        chosen = []
+        seeds(lambda store: chosen.extend(store.choose(1000) for _ in range(5)), [1234567], **named)
+        assert chosen == [317, 973, 423, 431, 821], chosen
     failed = raises(Failed, seeds, forgets, range(100), settings=PREFIX, by=Library)
     assert failed.path == f"seed {failed.run - 1}" == failed.script[0]
     raises(Failed, seeds, forgets, [failed.run - 1], settings=PREFIX, by=Library)

@@ -16,7 +16,7 @@ LINES = (
     "create /a # is 0\ncreate_at 1 n\nopen /a\nopen_truncated /a\nopen_inode 2\nclose 0\nread 0 0 9\nread /a 0 9\nwrite 0 0 6162\nwrite /a 0 -\n"
     "truncate 0 1\nsize /a\nfsync 0\nfdatasync /a\nfsyncdir /\nfsyncdir_at 1\nsync\nlink /a /b\nlink_at 2 1 c\nunlink /a\nunlink_at 1 n\n"
     "rename /a /b\nrename /a /b noreplace\nrename_at 1 a 1 b exchange\nmkdir /d\nmkdir_at 1 e\nrmdir /d\nrmdir_at 1 e\nlistdir /\nlistdir_at 1\n"
-    "find /a\nfind_at 1 a\ninode_of 0\nsettle\ncommit\ntree\ncrash\nprofile posix\nkeep 1 2\nspace 100 9\nfailed_sync drops\nsyncs lie\n"
+    "find /a\nfind_at 1 a\ninode_of 0\nsettle\ncommit\ntree\ncrash\nprofile posix\nedits any\nkeep 1 2\nspace 100 9\nfailed_sync drops\nsyncs lie\n"
     "failed_write prefix\nconfig write 0 1 1 2 prefix\nconfig clear\n# a comment\n\ncreate \"\"\ncreate /\\x20\nwords 0 max\nseed 7"
 ).split("\n")
 TOKENS = 'create rename tree words seed keep profile /a a 0 1 2 18446744073709551616 00 zz 6 - "" /\\x2 /a\\y20 #x noreplace ext4 lie max -1 é'.split(" ")

@@ -38,6 +38,8 @@ played() {
 cat >"$work/rows" <<'ROWS'
 words 0 max => 
 profile posix => ok
+edits prefix => ok
+edits any => ok
 keep 1 2 => ok
 space 4096 10 => ok
 config write 0 1 1 2 sectors 1 => ok
@@ -136,6 +138,8 @@ link_at 1 2
 keep 2 1
 keep 1 0
 profile zfs
+edits
+edits none
 failed_sync
 failed_sync maybe
 syncs lies

@@ -310,20 +310,22 @@ def test_power_losses():
         assert error.is_first and error.__context__ is None
 
 
-def test_a_close_counts_as_a_change():
-    # It may make bytes durable, if an open has truncated a file.
+def test_a_close_is_no_change():
+    # It makes nothing durable, also if an open has truncated the file.
     with Files(profile="ext4", settings=["write 0 1 0 1 prefix", "keep 1 1"]) as files:
         put(files, "/f", b"old")
         files.settle()
-        files.crash_after(2)
+        files.crash_after(1)
         assert raises(PowerLoss, put, files, "/f", b"new").is_first
         files.restart()
-        # The edit of the truncation is kept, and the write is lost.
-        assert get(files, "/f") == b""
+        # The open and the write are two changes, and the folder is the third.
         files.crash_after(3)
         put(files, "/f", b"new")
+        files.mkdir("/d")
+        assert raises(PowerLoss, files.mkdir, "/e").is_first
         files.restart()
-        assert get(files, "/f") == b"new"
+        # The edits are kept, and the write is lost.
+        assert get(files, "/f") == b"" and files.listdir() == ["d", "f"]
 
 
 def test_errors_are_pickled():

@@ -155,8 +155,8 @@ def finds(body, profiles, text, **flags):
 
 
 def test_no_sync_before_a_rename():
-    # In ext4 a rename over a file makes the new bytes durable.
-    finds(saves, ("xfs", "btrfs", "posix"), "is found, and not b'second'", forgets="file")
+    # In ext4 the file is as long as it was at the rename, and may have zeros.
+    finds(saves, PROFILES, "is found, and not b'second'", forgets="file")
 
 
 def test_no_sync_of_the_directory():
@@ -164,8 +164,7 @@ def test_no_sync_of_the_directory():
 
 
 def test_an_append_without_a_checksum():
-    # In ext4 an append has no holes, so that the length says enough.
-    finds(appends, ("xfs", "btrfs", "posix"), "letters", checks=False)
+    finds(appends, PROFILES, "letters", checks=False)
 
 
 def test_a_failed_sync_that_is_tried_again():

@@ -135,7 +135,7 @@ class Replies:
     def __call__(self, preamble):
         return self
 
-    def call(self, asked):
+    def apply(self, asked):
         reply = self.replies.pop(0)
         if isinstance(reply, BaseException):
             raise reply

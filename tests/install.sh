@@ -32,9 +32,7 @@ include/blobcrash/blobcrash.h
 include/blobcrash/blobcrash_calls.h
 include/blobcrash/blobcrash_files.h
 include/blobcrash/blobcrash_files_calls.h
-include/blobcrash/blobcrash_files_lines.h
 include/blobcrash/blobcrash_lines.h
-include/blobcrash/blobcrash_text.h
 include/blobcrash/explore.h
 include/blobcrash/explore_files.h
 include/blobcrash/fork.h

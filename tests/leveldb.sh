@@ -29,15 +29,15 @@ expect 'pass on each profile' 0 [ "$(grep -c '| passes |$' "$work/table")" -eq 1
 # What this version does wrong: docs/LEVELDB.md.
 if [ "$version" = '1 23 ' ]; then
     finds 'LevelDB 1.23' <<'ROWS'
-34 sync-reads acknowledged batches are lost
+47 sync-reads acknowledged batches are lost
 3 sync-reuse the rows are those of no batch
 4 sync-posix-create CURRENT points to a non-existent file
-6 sync-posix-create the rows are those of no batch
+7 sync-posix-create the rows are those of no batch
 1 sync-posix-rename acknowledged batches are lost
-43 nosync the rows are those of no batch
+10 nosync the rows are those of no batch
 1 nosync-whole-xfs the rows are those of no batch
 ROWS
-    for life in '11 sync-bytes-xfs' '8 sync-paranoid-xfs'; do
+    for life in '11 sync-bytes-xfs' '8 sync-paranoid-xfs' '3 sync-bytes' '8 sync-paranoid'; do
         # shellcheck disable=SC2086
         expect "LevelDB 1.23: seed $life" 0 "$crash" --seed $life
         expect 'LevelDB 1.23: a torn record is an error' 0 grep -q "it can't be opened: Corruption" "$work/table"

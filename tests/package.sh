@@ -60,7 +60,7 @@ import re
 from importlib.metadata import metadata
 page = metadata("blobcrash").get_payload()
 block = re.search(r"(?m)(^    from .*\n)((    .*)?\n)*", page)[0]
-exec("".join(line[4:] or "\n" for line in block.splitlines(keepends=True)))' && grep -qx 'fails on xfs btrfs posix' "$work/out"
+exec("".join(line[4:] or "\n" for line in block.splitlines(keepends=True)))' && grep -qx 'fails on ext4 xfs btrfs posix' "$work/out"
 tell $? 'its description prints what it says'
 [ -f "$work/site/blobcrash/py.typed" ]
 tell $? 'it has type hints'

@@ -92,10 +92,8 @@ def test_a_replaced_file():
     for profile in PROFILES:
         for losses in (0, 1):
             assert explore(saves(True), files=profile, settings=SECTORS, power_losses=losses).complete
-            if profile != "ext4":
-                failed = raises(Failed, explore, saves(False), files=profile, settings=SECTORS, power_losses=losses)
-                assert failed.reason.startswith("JSONDecodeError"), failed
-    assert explore(saves(False), files="ext4", settings=SECTORS).complete
+            failed = raises(Failed, explore, saves(False), files=profile, settings=SECTORS, power_losses=losses)
+            assert failed.reason.startswith("JSONDecodeError"), failed
     raises(Failed, seeds, saves(False), 100, files="xfs", settings=SECTORS)
 
 
@@ -111,8 +109,10 @@ def adds(files):
 
 
 def test_dbm_dumb():
+    # With zeros its index can't be read at all.
     for profile in PROFILES:
-        assert raises(Failed, explore, adds, files=profile, settings=SECTORS).reason == "AssertionError: a durable key is lost"
+        reason = raises(Failed, explore, adds, files=profile, settings=SECTORS).reason
+        assert ("a durable key is lost" if profile == "xfs" else "null bytes") in reason, reason
 
 
 def sets(files, key):

@@ -238,12 +238,12 @@ def replaces(files):
             files.settle()
     files.restart()
     with files.open("/f") as file:
-        assert file.read() in (b"old", b"new")
+        assert len(file.read()) == 3
 """
 
 
 def test_every_profile():
-    """By hand, from docs/FILES.md: only on ext4 a rename flushes the new bytes."""
+    """By hand, from docs/FILES.md: only on ext4 a file that replaces another is as long as it was at the rename."""
     text = f"{REPLACES}\nMARK\ndef test_it(blobcrash_files):\n    replaces(blobcrash_files)\n"
     for mark in ("", "@pytest.mark.blobcrash_files(seeds=20)", "@pytest.mark.blobcrash_files(profile='all')"):
         ran = Ran(text.replace("MARK", mark), "--blobcrash-shrink=0")

@@ -31,13 +31,13 @@ version=$(printf '#include <rocksdb/version.h>\nROCKSDB_MAJOR ROCKSDB_MINOR ROCK
 if [ "$version" = '7 8 3' ]; then
     finds 'RocksDB 7.8.3' <<'ROWS'
 17 sync-xfs checksum mismatch in file /d/MANIFEST
+11 sync checksum mismatch in file /d/MANIFEST
 20 sync-queues-transactions ended by signal 6
-3 sync-posix No such file or directory: /d/MANIFEST
+35 sync-posix No such file or directory: /d/MANIFEST
 5 nosync-families the rows are those of no batch
-1 nosync-blobs the rows are those of no batch
 1 nosync-transactions SST file is ahead of WALs
 1 sync-checkpoints-posix checkpoint[0-9]* is lost
-1 sync-backups-posix backup [0-9]* is lost
+2 sync-backups-posix backup [0-9]* is lost
 1 sync-queued ended by signal 6
 ROWS
 else

@@ -33,7 +33,7 @@ def overwrites(files):
 
 
 def replaces(files, syncs=False):
-    """Replaces a file by a rename."""
+    """Replaces a file by a rename. Fails if the new one is empty."""
     put(files, "/f", b"old")
     files.settle()
     with files.open("/new", "wb") as new:
@@ -42,7 +42,7 @@ def replaces(files, syncs=False):
             files.fsync(new)
     files.rename("/new", "/f")
     files.restart()
-    assert get(files, "/f") in (b"old", b"new"), "damaged"
+    assert get(files, "/f"), "damaged"
 
 
 def writes(store, how="write"):
@@ -183,7 +183,7 @@ def test_files_say_what_could_not_be_kept():
 
 
 def test_all_profiles():
-    """By hand, from docs/FILES.md: only on ext4 the rename flushes the new bytes."""
+    """By hand, from docs/FILES.md: only on ext4 a file that replaces another is as long as it was at the rename."""
     failed = raises(Failed, explore, replaces, profile="all")
     assert [name for name, each in failed.profiles.items() if isinstance(each, Failed)] == ["xfs", "btrfs", "posix"], failed
     assert list(failed.profiles) == ["ext4", "xfs", "btrfs", "posix"] and "profile xfs" in failed.script, failed.script

@@ -101,9 +101,9 @@ check 'has the same end' [ "$(grep '^| delete-off ' "$work/out")" = "$(cat "$wor
 
 check 'every outcome in a small transaction' run 0 "$crash" --explore
 check 'in four modes and their recoveries, without a loss' [ "$(awk -F'|' 'NF == 11 && $6 > 1 && $9 == 0 && $10 == 0' "$work/out" | wc -l)" -eq 8 ]
-check 'a lying sync is found by exploring' run 0 "$crash" --explore wal-full-lie
+check 'a lying sync is found by exploring' run 0 "$crash" --explore wal-full-lie-xfs
 check 'with a loss or damage' [ "$(awk -F'|' '$2 ~ /wal-full-lie/ && $9 + $10 > 0' "$work/out" | wc -l)" -eq 2 ]
-check 'so is a deletion that is not durable' run 0 "$crash" --explore delete-full
+check 'so is a deletion that is not durable' run 0 "$crash" --explore delete-full-xfs
 check 'with a loss, and no damage' [ "$(awk -F'|' '$2 ~ /delete-full/ && $9 > 0 && $10 == 0' "$work/out" | wc -l)" -eq 2 ]
 
 check 'the list of modes' run 0 "$crash" --list
@@ -157,7 +157,7 @@ if run 0 $compiler $sanitize -o "$work/empty" "$work/empty.c" && run 0 "$work/em
     "$work/crash.sanitized" 1 $("$crash" --list) >"$work/out" 2>"$work/err"
     check 'every mode, sanitized' [ $? -le 1 ]
     check 'no report of a sanitizer' [ ! -s "$work/err" ]
-    check 'exploring, sanitized' run 0 "$work/crash.sanitized" --explore persist-full
+    check 'exploring, sanitized' run 0 "$work/crash.sanitized" --explore persist-full-xfs
 else
     skip "$compiler can't build or start a program with sanitizers"
 fi
@@ -186,7 +186,7 @@ fi
 
 # Every crash of one recorded commit.
 if has sqlite3 && has_python; then
-    for outcome in 'extra posix 0' 'full posix 1' 'extra ext4 0'; do
+    for outcome in 'extra xfs 0' 'full xfs 1'; do
         fails=${outcome##* }
         # shellcheck disable=SC2086
         check "every crash of a commit: $outcome" run "$fails" sh examples/sqlite_states.sh ${outcome% *}

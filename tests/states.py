@@ -262,7 +262,7 @@ def test_a_file_that_is_replaced():
                 allowed = {0: (None, b"old" * 300), 1: (b"old" * 300, b"new" * 300), 2: (b"new" * 300,)}[len(state.acknowledged)]
                 if state.acknowledged and paths.get(b"/f") not in allowed:
                     bad += 1
-            assert states.complete and bool(bad) == (not syncs and profile != "ext4"), (profile, syncs, bad, str(states))
+            assert states.complete and bool(bad) == (not syncs), (profile, syncs, bad, str(states))
 
 
 def test_files_of_a_state_and_its_folder():

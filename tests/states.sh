@@ -54,7 +54,6 @@ committed() {
     [ $? -eq "$3" ] && grep -Eq "^[0-9]+ crashes, [0-9]+ outcomes, [0-9]+ states, all of them; $4 fail\$" "$work/out"
     tell $? "SQLite at $1 on $2: $(tail -n 1 "$work/out")"
 }
-committed extra posix 0 0
-committed full posix 1 1
-committed extra ext4 0 0
+committed extra xfs 0 0
+committed full xfs 1 1
 finish

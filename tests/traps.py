@@ -233,16 +233,16 @@ def test_a_closed_store_is_told():
 def test_an_interrupted_call_ends_the_store():
     store = seeded()
     blob, _ = store.open("p", b"b")
-    answer = store._layer.call
+    answer = store._layer.apply
 
-    def interrupted(line):
+    def interrupted(asked):
         if BY is Program:
             store._layer._lost = KeyboardInterrupt()
         raise KeyboardInterrupt
 
-    store._layer.call = interrupted
+    store._layer.apply = interrupted
     raises(KeyboardInterrupt, blob.sync)
-    store._layer.call = answer
+    store._layer.apply = answer
     for call, *arguments in [(blob.sync,), (blob.read, 0, 0), (store.reopen,), (blob.close,)]:
         assert isinstance(raises(Interrupted, call, *arguments).__cause__, KeyboardInterrupt)
     store.close()

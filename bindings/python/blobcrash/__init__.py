@@ -24,49 +24,26 @@ To use the package without installing it, copy this folder: it needs nothing but
 """
 
 from .blob import Blob
+from .calls import Reply
 from .checking import Fault, check
 from .cutting import cut, cut_lines
 from .errors import (
-    BadLine,
-    BlobAlreadyOpen,
-    BlobCorrupt,
-    BlobInsufficientLength,
-    BlobLayoutMismatch,
-    BlobMissing,
-    BlobVersionMismatch,
-    Closed,
-    EmptyRange,
-    GenerationsExhausted,
-    Injected,
-    Interrupted,
-    LibraryMissing,
-    Memory,
-    NeedsSeed,
-    NoHandle,
-    NoRuns,
-    NotMade,
-    OffsetOverflow,
-    PartitionMissing,
-    PartitionNameInvalid,
-    ProgramEnded,
-    ReadFailed,
-    StaleHandle,
-    StorageError,
-    WriteFailed,
+    BadLine, BlobAlreadyOpen, BlobCorrupt, BlobInsufficientLength, BlobLayoutMismatch, BlobMissing, BlobVersionMismatch, Closed,
+    EmptyRange, GenerationsExhausted, Injected, Interrupted, LibraryMissing, Memory, NeedsSeed, NoHandle, NoRuns, NotMade,
+    OffsetOverflow, PartitionMissing, PartitionNameInvalid, ProgramEnded, ReadFailed, StaleHandle, StorageError, WriteFailed,
     WrongThread,
 )
 from .exploration import explore as _explore
 from .failures import Failed, TooLong
 from .file_calls import Kept
-from .file_follow import ExploredFiles
 from .file_library import FilesLibrary
 from .file_settings import PROFILES, Profile
 from .file_system import Files, FileStatus
 from .files import BlobFile
-from .follow import ExploredStore, NotDeterministic
+from .follow import ExploredFiles, ExploredStore, NotDeterministic
 from .foreign import TOP, is_proved, library
 from .judging import acknowledgement, judge
-from .layers import Library, Program, Reply, explain, program, run
+from .layers import Library, Program, explain, program, run
 from .open_file import OpenFile
 from .patching import patched
 from .power import PowerLoss
@@ -92,75 +69,12 @@ def version() -> str:
 
 
 __all__ = [
-    "BadLine",
-    "Blob",
-    "BlobAlreadyOpen",
-    "BlobCorrupt",
-    "BlobFile",
-    "BlobInsufficientLength",
-    "BlobLayoutMismatch",
-    "BlobMissing",
-    "BlobVersionMismatch",
-    "Closed",
-    "CrashState",
-    "CrashStates",
-    "EmptyRange",
-    "Explored",
-    "ExploredFiles",
-    "ExploredStore",
-    "Failed",
-    "Fault",
-    "FileStatus",
-    "Files",
-    "FilesLibrary",
-    "GenerationsExhausted",
-    "Injected",
-    "Interrupted",
-    "Kept",
-    "Library",
-    "LibraryMissing",
-    "LostWork",
-    "Memory",
-    "NeedsSeed",
-    "NoHandle",
-    "NoRuns",
-    "NotDeterministic",
-    "NotMade",
-    "OffsetOverflow",
-    "OpenFile",
-    "PROFILES",
-    "PartitionMissing",
-    "PartitionNameInvalid",
-    "PowerLoss",
-    "Profile",
-    "Program",
-    "ProgramEnded",
-    "ReadFailed",
-    "Reply",
-    "Seeded",
-    "SeededFiles",
-    "SeededStore",
-    "StaleHandle",
-    "StorageError",
-    "Store",
-    "TOP",
-    "TooLong",
-    "WriteFailed",
-    "WrongThread",
-    "acknowledgement",
-    "check",
-    "counted",
-    "cut",
-    "cut_lines",
-    "explain",
-    "explore",
-    "is_proved",
-    "judge",
-    "library",
-    "patched",
-    "program",
-    "run",
-    "seeds",
-    "shrink",
-    "version",
+    "BadLine", "Blob", "BlobAlreadyOpen", "BlobCorrupt", "BlobFile", "BlobInsufficientLength", "BlobLayoutMismatch", "BlobMissing",
+    "BlobVersionMismatch", "Closed", "CrashState", "CrashStates", "EmptyRange", "Explored", "ExploredFiles", "ExploredStore",
+    "Failed", "Fault", "FileStatus", "Files", "FilesLibrary", "GenerationsExhausted", "Injected", "Interrupted", "Kept", "Library",
+    "LibraryMissing", "LostWork", "Memory", "NeedsSeed", "NoHandle", "NoRuns", "NotDeterministic", "NotMade", "OffsetOverflow",
+    "OpenFile", "PROFILES", "PartitionMissing", "PartitionNameInvalid", "PowerLoss", "Profile", "Program", "ProgramEnded",
+    "ReadFailed", "Reply", "Seeded", "SeededFiles", "SeededStore", "StaleHandle", "StorageError", "Store", "TOP", "TooLong",
+    "WriteFailed", "WrongThread", "acknowledgement", "check", "counted", "cut", "cut_lines", "explain", "explore", "is_proved",
+    "judge", "library", "patched", "program", "run", "seeds", "shrink", "version",
 ]

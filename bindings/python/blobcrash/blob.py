@@ -2,10 +2,12 @@
 
 from __future__ import annotations
 
-from typing import TYPE_CHECKING
+from threading import get_ident
+from typing import TYPE_CHECKING, Any, Optional
 
+from .calls import Call
 from .errors import StaleHandle
-from .grammar import MAX, data_of, number
+from .grammar import data_of, number
 
 if TYPE_CHECKING:
     from .store import Store
@@ -21,19 +23,20 @@ class Blob:
     def __init__(self, store: Store, handle: int, version: int, partition: str, name: bytes) -> None:
         self._store = store
         self._handle = handle
-        # The handle as the first argument of a line.
-        self._argument = b" %d" % handle
         self._version = version
         self._of = (partition, name)
         self._stale = ""
         self.allow_stale = store._allow_stale
+        # The function by which the library writes, and its session, if no layer is between and the handle isn't stale.
+        direct = store._direct
+        self._put, self._at = (None, None) if direct is None else (direct.untyped_write, direct.at)
 
     def __enter__(self) -> Blob:
         return self
 
     def __exit__(self, *_: object) -> None:
         # If the store can't be used any more, an error here would only hide why.
-        if self._handle in self._store._opened and not self._store._busy:
+        if self._handle in self._store._opened and self._store._owner is not None:
             self.close()
 
     @property
@@ -53,40 +56,62 @@ class Blob:
 
     def read(self, offset: int, length: int) -> bytes:
         """Reads exactly `length` bytes at a logical offset. Raises `BlobInsufficientLength` if there are fewer."""
-        if type(offset) is not int or type(length) is not int or not 0 <= offset <= MAX or not 0 <= length <= MAX:
-            offset, length = number(offset, "an offset"), number(length, "a length")
+        offset, length = number(offset, "an offset"), number(length, "a length")
         if self._stale:
             self._refuse_stale()
-        return self._store._read(self._handle, offset, length)
+        found: bytes = self._store._read(self._handle, offset, length)
+        return found
 
     def write(self, offset: int, data: bytes, sync: bool = False) -> None:
         """Writes bytes at a logical offset. They may be lost until they are synced; with `sync` they are durable immediately."""
-        if type(offset) is not int or not 0 <= offset <= MAX:
-            offset = number(offset, "an offset")
-        if type(data) is not bytes:
-            data = data_of(data, "the data of a write")
+        put = self._put
+        # `put` takes numbers below 2^31 as they are.
+        if put is None or type(offset) is not int or type(data) is not bytes or (offset | (length := len(data))) >> 31:
+            self._write(offset, data, sync)
+            return
+        # The usual case, without a call object. The record gets the arguments, of which a line is made when it is asked for.
+        store = self._store
+        if store._owner != get_ident():
+            raise store._unusable()
+        store._owner = None
+        try:
+            status = put(self._at, self._handle, offset, data, length, 1 if sync else 0)
+        except BaseException as error:
+            store._ended(store._write_call(self._handle, offset, data, sync), error)
+            raise
+        if status:
+            store._refuse(store._write_call(self._handle, offset, data, sync), status)
+        store._lines += (self._handle, offset, data, sync)
+        store._owner = store._thread
+
+    def _write(self, offset: int, data: bytes, sync: bool) -> None:
+        """Writes bytes by a call object."""
+        offset, data = number(offset, "an offset"), data_of(data, "the data of a write")
         if self._stale:
             self._refuse_stale()
-        self._store._write(self._handle, offset, data, bool(sync))
-        if data and not sync:
-            self._store._unsynced.write(self._of)
+        self._store._call(self._store._write_call(self._handle, offset, data, sync))
+
+    def _end(self, why: str = "") -> None:
+        """Takes that the handle is closed, or stale for this reason."""
+        self._put, self._stale = None, why or self._stale
 
     def resize(self, length: int) -> None:
         """Truncates or extends the blob to a logical length."""
-        self._ask(b"resize%b %d" % (self._argument, number(length, "a length")))
+        self._call("resize", number(length, "a length"))
 
     def size(self) -> int:
         """Returns the size of the blob in bytes, as the handle tracks it."""
-        return int(self._ask(b"size" + self._argument)[len("size ") :])
+        size: int = self._call("size")
+        return size
 
     def sync(self) -> None:
         """Makes the handle's bytes durable."""
-        self._ask(b"sync" + self._argument)
+        self._call("sync")
         self._store._unsynced.sync(self._of)
 
     def start_sync(self) -> int:
         """Starts a sync, and returns its number. `Store.finish` returns its outcome."""
-        started = int(self._ask(b"startsync" + self._argument)[len("started ") :])
+        started: int = self._call("startsync")
         self._store._unsynced.sync(self._of)
         return started
 
@@ -95,16 +120,25 @@ class Blob:
         store = self._store
         store._check()
         if self._handle in store._opened or not self._stale:
-            store._call(b"close" + self._argument)
-            store._opened.pop(self._handle, None)
+            store._call(Call("close", self._handle))
+            store._closed_handle(self._handle)
 
-    def _ask(self, line: bytes) -> bytes:
-        """Makes the call of a line of this handle, and returns its reply."""
+    def _call(self, word: str, first: Optional[int] = None) -> Any:
+        """Makes a call of this handle, and returns what it does."""
         if self._stale:
             self._refuse_stale()
-        return self._store._call(line)
+        return self._store._call(Call(word, self._handle, first))
 
     def _refuse_stale(self) -> None:
         if not self.allow_stale:
             self._store._refused()
             raise StaleHandle(f"handle {self._handle} is stale: {self._stale}. Open the blob again, or set `allow_stale`")
+
+
+class FollowedBlob(Blob):
+    """A handle of a search's run, of which unsynced writes are followed."""
+
+    def write(self, offset: int, data: bytes, sync: bool = False) -> None:
+        super().write(offset, data, sync)
+        if data and not sync:
+            self._store._unsynced.write(self._of)

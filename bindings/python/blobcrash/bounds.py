@@ -3,12 +3,9 @@
 from __future__ import annotations
 
 from time import monotonic
-from typing import Any, Optional
+from typing import Any
 
-from .file_calls import FileCall
-from .file_system import Files
-from .shared import Shared
-from .store import Store
+from .session import Session
 
 # How many calls, and how many choices, an explored run has at most if no other limit is given.
 CALLS_PER_RUN = 10_000
@@ -55,39 +52,20 @@ class Bounds:
         raise RunEnded
 
 
-class Bounded(Shared):
-    """What counts its calls. It stands before the class that makes them."""
+class Bounded(Session):
+    """What counts its calls, and the uses that it refuses. It stands before the class that makes them."""
 
+    _is_bounded = True
     _bounds: Bounds
 
     def _count(self) -> None:
-        """Counts a call. A store of a run that has ended says so, whatever its bounds were."""
+        """Counts a call. A session of a run that has ended says so, whatever its bounds were."""
         self._check()
         self._bounds.count()
 
-
-class BoundedFiles(Bounded, Files):
-    """Files that count their calls."""
-
-    def _call(self, asked: FileCall, path: Any = None, is_shown: bool = True, to: Any = None) -> Any:
+    def _apply(self, asked: Any, is_shown: bool = True) -> Any:
         self._count()
-        return super()._call(asked, path, is_shown, to)
-
-
-class BoundedStore(Bounded, Store):
-    """A store that counts its calls, and those that it refuses."""
-
-    def _call(self, line: bytes, partition: Optional[str] = None) -> bytes:
-        self._count()
-        return super()._call(line, partition)
-
-    def _read(self, handle: int, offset: int, length: int) -> bytes:
-        self._count()
-        return super()._read(handle, offset, length)
-
-    def _write(self, handle: int, offset: int, data: bytes, sync: bool) -> None:
-        self._count()
-        super()._write(handle, offset, data, sync)
+        return super()._apply(asked, is_shown)
 
     def _refused(self) -> None:
         self._count()

@@ -23,22 +23,18 @@ from functools import partial
 from typing import Any, Callable, Dict, Iterable, List, NamedTuple, Optional, Tuple, Union
 
 from .bodies import check_body, check_result
-from .bounds import CALLS_PER_RUN, FIRST_RUN, Bounds, RunEnded
-from .errors import NoRuns
-from .failures import Failed, TooLong, one_traceback, reason_of, reporter
-from .file_calls import FileCall
-from .file_follow import ExploredFiles
+from .bounds import CALLS_PER_RUN, FIRST_RUN, Bounds
+from .failures import Failed, TooLong, one_traceback, reason_of
 from .file_library import files_way
 from .file_settings import ALL, file_setting_tokens, profile_asked, refuse_of_stores
-from .follow import ExploredStore, MoreWords, NotDeterministic, Run
+from .follow import ExploredFiles, ExploredStore, NotDeterministic, Run, called
 from .grammar import MAX, image_line, number, setting_tokens
-from .layers import Library, line_of
+from .layers import Library
 from .met import Met
 from .paths import Choice, path_of, text_of
-from .power import PowerLoss
-from .profiles import Kind, in_each, paths_of, rest_of
-from .progress import Progress, interrupted_exploration, plural, tell_explored
-from .results import Explored, of_profiles, with_note
+from .profiles import in_each, paths_of
+from .progress import EXPLORE, Progress, plural
+from .results import Explored, Part
 from .traversal import Traversal
 
 Body = Callable[..., Any]
@@ -76,17 +72,6 @@ class Times(NamedTuple):
     last: float
     first_end: float
     end: float
-
-
-class Part(NamedTuple):
-    """What a visit of some subtrees came to."""
-
-    runs: int
-    outcomes: Dict[Any, int]
-    rest: List[str]
-    met: int
-    # What the crashes met, as `Unsynced.met`.
-    unsynced: int = 0
 
 
 @one_traceback
@@ -142,7 +127,12 @@ def explore(
     if asked == ALL:
         given: Dict[str, Any] = {"settings": tuple(settings), "images": tuple(images), "power_losses": power_losses, "seed": seed, "runs": runs}
         given.update(calls_per_run=calls_per_run, executor=executor, report=report, by=by, allow_stale=allow_stale)
-        return _explore_all(partial(explore, body, **given), under, seconds)
+        parts = paths_of(under)
+        search = partial(explore, body, **given)
+        all_explored: Explored = in_each(
+            lambda name, share: search(profile=name, seconds=share, under=parts[name]), parts, seconds_of(seconds), EXPLORE
+        )
+        return all_explored
     losses, most_calls = number(power_losses, "a number of power losses"), number(calls_per_run, "a number of calls")
     if asked is not None:
         by = files_way(by)
@@ -155,21 +145,16 @@ def explore(
         raise ValueError(f"there is nothing to explore: no {'runs' if subtrees else 'subtrees'}")
     now = time.monotonic()
     until = now + seconds_of(seconds)
-    show = reporter(report, asked is not None)
-    try:
-        with interrupted_exploration() as progress:
-            if executor is None:
-                part = visit(tree, subtrees, most, Times(until, max(until, now + FIRST_RUN), until), progress)
-            else:
-                from .spread import visit_with
 
-                part = visit_with(executor, tree, subtrees, most, until, progress)
-    except Failed as failed:
-        show(failed)
-        raise
-    if not part.runs:
-        raise NoRuns(part.rest)
-    return with_note(Explored(part.runs, part.outcomes, tuple(part.rest), part.met), part.unsynced)
+    def visited(progress: Progress) -> Part:
+        if executor is None:
+            return visit(tree, subtrees, most, Times(until, max(until, now + FIRST_RUN), until), progress)
+        from .spread import visit_with
+
+        return visit_with(executor, tree, subtrees, most, until, progress)
+
+    explored: Explored = EXPLORE.search(visited, report, asked is not None)
+    return explored
 
 
 def _check(tree: Tree) -> None:
@@ -185,27 +170,6 @@ def _check(tree: Tree) -> None:
         image_line(*image)
     if tree.seed is None and not hasattr(tree.by, "words_left"):
         raise ValueError("an exploration counts the draws of its runs, which only `by=Library` can")
-
-
-def _explore_all(search: Callable[..., Explored], under: Union[str, Iterable[str]], seconds: Optional[float]) -> Explored:
-    """Explores each profile, by a function that explores one."""
-    paths = paths_of(under)
-    kind = Kind("explore", _summed, lambda rest: Explored(0, {}, tuple(rest)), tell_explored)
-    explored: Explored = in_each(
-        lambda profile, share: search(profile=profile, seconds=share, under=paths[profile]), paths, seconds_of(seconds), kind
-    )
-    return explored
-
-
-def _summed(found: Dict[str, Any]) -> Explored:
-    """The sum of the explorations of profiles that didn't fail."""
-    explored = [each for each in found.values() if isinstance(each, Explored)]
-    outcomes: Dict[Any, int] = {}
-    for each in explored:
-        for outcome, count in each.outcomes.items():
-            outcomes[outcome] = outcomes.get(outcome, 0) + count
-    runs, met = (sum(getattr(each, name) for each in explored) for name in ("runs", "met"))
-    return of_profiles(Explored(runs, outcomes, tuple(rest_of(found)), met), found)
 
 
 def seconds_of(seconds: Optional[float]) -> float:
@@ -227,12 +191,11 @@ def visit(tree: Tree, subtrees: List[str], most: int, times: Times, progress: Op
         try:
             rest = visitor.visit(path_of(subtree), most)
         except _Interrupted as stopped:
-            left = stopped.rest + subtrees[at + 1 :]
-            stopped.error.part = Part(visitor.runs, visitor.outcomes, left, visitor.met, visitor.unsynced)
+            stopped.error.part = visitor.part(stopped.rest + subtrees[at + 1 :])
             raise stopped.error from None
         if rest:
-            return Part(visitor.runs, visitor.outcomes, rest + subtrees[at + 1 :], visitor.met, visitor.unsynced)
-    return Part(visitor.runs, visitor.outcomes, [], visitor.met, visitor.unsynced)
+            return visitor.part(rest + subtrees[at + 1 :])
+    return visitor.part([])
 
 
 class _Late(Exception):
@@ -260,6 +223,10 @@ class _Visitor:
         self.met = 0
         self.unsynced = 0
         self.outcomes: Dict[Any, int] = {}
+
+    def part(self, rest: List[str]) -> Part:
+        """What was visited so far, if this is left."""
+        return Part(self.runs, rest, self.unsynced, self.outcomes, self.met)
 
     def visit(self, path: List[Choice], most: int) -> List[str]:
         """Visits the leaves below a path, depth first, and returns the subtrees that the limits left."""
@@ -316,18 +283,11 @@ class _Visitor:
             bounds = Bounds(tree.calls_per_run, until)
             run = Run(along, self._room, tree.power_losses, tree.seed, bounds, self._states)
             store = tree.store(run)
-            outcome: Any = None
-            error: Optional[BaseException] = None
             _running.is_on = True
             try:
-                outcome = tree.body(store)
-            except (Exception, PowerLoss) as raised:
-                error = raised
-            except (MoreWords, RunEnded):
-                pass
+                outcome, error = called(tree.body, store)
             finally:
                 _running.is_on = False
-                store.close()
             if run.error is not None:
                 raise run.error
             if bounds.is_long:
@@ -369,15 +329,9 @@ def _compare(before: Run, run: Run) -> None:
 
 def _different(was: Any, now: Any) -> Tuple[str, str]:
     """Two calls as lines, each cut to its start and to what is around the first character at which they differ."""
-    first, second = _line(was), _line(now)
+    first, second = str(was), str(now)
     at = next((k for k, (one, other) in enumerate(zip(first, second)) if one != other), min(len(first), len(second)))
     return _cut(first, at), _cut(second, at)
-
-
-def _line(call: Any) -> str:
-    if isinstance(call, bytes):
-        return call.decode(errors="backslashreplace")
-    return str(call) if isinstance(call, FileCall) else line_of(*call)
 
 
 def _cut(line: str, at: int) -> str:

@@ -1,25 +1,45 @@
-"""The calls of files, their replies, and their lines in a report."""
+"""The calls of files, their replies, and their lines (docs/FORMATS.md, "The script of files")."""
 
 from __future__ import annotations
 
-import errno
 import re
+from ctypes import create_string_buffer
+from functools import lru_cache
 from typing import Any, List, NamedTuple, Optional, Tuple
 
-from .foreign_files import REFUSALS, REPLACES, Refusal
-from .grammar import hex_of
+from .errors import BadLine
+from .foreign import Asked, check, function
+from .foreign_files import EXCHANGES, KINDS, REFUSES, REPLACES, Refusal
+from .foreign_files import refusal_of as refusal_of
+from .grammar import unhex
+from .shapes import MAX
 
-# A text of a path in a line: printable ASCII but the space, the number sign and the backslash.
-_PLAIN = re.compile(rb"[!\"$-\[\]-~]+")
-_HOW = ("", " noreplace", " exchange")
-# The calls with one path, with two, with a number, and with none.
-_ON_PATH = frozenset(("create", "open", "open_truncated", "unlink", "mkdir", "rmdir", "listdir", "fsync_directory", "find"))
+# What the arguments of each call are, in order: a path or a name, the second one, the number of the call, its first number, a file by its
+# descriptor or its path, an offset or a length, bytes, and what a rename does.
+FORMS = {
+    **dict.fromkeys(("create", "open", "open_truncated", "unlink", "mkdir", "rmdir", "listdir", "find", "fsyncdir"), "path"),
+    **dict.fromkeys(("create_at", "unlink_at", "mkdir_at", "rmdir_at", "find_at"), "number path"),
+    **dict.fromkeys(("close", "open_inode", "open_inode_truncated", "listdir_at", "fsyncdir_at", "inode_of"), "number"),
+    **dict.fromkeys(("size", "fsync", "fdatasync"), "file"),
+    **dict.fromkeys(("sync", "settle", "commit", "crash"), ""),
+    "truncate": "file first",
+    "read": "file first last",
+    "write": "file first bytes",
+    "link": "path to",
+    "link_at": "first number path",
+    "rename": "path to how",
+    "rename_at": "number path first to how",
+}
+SETTINGS = frozenset(("profile", "edits", "config", "keep", "space", "failed_sync", "syncs", "failed_write"))
+_HOW = {"": REPLACES, "noreplace": REFUSES, "exchange": EXCHANGES}
+# A path as one token: printable ASCII but the space, the number sign and the backslash, and `\xNN` for any other byte.
+PATH = re.compile(r'""|(?:[!-\[\]-~]|\\x[0-9a-fA-F]{2})+')
+_ESCAPED = re.compile(rb"\\x([0-9a-fA-F]{2})")
 _OPENS = frozenset(("create", "open", "open_truncated"))
-_ON_NUMBER = frozenset(("close", "size", "fsync", "fdatasync"))
 
 
 class FileCall(NamedTuple):
-    """A call: a word, and what it takes. A write has its bytes in `path`."""
+    """A call: a word, and what it takes. A write has its bytes in `path`. If `is_by_path`, the call opens and closes the file `to`."""
 
     word: str
     number: int = 0
@@ -27,23 +47,16 @@ class FileCall(NamedTuple):
     last: int = 0
     path: bytes = b""
     to: bytes = b""
+    is_by_path: bool = False
 
     def __str__(self) -> str:
-        if self.word in _ON_PATH:
-            word = "fsyncdir" if self.word == "fsync_directory" else self.word
-            return f"{word} {path_text(self.path)}"
-        if self.word in _ON_NUMBER:
-            return f"{self.word} {self.number}"
-        if self.word == "write":
-            return f"write {self.number} {self.first} {hex_of(self.path)}"
-        if self.word == "read":
-            return f"read {self.number} {self.first} {self.last}"
-        if self.word == "truncate":
-            return f"truncate {self.number} {self.first}"
-        if self.word in ("link", "rename"):
-            how = _HOW[self.first] if self.first != REPLACES else ""
-            return f"{self.word} {path_text(self.path)} {path_text(self.to)}{how}"
-        return self.path.decode() if self.word == "configure" else self.word
+        """The line of the call, by the library."""
+        if self.word == "configure":
+            return self.path.decode()
+        asked, room = Asked(KINDS[self.word], self.number, self.first, self.last), create_string_buffer(128 + 4 * len(self.path + self.to))
+        ran = function("files_line_of")(asked, self.path, len(self.path), self.to, len(self.to), room, len(room))
+        check(ran.status)
+        return room.raw[: ran.len].decode()
 
 
 class Found(NamedTuple):
@@ -80,11 +93,9 @@ def _runs(digits: str) -> str:
     return f"{', '.join(runs) or 'none'} of {len(digits)}"
 
 
-def path_text(path: bytes) -> str:
-    """A path as one token of a line, with `\\xNN` for a byte that isn't printable ASCII, a space, a number sign or a backslash."""
-    if _PLAIN.fullmatch(path):
-        return path.decode()
-    return "".join(chr(byte) if _PLAIN.fullmatch(bytes([byte])) else f"\\x{byte:02x}" for byte in path) or '""'
+def _path(token: str) -> bytes:
+    """The bytes of a path or a name."""
+    return b"" if token == '""' else _ESCAPED.sub(lambda found: bytes([int(found[1], 16)]), token.encode())
 
 
 def reply_text(asked: FileCall, reply: Any) -> str:
@@ -94,6 +105,48 @@ def reply_text(asked: FileCall, reply: Any) -> str:
     return f" # is {reply.number}" if asked.word in _OPENS else ""
 
 
-def refusal_of(status: int) -> Refusal:
-    """The refusal of a status."""
-    return REFUSALS.get(status) or Refusal(f"Refusal{status}", errno.EIO, "the layer refused the call")
+def is_setting(line: str) -> bool:
+    """Whether a line is a setting."""
+    return line.split(None, 1)[0] in SETTINGS
+
+
+@lru_cache(maxsize=4096)
+def file_line(line: str) -> FileCall:
+    """The call of a line that is no comment. Raises `BadLine`."""
+    if is_setting(line):
+        return FileCall("configure", path=line.encode())
+    word, *arguments = without_comment(line.split())
+    forms = FORMS[word].split() if word in FORMS else []
+    if forms[-1:] == ["how"] and len(arguments) == len(forms) - 1:
+        arguments.append("")
+    if word not in FORMS or len(arguments) != len(forms):
+        raise BadLine(f"bad call: {line}")
+    fields: Any = {}
+    try:
+        for form, argument in zip(forms, arguments):
+            fields.update(_field(form, argument, word))
+    except (KeyError, ValueError):
+        raise BadLine(f"bad call: {line}") from None
+    return FileCall(word, **fields)
+
+
+def _field(form: str, argument: str, word: str) -> Any:
+    """The fields of a call that an argument gives."""
+    if form in ("path", "to"):
+        return {form: _path(argument)}
+    if form == "bytes":
+        return {"path": unhex(argument)}
+    if form == "how":
+        return {"first" if word == "rename" else "last": _HOW[argument]}
+    if form == "file" and not argument.isdigit():
+        return {"to": _path(argument), "is_by_path": True}
+    number = int(argument)
+    if not argument.isascii() or not argument.isdigit() or number > MAX:
+        raise ValueError(argument)
+    return {"number" if form == "file" else form: number}
+
+
+def without_comment(tokens: List[str]) -> List[str]:
+    """The tokens before a comment at the end of the line."""
+    at = next((k for k, token in enumerate(tokens) if token.startswith("#")), len(tokens))
+    return tokens[:at]

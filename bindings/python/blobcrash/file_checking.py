@@ -2,24 +2,20 @@
 
 from __future__ import annotations
 
-import re
 from typing import List, Optional
 
 from .errors import BadLine
-from .file_lines import FORMS, SETTINGS, file_line
+from .file_calls import FORMS, PATH, SETTINGS, file_line, without_comment
 from .file_settings import PROFILES, file_setting_tokens
-from .shapes import reason_of, shown, unknown
+from .shapes import DIGITS, reason_of, shown, unknown, unmet
 
 _NAMES = {"path": "PATH", "to": "TO", "how": "[noreplace|exchange]", "number": "NUMBER", "first": "NUMBER", "last": "LENGTH", "file": "FILE",
           "bytes": "HEX"}
-_DIGITS = re.compile(r"[0-9]+")
-_PATH = re.compile(r'""|(?:[!-\[\]-~]|\\x[0-9a-fA-F]{2})+')
-_HEX = re.compile(r"-|([0-9a-fA-F]{2})+")
 
 
 def file_reason_of(tokens: List[str]) -> Optional[str]:
     """Returns why these tokens, at least one, aren't a call, a setting or a preamble line of a script of files; `None` if they are."""
-    tokens = _without_comment(tokens)
+    tokens = without_comment(tokens)
     word, arguments = tokens[0], tokens[1:]
     if word in ("words", "seed", "config"):
         return reason_of(tokens)
@@ -60,19 +56,8 @@ def _wrong_arguments(word: str, arguments: List[str]) -> Optional[str]:
 
 def _unmet(form: str, argument: str) -> Optional[str]:
     """What an argument must be, if it isn't that."""
-    if form == "bytes":
-        return None if _HEX.fullmatch(argument) else "bytes are hex, two digits each, or `-` for none"
     if form == "how":
         return None if argument in ("noreplace", "exchange") else "a rename ends in `noreplace`, `exchange` or nothing"
-    if form in ("path", "to") or (form == "file" and not _DIGITS.fullmatch(argument)):
-        return None if _PATH.fullmatch(argument) else "in a path, a byte that isn't printable ASCII, and a backslash, is `\\xNN`"
-    if not _DIGITS.fullmatch(argument):
-        return f"{'a length or an offset' if form == 'last' else 'this'} is a number"
-    digits = argument.lstrip("0") or "0"
-    return f"the greatest number is {2**64 - 1}" if len(digits) > 20 or int(digits) >= 2**64 else None
-
-
-def _without_comment(tokens: List[str]) -> List[str]:
-    """The tokens before a comment at the end of the line."""
-    at = next((k for k, token in enumerate(tokens) if token.startswith("#")), len(tokens))
-    return tokens[:at]
+    if form in ("path", "to") or (form == "file" and not DIGITS.fullmatch(argument)):
+        return None if PATH.fullmatch(argument) else "in a path, a byte that isn't printable ASCII, and a backslash, is `\\xNN`"
+    return unmet(form, argument)

@@ -17,7 +17,7 @@ ALL = "all"
 # What the files of a search begin with, as a mount does, if no setting is one of writes: a crash keeps half of the unsynced sectors.
 TORN_WRITES = "write 0 1 1 2 sectors 512"
 # The switches with what each may be.
-_SWITCHES = {"failed_sync": ("keeps", "drops"), "syncs": ("honest", "lie"), "failed_write": ("mode", "prefix")}
+_SWITCHES = {"edits": ("prefix", "any"), "failed_sync": ("keeps", "drops"), "syncs": ("honest", "lie"), "failed_write": ("mode", "prefix")}
 
 
 def profile_of(profile: Any) -> str:

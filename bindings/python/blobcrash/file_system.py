@@ -3,23 +3,21 @@
 from __future__ import annotations
 
 import os
-from threading import get_ident
-from typing import Any, Callable, Dict, Iterable, List, NamedTuple, Optional, Tuple, TypeVar, Union
+from typing import Any, Callable, Dict, Iterable, List, NamedTuple, Optional
 
-from .errors import BadLine, Interrupted, NeedsSeed, NotMade, WrongThread
+from .errors import NeedsSeed
 from .file_calls import FileCall, Kept, reply_text
 from .file_errors import error_of
 from .file_library import files_way
 from .file_paths import Path, bytes_of, check_link, check_one, check_rename, is_plain, is_root, named
-from .file_power import FileSupply
 from .file_settings import Profile, file_setting_line, profile_of
 from .foreign_files import EXCHANGES, IS_DIRECTORY, REFUSES, REPLACES, Refusal
-from .grammar import comment_lines, number, text_of
+from .grammar import number
 from .open_file import OpenFile, plain_mode
-from .power import PowerLoss, Supply
-from .unkept_files import FOLLOWED, UnsyncedFiles
+from .power import PowerLoss
+from .session import Session
+from .unkept import Unsynced
 
-_Own = TypeVar("_Own", bound="Files")
 # The refusals by which a path has no file.
 _MISSING = frozenset(("NotFound", "NotDirectory", "InvalidName", "NameTooLong"))
 
@@ -32,7 +30,7 @@ class FileStatus(NamedTuple):
     inode: int
 
 
-class Files:
+class Files(Session):
     """A file system of its own, in memory. A crash keeps only some of the bytes, changes of names and truncations that nothing made
     durable.
 
@@ -48,6 +46,9 @@ class Files:
     argument that is none.
     """
 
+    _named = ("files belong to the thread that made them", "the files are", "the files")
+    _of_files = True
+
     def __init__(
         self,
         seed: Optional[int] = None,
@@ -59,59 +60,18 @@ class Files:
     ) -> None:
         if isinstance(settings, str):
             raise TypeError("settings are a list of texts")
-        self._words = [number(word, "a word") for word in words]
-        lines = [] if seed is None else [f"seed {number(seed, 'a seed')}"]
+        super().__init__(words)
         self._has_draws = bool(self._words) or seed is not None
-        self._unsynced = UnsyncedFiles()
-        lines.append(f"profile {profile_of(profile)}")
+        self._unsynced = Unsynced()
+        self._lines = [*([] if seed is None else [f"seed {number(seed, 'a seed')}"]), f"profile {profile_of(profile)}"]
         # Whether a crash draws for edits: by the rate 1/2, if no setting says another one.
         self._draws_edits = True
-        lines += [self._setting_line(setting) for setting in settings]
-        # The script: a line or a note as its text, and a call with what its line says of the reply.
-        self._lines: List[Union[str, Tuple[FileCall, str]]] = list(lines)
+        self._lines += [self._setting_line(setting) for setting in settings]
         # The files that were opened and not closed, by their descriptors.
         self._opened: Dict[int, OpenFile] = {}
         # How often `restart` has ended a process.
         self._restarts = 0
-        self._thread = get_ident()
-        # Whether a call can't be made: one is under way, or was cut short, or the files are closed.
-        self._busy = False
-        self._closed = False
-        self._cause: Optional[BaseException] = None
-        self._layer = files_way(by)("\n".join([*self._words_line(), *lines, ""]).encode())
-
-    def __enter__(self: _Own) -> _Own:
-        return self
-
-    def __exit__(self, *_: object) -> None:
-        self.close()
-
-    def close(self) -> None:
-        """Ends the file system. Calls of it and of its files then raise `ValueError`."""
-        if get_ident() != self._thread:
-            raise self._unusable()
-        self._busy = self._closed = True
-        self._opened.clear()
-        self._layer.close()
-
-    @property
-    def script(self) -> List[str]:
-        """The lines of all calls, as `blobcrash files` reads them, and notes. A comment says which descriptor a call opened, or the name
-        of its refusal."""
-        lines = self._words_line()
-        for line in self._lines:
-            if isinstance(line, str):
-                lines.append(line)
-            else:
-                lines.append(f"{line[0]}{line[1]}")
-        return lines
-
-    def _words_line(self) -> List[str]:
-        return ["words " + " ".join(map(str, self._words))] if self._words else []
-
-    def note(self, text: str) -> None:
-        """Adds a comment to the script, a line for each of the text's."""
-        self._lines += comment_lines(text_of(text, "a note"))
+        self._layer = files_way(by)("\n".join([*self.script, ""]).encode())
 
     def open(self, path: Path, mode: str = "rb") -> OpenFile:
         """Opens a file, by a mode of `open` with a `b`, as an unbuffered file object.
@@ -221,7 +181,7 @@ class Files:
 
     def fsync_directory(self, path: Path) -> None:
         """Makes the changes of a directory's names durable, and more if the profile says so."""
-        self._on("fsync_directory", path)
+        self._on("fsyncdir", path)
 
     def sync(self) -> None:
         """Makes the bytes of all files and all names durable."""
@@ -254,30 +214,14 @@ class Files:
         self._restarts += 1
         return kept
 
-    def crash_after(self, calls: int) -> None:
-        """Turns the power off after `calls` more calls that may change what a crash leaves.
-
-        These are all but opens and closes of what is there, reads and look-ups. From then on every call raises `PowerLoss`, except
-        `configure`, until the next crash, as by `restart`.
-        """
-        calls = number(calls, "a number of calls")
-        self._check()
-        if not isinstance(self._layer, Supply):
-            self._layer = FileSupply(self._layer)
-        self._layer.cut_after(calls)
-
     def recover(self, step: Callable[..., Any], *arguments: Any) -> Any:
         """Restarts, calls `step` and returns what that returns. Does both again if the power fails meanwhile."""
-        while True:
-            self.restart()
-            try:
-                return step(*arguments)
-            except PowerLoss:
-                pass
+        return self._recover(self.restart, step, arguments)
 
     def configure(self, setting: str) -> None:
         """Makes a setting: a rate as of `Store.configure`, of calls on files; `keep N D`, how often a crash keeps an edit that nothing
-        settled, a change of names or a truncation, 1/2 at first; `space BYTES FILES`, how many bytes and files there may be; or a switch, of
+        settled, a change of names or a truncation, 1/2 at first; `edits prefix` or `any`, which of them a crash may keep, in place of what
+        the profile says; `space BYTES FILES`, how many bytes and files there may be; or a switch, of
         which the first is set at first: `failed_sync keeps` or `drops`, `syncs honest` or `lie`, `failed_write mode` or `prefix`
         (docs/FILES.md).
 
@@ -313,7 +257,7 @@ class Files:
     def _on_file(self, word: str, file: OpenFile) -> None:
         if not isinstance(file, OpenFile) or file._files is not self:
             raise TypeError(f"{word} takes a file that these files have opened")
-        file._check_open()
+        file._check()
         file._ask(word)
 
     def _has(self, name: bytes) -> bool:
@@ -337,7 +281,7 @@ class Files:
     def _close(self, descriptor: int, path: Path) -> None:
         """Closes a file, unless it is stale or no call can be made."""
         opened = self._opened.pop(descriptor, None)
-        if opened is None or self._busy:
+        if opened is None or self._owner is None:
             return
         try:
             self._call(FileCall("close", descriptor), path)
@@ -345,46 +289,18 @@ class Files:
             if error.is_first:
                 raise
 
-    def _check(self) -> None:
-        if self._busy or get_ident() != self._thread:
-            raise self._unusable()
+    def _shown(self, asked: FileCall, reply: Any) -> Any:
+        text = reply_text(asked, reply)
+        return (asked, text) if text else asked
 
-    def _unusable(self) -> Exception:
-        if get_ident() != self._thread:
-            return WrongThread("files belong to the thread that made them")
-        if self._closed:
-            return ValueError("the files are closed")
-        error = Interrupted("an earlier call was cut short, so its reply is lost: the files can't be used any more")
-        error.__cause__ = self._cause
-        return error
+    def _made(self) -> Iterable[Any]:
+        return (f"{made[0]}{made[1]}" if type(made) is tuple else made for made in self._lines)
 
     def _call(self, asked: FileCall, path: Any = None, is_shown: bool = True, to: Any = None) -> Any:
         """Makes a call, and returns its reply. Raises the error of a refusal, which names the paths."""
-        if self._busy or get_ident() != self._thread:
-            raise self._unusable()
-        self._busy = True
-        try:
-            reply = self._layer.call(asked)
-        except BaseException as error:
-            self._ended(asked, error, is_shown)
-            raise
-        self._busy = False
-        if is_shown:
-            self._lines.append((asked, reply_text(asked, reply)))
+        reply = self._apply(asked, is_shown)
         if isinstance(reply, Refusal):
             raise error_of(reply, path, to)
-        if asked.word in FOLLOWED:
-            self._unsynced.take(asked, self._layer)
+        if self._is_search:
+            self._unsynced.take_of_files(asked, self._layer)
         return reply
-
-    def _ended(self, asked: FileCall, error: BaseException, is_shown: bool) -> None:
-        """Notes a call that has no reply. One that may have been made ends the files."""
-        if isinstance(error, PowerLoss):
-            self._lines += ["# power loss"] if error.is_first else []
-            self._busy = False
-        elif isinstance(error, (BadLine, NotMade)):
-            self._busy = False
-        else:
-            self._lines += [(asked, "")] if is_shown else []
-            # Only of a call that ends the files: its traceback has objects of the code under test, which must not outlive their run.
-            self._cause = error

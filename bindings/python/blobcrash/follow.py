@@ -2,15 +2,19 @@
 
 from __future__ import annotations
 
-from typing import Any, Iterable, List, Optional, Tuple
+from typing import Any, Callable, Iterable, List, Optional, Tuple
 
-from .bounds import BoundedStore, Bounds
+from .bounds import Bounded, Bounds, RunEnded
+from .calls import Call, Reply
+from .file_library import files_way
+from .file_settings import torn_unless_set
+from .file_system import Files
 from .grammar import MAX, number_of_branches
 from .layers import Library
 from .met import Met, State, blobs_of, durable_blobs, frozen, place, settings_of
 from .paths import CHOICE, DRAW, POWER, SIZE, Choice, draws_of
-from .power import Supply
-from .shared import Shared
+from .power import PowerLoss, Supply
+from .store import Store
 from .traversal import Traversal
 
 
@@ -28,6 +32,18 @@ class NotDeterministic(RuntimeError):
 
 class MoreWords(BaseException):
     """A run took all words that it was given. It has to be made again, with more."""
+
+
+def called(body: Callable[..., Any], store: Any) -> Tuple[Any, Optional[BaseException]]:
+    """Calls a body with the store of its run, and closes that. Returns what it returned, and what it raised."""
+    try:
+        return body(store), None
+    except (Exception, PowerLoss) as error:
+        return None, error
+    except (MoreWords, RunEnded):
+        return None, None
+    finally:
+        store.close()
 
 
 class Run:
@@ -130,58 +146,42 @@ class _Followed:
     def __init__(self, layer: Any, run: Run) -> None:
         self._layer = layer
         self._run = run
-        self._left = layer.words_left if run.seed is None else None
 
-    def call(self, line: bytes) -> Any:
-        self._run.calls.append(line)
-        tokens = line.split() if self._left is not None else []
-        if len(tokens) == 3 and tokens[0] == b"resize" and tokens[1].isdigit() and int(tokens[1]) <= MAX:
-            return self._resize(line, tokens)
-        reply = self._layer.call(line)
-        self._count()
+    def apply(self, asked: Any) -> Any:
+        """Makes a call. If a resize of a blob fails and the size is another one, that was drawn from those between the old one and the
+        new."""
+        run, sizes = self._run, 0
+        run.calls.append(asked)
+        if run.seed is not None:
+            return self._layer.apply(asked)
+        before = self._layer.apply(Call("size", asked.number)) if asked.word == "resize" else None
+        reply = self._layer.apply(asked)
+        if type(before) is int and reply == Reply("error Injected"):
+            after = self._layer.apply(Call("size", asked.number))
+            sizes = 0 if after == before else abs(asked.first - before) - 1
+        run.count(self._layer.words_left(), sizes)
         return reply
-
-    def _resize(self, line: bytes, tokens: List[bytes]) -> Any:
-        """Makes the call of a resize. If it fails and the size is another one, that was drawn from those between the old one and the new."""
-        before = self._size(tokens[1])
-        reply = self._layer.call(line)
-        after = self._size(tokens[1]) if reply == b"error Injected" else before
-        self._count(0 if after == before else abs(int(tokens[2]) - before) - 1)
-        return reply
-
-    def _size(self, handle: bytes) -> int:
-        reply = self._layer.call(b"size " + handle)
-        return int(reply[5:]) if reply.startswith(b"size ") else -1
-
-    def read(self, handle: int, offset: int, length: int) -> Any:
-        self._run.calls.append((handle, offset, length))
-        found = self._layer.read(handle, offset, length)
-        self._count()
-        return found
-
-    def write(self, handle: int, offset: int, data: bytes, sync: bool = False) -> Any:
-        self._run.calls.append((handle, offset, data, sync))
-        found = self._layer.write(handle, offset, data, sync)
-        self._count()
-        return found
-
-    def close(self) -> Any:
-        return self._layer.close()
 
     def state(self, images: Iterable[Tuple[str, bytes, bytes]]) -> State:
         """The durable bytes of all blobs, and the settings."""
         calls = self._run.calls
-        return durable_blobs(self._layer, blobs_of(calls, images)), settings_of(calls), calls.count(b"crash"), self._run.losses
+        crashes = sum(call.word == "crash" for call in calls)
+        return durable_blobs(self._layer, blobs_of(calls, images)), settings_of(calls), crashes, self._run.losses
 
-    def _count(self, sizes: int = 0) -> None:
-        if self._left is not None:
-            self._run.count(self._left(), sizes)
+    def __getattr__(self, name: str) -> Any:
+        return getattr(self._layer, name)
 
 
-class OnPath(Shared):
+class OnPath(Bounded):
     """What the stores and the files of explored runs share. It stands before the class that makes the calls."""
 
+    _is_search = True
     _run: Run
+
+    def _follow_run(self, run: Run, way: Any) -> Any:
+        """Takes a run. Returns the way of its calls, over another one."""
+        self._run, self._bounds = run, run.bounds
+        return lambda preamble: Supply(_Followed(way(preamble), run), self._of_files, run.fails if run.losses else None)
 
     @property
     def script(self) -> List[str]:
@@ -206,23 +206,15 @@ class OnPath(Shared):
         return super()._unusable()
 
 
-class ExploredStore(OnPath, BoundedStore):
+class ExploredStore(OnPath, Store):
     """The store of one run."""
 
     def __init__(
         self, run: Run, settings: Iterable[str], images: Iterable[Tuple[str, bytes, bytes]], by: Any = None, allow_stale: bool = False
     ) -> None:
-        self._run = run
-        self._bounds = run.bounds
         self._images = images
-
-        def way(preamble: bytes) -> Supply:
-            return Supply(_Followed((by or Library)(preamble), run), run.fails if run.losses else None)
-
-        if run.seed is None:
-            super().__init__(words=run.words, settings=settings, images=images, by=way, allow_stale=allow_stale)
-        else:
-            super().__init__(run.seed, settings=settings, images=images, by=way, allow_stale=allow_stale)
+        way, words = self._follow_run(run, by or Library), run.words if run.seed is None else ()
+        super().__init__(run.seed, words=words, settings=settings, images=images, by=way, allow_stale=allow_stale)
 
     def _expect(self, value: Any) -> None:
         # With a seed what follows depends on how many words were drawn.
@@ -232,3 +224,11 @@ class ExploredStore(OnPath, BoundedStore):
     def push_words(self, words: Iterable[int]) -> None:
         """Raises `ValueError`: the words of a run are those of its path."""
         raise ValueError("the words of an explored run are given by its path")
+
+
+class ExploredFiles(OnPath, Files):
+    """The files of one run."""
+
+    def __init__(self, run: Run, settings: Iterable[str], profile: Any, by: Any = None) -> None:
+        way, words = self._follow_run(run, files_way(by)), run.words if run.seed is None else ()
+        super().__init__(run.seed, profile=profile, words=words, settings=torn_unless_set(settings), by=way)

@@ -1,13 +1,13 @@
-"""The functions of the shared library, for `ctypes`: bindings/c/blobcrash.h."""
+"""The functions of the shared library, for `ctypes`: bindings/c/blobcrash.h and blobcrash_files.h."""
 
 from __future__ import annotations
 
 import ctypes
 import os
 import subprocess
-from typing import Optional
+from typing import Any, Optional
 
-from .errors import LibraryMissing
+from .errors import LibraryMissing, NotMade
 
 _HERE = os.path.dirname(os.path.abspath(__file__))
 # The top of the repository that this package lies in, if it lies in one.
@@ -21,9 +21,32 @@ BUILT = os.path.join(TOP, "out", "libblobcrash.so")
 # How a call ended. tests/c_numbers.py compares each of these numbers with the C header.
 DONE, ENDLESS, BAD_LINE, NO_MEMORY, NO_ROOM, CLOSED, OTHER_REPLY, UNPRINTED = range(8)
 E_BLOB_MISSING = 20
+# The kinds of typed calls of stores by their words in a script. A `remove` without a name removes a partition.
+KINDS = {
+    "open": 0,
+    "loose": 1,
+    "admit": 2,
+    "close": 3,
+    "resize": 4,
+    "size": 5,
+    "sync": 6,
+    "startsync": 7,
+    "finish": 8,
+    "remove": 9,
+    "scan": 11,
+    "crash": 12,
+    "reopen": 13,
+    "read": 14,
+    "write": 15,
+    "writes": 16,
+    "config": 17,
+}
+REMOVE_PARTITION = 10
 
 
 class Session(ctypes.Structure):
+    """A session of a store, or of files."""
+
     _fields_ = [("at", ctypes.c_void_p), ("is_open", ctypes.c_bool)]
 
 
@@ -33,6 +56,30 @@ class Ran(ctypes.Structure):
 
 class ScriptRan(ctypes.Structure):
     _fields_ = [("status", ctypes.c_uint32), ("len", ctypes.c_size_t), ("line", ctypes.c_uint64)]
+
+
+class Asked(ctypes.Structure):
+    """A typed call of a store, or of files, without its bytes."""
+
+    _fields_ = [("kind", ctypes.c_uint32), ("number", ctypes.c_uint64), ("first", ctypes.c_uint64), ("last", ctypes.c_uint64)]
+
+
+class TypedReply(ctypes.Structure):
+    _fields_ = [("status", ctypes.c_uint32), ("version", ctypes.c_uint32), ("number", ctypes.c_size_t), ("size", ctypes.c_uint64)]
+
+
+class FileReply(ctypes.Structure):
+    _fields_ = [("status", ctypes.c_uint32), ("kind", ctypes.c_uint32), ("number", ctypes.c_uint64), ("size", ctypes.c_uint64)]
+
+
+class KeptRun(ctypes.Structure):
+    _fields_ = [
+        ("status", ctypes.c_uint32),
+        ("write", ctypes.c_uint64),
+        ("bytes", ctypes.c_size_t),
+        ("start", ctypes.c_size_t),
+        ("len", ctypes.c_size_t),
+    ]
 
 
 class Choice(ctypes.Structure):
@@ -46,6 +93,53 @@ class Explorer(ctypes.Structure):
 class Branch(ctypes.Structure):
     _fields_ = [("status", ctypes.c_uint32), ("branch", ctypes.c_uint64)]
 
+
+_session, _asked, _words = ctypes.POINTER(Session), ctypes.POINTER(Asked), ctypes.POINTER(ctypes.c_uint64)
+_size, _text, _room, _status = ctypes.c_size_t, ctypes.c_char_p, ctypes.c_void_p, ctypes.c_uint32
+_bytes, _number, _explorer, _choices = (_text, _size), ctypes.c_uint64, ctypes.POINTER(Explorer), ctypes.POINTER(Choice)
+# What each function returns, and takes after a session.
+_OF_SESSIONS = {
+    "open": (ScriptRan, *_bytes),
+    "call": (Ran, *_bytes, _room, _size),
+    "reply": (Ran, _room, _size),
+    "apply": (TypedReply, _asked, *_bytes, *_bytes),
+    "name": (Ran, _size, _room, _size),
+    "durable_blob": (Ran, *_bytes, *_bytes, ctypes.c_bool, _room, _size),
+    "write": (_status, _size, _number, *_bytes, ctypes.c_bool),
+    "read": (_status, _size, _number, _room, _size),
+    "words_left": (Ran,),
+    "push_words": (_status, _words, _size),
+    "close": (None,),
+    "files_open": (ScriptRan, *_bytes),
+    "files_configure": (_status, *_bytes),
+    "files_apply": (FileReply, _asked, *_bytes, *_bytes),
+    "files_write": (_status, _number, _number, *_bytes),
+    "files_read": (Ran, _number, _number, _room, _size),
+    "files_name": (FileReply, _size, _room, _size),
+    "files_kept_run": (KeptRun, _size, _size),
+    "files_kept_place": (FileReply, _size),
+    "files_kept_edit": (Ran, _size),
+    "files_words_left": (Ran,),
+    "files_push_words": (_status, _words, _size),
+    "files_close": (None,),
+}
+# The same of the other functions, with all that they take.
+_OTHERS = {
+    "effect": (_status, _status),
+    "files_effect": (_status, _status),
+    "word": (Ran, _status, _status, _room, _size),
+    "line_of": (Ran, _asked, *_bytes, *_bytes, _room, _size),
+    "files_line_of": (Ran, _asked, *_bytes, *_bytes, _room, _size),
+    "run": (ScriptRan, *_bytes, _room, _size),
+    "explain": (ScriptRan, *_bytes, _room, _size),
+    "explorer_begin": (None, _explorer, _size),
+    "explorer_choose": (Branch, _explorer, _choices, _size, _status, _number),
+    "explorer_count": (_status, _explorer, _choices, _size, _size),
+    "explorer_count_size": (_status, _explorer, _choices, _size, _size, _number),
+    "explorer_end": (ctypes.c_bool, _explorer),
+    "explorer_next": (ctypes.c_bool, _explorer, _choices, _size),
+}
+_TYPES = {**{name: (result, _session, *taken) for name, (result, *taken) in _OF_SESSIONS.items()}, **_OTHERS}
 
 _functions: Optional[ctypes.CDLL] = None
 
@@ -76,29 +170,48 @@ def is_proved() -> bool:
 
 
 def loaded() -> ctypes.CDLL:
-    """Returns the functions. The first call loads the library.
-
-    `open`, `call`, `read`, `write` and `close` have no `argtypes`: with these a call takes nearly twice as long. So each argument has to be
-    of the right type already. Pass a session and a buffer by `byref`, bytes as `bytes`, and a number as an object of its C type. Without
-    `argtypes` a Python number is passed as an `int`, and a `str` as wide characters.
-    """
+    """Returns the functions. The first call loads the library."""
     global _functions
     if _functions is None:
         try:
-            functions = ctypes.CDLL(_current())
+            _functions = ctypes.CDLL(_current())
         except OSError as error:
             raise LibraryMissing(f"{error}: build it with `sh bindings/build.sh`, or name its file in BLOBCRASH_LIBRARY") from None
-        size = ctypes.c_size_t
-        functions.blobcrash_open.restype = ScriptRan
-        functions.blobcrash_call.restype = Ran
-        functions.blobcrash_read.restype = functions.blobcrash_write.restype = ctypes.c_uint32
-        functions.blobcrash_close.restype = None
-        functions.blobcrash_reply.restype = Ran
-        functions.blobcrash_reply.argtypes = [ctypes.POINTER(Session), ctypes.c_void_p, size]
-        # A library of an earlier version has no `blobcrash_explain`.
-        for whole in (functions.blobcrash_run, getattr(functions, "blobcrash_explain", None)):
-            if whole is not None:
-                whole.restype = ScriptRan
-                whole.argtypes = [ctypes.c_char_p, size, ctypes.c_void_p, size]
-        _functions = functions
     return _functions
+
+
+def function(name: str) -> Any:
+    """Returns a function, with the types of its result and its arguments. Raises `LibraryMissing` if an earlier library lacks it."""
+    try:
+        found = getattr(loaded(), f"blobcrash_{name}")
+    except AttributeError:
+        raise LibraryMissing(f"{library()} has no blobcrash_{name}: build it with `sh bindings/build.sh`") from None
+    if found.argtypes is None:
+        found.restype, found.argtypes = _TYPES[name][0], _TYPES[name][1:]
+    return found
+
+
+def untyped(name: str) -> Any:
+    """Returns a function that returns a status, without the types of its arguments: so a call takes half as long. It keeps the
+    interpreter's lock.
+
+    Pass a session and a buffer by `byref`, bytes as `bytes`, and a number below 2^31 as it is: it is passed as an `int`, which libffi
+    extends to the 64 bits of its register. Pass a greater one as a `c_uint64`.
+    """
+    found = ctypes.PyDLL(None, handle=loaded()._handle)[f"blobcrash_{name}"]
+    found.restype = ctypes.c_uint32
+    return found
+
+
+def check(status: int, what: str = "store is") -> None:
+    """Raises the error of a status other than DONE that isn't a refusal."""
+    if status == CLOSED:
+        raise ValueError(f"the {what} closed")
+    if status == NO_MEMORY:
+        raise NotMade
+    if status == ENDLESS:
+        raise ValueError("a seed gives words without end")
+    if status in (NO_ROOM, UNPRINTED):
+        raise MemoryError
+    if status != DONE:
+        raise RuntimeError(f"the library returned the status {status}")

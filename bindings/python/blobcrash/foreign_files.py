@@ -1,13 +1,9 @@
-"""The functions of the shared library for files, for `ctypes`: bindings/c/blobcrash_files.h."""
+"""The numbers of calls on files, and their refusals: bindings/c/blobcrash_files.h."""
 
 from __future__ import annotations
 
-import ctypes
 import errno
-from typing import Dict, NamedTuple, Optional
-
-from .errors import LibraryMissing
-from .foreign import Ran, ScriptRan, library, loaded
+from typing import Dict, NamedTuple
 
 # The kinds of calls by their words in a script. tests/files_header.py compares each of these numbers with the C header.
 KINDS = {
@@ -20,14 +16,27 @@ KINDS = {
     "mkdir": 6,
     "rmdir": 7,
     "listdir": 8,
-    "fsync_directory": 9,
+    "fsyncdir": 9,
     "find": 10,
+    "create_at": 16,
+    "link_at": 17,
+    "unlink_at": 18,
+    "rename_at": 19,
+    "mkdir_at": 20,
+    "rmdir_at": 21,
+    "listdir_at": 22,
+    "fsyncdir_at": 23,
+    "find_at": 24,
+    "open_inode": 25,
+    "open_inode_truncated": 26,
     "close": 32,
     "truncate": 33,
     "size": 34,
     "fsync": 35,
     "fdatasync": 36,
     "inode_of": 37,
+    "read": 38,
+    "write": 39,
     "sync": 48,
     "settle": 49,
     "crash": 50,
@@ -68,57 +77,6 @@ REFUSALS: Dict[int, Refusal] = {
 }
 
 
-class FilesSession(ctypes.Structure):
-    _fields_ = [("at", ctypes.c_void_p), ("is_open", ctypes.c_bool)]
-
-
-class AskedFile(ctypes.Structure):
-    _fields_ = [("kind", ctypes.c_uint32), ("number", ctypes.c_uint64), ("first", ctypes.c_uint64), ("last", ctypes.c_uint64)]
-
-
-class FileReply(ctypes.Structure):
-    _fields_ = [("status", ctypes.c_uint32), ("kind", ctypes.c_uint32), ("number", ctypes.c_uint64), ("size", ctypes.c_uint64)]
-
-
-class KeptRun(ctypes.Structure):
-    _fields_ = [
-        ("status", ctypes.c_uint32),
-        ("write", ctypes.c_uint64),
-        ("bytes", ctypes.c_size_t),
-        ("start", ctypes.c_size_t),
-        ("len", ctypes.c_size_t),
-    ]
-
-
-_files, _size, _text = ctypes.POINTER(FilesSession), ctypes.c_size_t, ctypes.c_char_p
-_number, _room = ctypes.c_uint64, ctypes.c_void_p
-# What each function returns and takes.
-_FUNCTIONS = {
-    "open": (ScriptRan, _files, _text, _size),
-    "configure": (ctypes.c_uint32, _files, _text, _size),
-    "apply": (FileReply, _files, ctypes.POINTER(AskedFile), _text, _size, _text, _size),
-    "write": (ctypes.c_uint32, _files, _number, _number, _text, _size),
-    "read": (Ran, _files, _number, _number, _room, _size),
-    "name": (FileReply, _files, _size, _room, _size),
-    "kept_run": (KeptRun, _files, _size, _size),
-    "kept_place": (FileReply, _files, _size),
-    "kept_edit": (Ran, _files, _size),
-    "words_left": (Ran, _files),
-    "close": (None, _files),
-}
-_has_types: Optional[bool] = None
-
-
-def loaded_files() -> ctypes.CDLL:
-    """Returns the functions, each with the types of its arguments. Raises `LibraryMissing` if the library is an earlier one."""
-    global _has_types
-    functions = loaded()
-    if not _has_types:
-        for name, (result, *arguments) in _FUNCTIONS.items():
-            try:
-                function = getattr(functions, "blobcrash_files_" + name)
-            except AttributeError:
-                raise LibraryMissing(f"{library()} has no blobcrash_files_{name}: build it with `sh bindings/build.sh`") from None
-            function.restype, function.argtypes = result, arguments
-        _has_types = True
-    return functions
+def refusal_of(status: int) -> Refusal:
+    """The refusal of a status."""
+    return REFUSALS.get(status) or Refusal(f"Refusal{status}", errno.EIO, "the layer refused the call")

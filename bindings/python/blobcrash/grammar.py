@@ -13,7 +13,7 @@ from typing import List, Optional, Tuple
 from .errors import BadLine
 from .shapes import LAST_VERSION as LAST_VERSION
 from .shapes import MAX as MAX
-from .shapes import misplaced, reason_of, shown, usual_tokens, value_of
+from .shapes import misplaced, reason_of, shown, value_of
 
 _NAME = re.compile(r"[A-Za-z0-9_-]+")
 # One token that is no partition name, so that a call with it makes the draw and gets the refusal of every such name.
@@ -71,14 +71,14 @@ def image_line(partition: str, name: bytes, data: bytes) -> str:
     return f"image {partition} {hex_of(data_of(name, 'a name'))} {hex_of(data_of(data, 'an image'))}"
 
 
-def versions_words(versions: Optional[Tuple[int, int]]) -> str:
-    """The tokens of a range of versions, each with a space before it."""
+def versions_of(versions: Optional[Tuple[int, int]]) -> Tuple[Optional[int], Optional[int]]:
+    """The first and the last version of a range, if there is one."""
     if versions is None:
-        return ""
+        return None, None
     if isinstance(versions, (str, bytes)) or len(versions) != 2:
         raise TypeError("versions are a pair: the first and the last one")
     first, last = versions
-    return f" {number(first, 'a version', LAST_VERSION)} {number(last, 'a version', LAST_VERSION)}"
+    return number(first, "a version", LAST_VERSION), number(last, "a version", LAST_VERSION)
 
 
 def comment_lines(text: str) -> List[str]:
@@ -116,18 +116,20 @@ def needs_draws(tokens: List[str]) -> bool:
     return is_partial or any(0 < top < bottom for top, bottom in pairs)
 
 
-def tokens_of(line: str) -> List[str]:
-    """The tokens of a line that is a call; none of an empty line and of a comment. Raises `BadLine` with the reason."""
-    usual = usual_tokens(line)
-    if usual is not None:
-        return usual
+def is_call(line: str) -> bool:
+    """Whether a line is neither empty nor a comment. Raises `BadLine` if it isn't one line of UTF-8."""
     if "\n" in line:
         raise BadLine(f"bad call: {line!r} is more than one line")
     if not _is_text(line):
         raise BadLine(f"bad call: {line!r} isn't UTF-8")
-    tokens = [token for token in line.split(" ") if token]
-    if not tokens or tokens[0].startswith("#"):
+    return line.strip(" ")[:1] not in ("", "#")
+
+
+def tokens_of(line: str) -> List[str]:
+    """The tokens of a line that is a call; none of an empty line and of a comment. Raises `BadLine` with the reason."""
+    if not is_call(line):
         return []
+    tokens = [token for token in line.split(" ") if token]
     why = misplaced(tokens[0]) if tokens[0] in ("image", "words", "seed") else reason_of(tokens)
     if why:
         raise BadLine(f"bad call: {why}; in {shown(line)}", why=why)

@@ -11,32 +11,21 @@ import signal
 import subprocess
 import weakref
 from contextlib import suppress
-from typing import Any, List, NamedTuple, Optional, Union
+from typing import Any, List, Optional, Union
 
-from .checking import check
-from .errors import BadLine, Interrupted, LibraryMissing, NotMade, ProgramEnded
-from .foreign import (
-    BAD_LINE,
-    CLOSED,
-    DONE,
-    ENDLESS,
-    INSIDE,
-    NO_MEMORY,
-    NO_ROOM,
-    TOP,
-    UNPRINTED,
-    Ran,
-    Session,
-    library,
-    loaded,
-)
-from .grammar import MAX, data_of, hex_of, unhex
+from .calls import Call, Line, Opened, Reply, made, reply_of
+from .checking import check as faults_of
+from .errors import BadLine, Interrupted, LibraryMissing, ProgramEnded
+from .foreign import BAD_LINE, DONE, INSIDE, KINDS, NO_ROOM, REMOVE_PARTITION, TOP, UNPRINTED, Asked, Ran, Session, check, function, untyped
+from .grammar import MAX, data_of
 
 _LINE_FEED = 10
-# The first buffer for replies, and its length and the two truth values as arguments of the library.
-_Room = ctypes.c_char * 4096
-_ROOM = ctypes.c_size_t.from_param(4096)
-_FALSE, _TRUE = ctypes.c_bool.from_param(False), ctypes.c_bool.from_param(True)
+# How many bytes the first buffer for replies has.
+_ROOM = 4096
+# The least status of a call that was made and refused.
+_FIRST_REFUSAL = 16
+# An untyped function takes numbers of this many bits as they are.
+INT_BITS = 31
 # `ctypes` takes a greater number modulo 2^64, without an error.
 _NO_NUMBER = "a handle, an offset and a length are numbers from 0 to 2^64 - 1"
 
@@ -51,28 +40,15 @@ def default_way() -> type:
     return Library if os.path.exists(INSIDE) else Program
 
 
-class Reply(NamedTuple):
-    """The reply line of a read or a write that failed."""
-
-    line: str
-
-
-def line_of(handle: int, offset: int, what: Any, sync: Optional[bool] = None) -> str:
-    """The line of a read, or of a write if `sync` is given."""
-    if sync is None:
-        return f"read {handle} {offset} {what}"
-    return f"{'writes' if sync else 'write'} {handle} {offset} {hex_of(what)}"
-
-
 def _bad(line: bytes) -> BadLine:
-    faults = check(line)
+    faults = faults_of(line)
     why = faults[0].why if faults else None
     return BadLine("bad call: " + line.decode(errors="backslashreplace") + (f": {why}" if why else ""), why=why)
 
 
 def _bad_at(script: bytes, line: int, what: str) -> BadLine:
     """The error of a line of a text, with the reason for it if that is known."""
-    why = next((fault.why for fault in check(script) if fault.line == line), None)
+    why = next((fault.why for fault in faults_of(script) if fault.line == line), None)
     return BadLine(f"{what}: {why}" if why else what, line, why)
 
 
@@ -84,6 +60,7 @@ class Program:
     program is the parent's.
     """
 
+    ends_at_bad_line = True
     _is_told = False
 
     def __init__(self, preamble: bytes = b"") -> None:
@@ -121,15 +98,19 @@ class Program:
         self._lost = None
         return reply
 
+    def apply(self, asked: Call) -> Any:
+        """Makes a typed call, and returns its value, or the `Reply` of a refusal. That of a `Line` is the words of its reply."""
+        return made(asked, self.call(str(asked).encode()).decode())
+
     def read(self, handle: int, offset: int, length: int) -> Union[bytes, Reply]:
         """Returns exactly `length` bytes, or the reply that says why not."""
-        reply = self.call(line_of(handle, offset, length).encode()).decode()
-        return unhex(reply[6:]) if reply.startswith("bytes ") else Reply(reply)
+        found: Union[bytes, Reply] = self.apply(Call("read", handle, offset, length))
+        return found
 
     def write(self, handle: int, offset: int, data: bytes, sync: bool = False) -> Optional[Reply]:
         """Writes bytes. Returns the reply if it isn't `ok`."""
-        reply = self.call(line_of(handle, offset, data, sync).encode()).decode()
-        return None if reply == "ok" else Reply(reply)
+        refused: Optional[Reply] = self.apply(Call("writes" if sync else "write", handle, offset, name=data))
+        return refused
 
     def close(self) -> int:
         """Ends the program, and returns its exit status; 0 in a child after a fork."""
@@ -202,141 +183,164 @@ def _leave_programs() -> None:
 os.register_at_fork(after_in_child=_leave_programs)
 
 
-class Library:
-    """The layer in this process."""
+class InProcess:
+    """A session of the library in this process."""
 
+    # How its functions begin, and a message that names it.
+    _functions, _named = "", "store is"
     # Whether `close` has anything to end.
     _is_open = False
 
     def __init__(self, preamble: bytes = b"") -> None:
-        if type(preamble) is not bytes:
-            preamble = data_of(preamble, "a preamble")
-        self._functions = functions = loaded()
-        self._c_call, self._c_read, self._c_write = functions.blobcrash_call, functions.blobcrash_read, functions.blobcrash_write
-        self._session = Session()
-        self._at = ctypes.byref(self._session)
-        # The numbers of a call, which are made once: a new object takes longer than a new value.
-        self._handle, self._offset, self._length = ctypes.c_size_t(), ctypes.c_uint64(), ctypes.c_size_t(len(preamble))
-        self._set_room(_Room(), _ROOM)
+        preamble = data_of(preamble, "a preamble")
+        self._apply = function(f"{self._functions}apply")
+        self._session, self._asked = Session(), Asked()
+        self.at, self._asked_at = ctypes.byref(self._session), ctypes.byref(self._asked)
+        self.room: Any = ctypes.create_string_buffer(_ROOM)
         self._is_open = True
-        ran = functions.blobcrash_open(self._at, preamble, self._length)
-        if ran.status != DONE:
-            if ran.status == BAD_LINE:
-                raise _bad_at(preamble, ran.line, "bad preamble")
-            _check(ran.status)
-
-    def call(self, line: bytes) -> bytes:
-        """Makes the call of a line, and returns its reply; nothing for an empty line and a comment."""
-        if type(line) is not bytes:
-            line = data_of(line, "a line")
-        if _LINE_FEED in line:
-            raise _bad(line)
-        self._length.value = len(line)
-        ran = self._c_call(self._at, line, self._length, self._room_at, self._capacity)
-        if ran.status == DONE:
-            return bytes(self._room[: ran.len])
-        if ran.status in (NO_ROOM, UNPRINTED):
-            return self._reply(ran)
-        _check(ran.status, line)
-        return b""
-
-    def read(self, handle: int, offset: int, length: int) -> Union[bytes, Reply]:
-        """Returns exactly `length` bytes, or the reply that says why not."""
-        if not 0 <= handle <= MAX or not 0 <= offset <= MAX or length < 0:
-            raise ValueError(_NO_NUMBER)
-        if length > len(self._room) and not self._has_grown(handle, offset, length):
-            reply = self.call(line_of(handle, offset, length).encode()).decode()
-            return unhex(reply[6:]) if reply.startswith("bytes ") else Reply(reply)
-        self._handle.value, self._offset.value, self._length.value = handle, offset, length
-        status = self._c_read(self._at, self._handle, self._offset, self._room_at, self._length)
-        return self._room[:length] if status == DONE else self._other(status)
-
-    def write(self, handle: int, offset: int, data: bytes, sync: bool = False) -> Optional[Reply]:
-        """Writes bytes. Returns the reply if it isn't `ok`."""
-        if type(data) is not bytes:
-            data = data_of(data, "the data of a write")
-        if not 0 <= handle <= MAX or not 0 <= offset <= MAX:
-            raise ValueError(_NO_NUMBER)
-        self._handle.value, self._offset.value, self._length.value = handle, offset, len(data)
-        status = self._c_write(self._at, self._handle, self._offset, data, self._length, _TRUE if sync else _FALSE)
-        return None if status == DONE else self._other(status)
+        ran = self._call("open", preamble, len(preamble))
+        if ran.status == BAD_LINE:
+            raise self._bad_preamble(preamble, ran.line)
+        self._check(ran.status)
 
     def words_left(self) -> int:
         """Returns how many words the generator has up to the last one that isn't zero. `ValueError` if a seed gives more."""
-        ran = self._added("words_left")(self._at)
-        if ran.status == ENDLESS:
-            raise ValueError("a seed gives words without end")
-        _check(ran.status)
+        ran = self._call("words_left")
+        self._check(ran.status)
         return int(ran.len)
 
     def push_words(self, words: List[int]) -> None:
         """Inserts words before those that the generator has."""
-        array = (ctypes.c_uint64 * len(words))(*words)
-        _check(self._added("push_words")(self._at, array, len(words)))
+        self._check(self._call("push_words", (ctypes.c_uint64 * len(words))(*words), len(words)))
 
     def close(self) -> int:
         """Ends the session, and returns 0."""
         if self._is_open:
             self._is_open = False
-            self._functions.blobcrash_close(self._at)
+            self._call("close")
         return 0
 
     def __del__(self) -> None:
         if self._is_open:
             self.close()
 
-    def _added(self, name: str) -> Any:
-        """A function that libraries of earlier versions don't have."""
-        try:
-            function = getattr(self._functions, "blobcrash_" + name)
-        except AttributeError:
-            raise _lacks(name) from None
-        session = ctypes.POINTER(Session)
-        if name == "words_left":
-            function.restype, function.argtypes = Ran, [session]
-        else:
-            function.restype, function.argtypes = ctypes.c_uint32, [session, ctypes.POINTER(ctypes.c_uint64), ctypes.c_size_t]
-        return function
+    def _call(self, name: str, *arguments: Any) -> Any:
+        return function(self._functions + name)(self.at, *arguments)
 
-    def _set_room(self, room: Any, capacity: Any) -> None:
-        """Takes a buffer for replies, with its length as an argument of the library."""
-        self._room, self._room_at, self._capacity = room, ctypes.byref(room), capacity
+    def _applied(self, kind: int, number: int, first: int, last: int, one: bytes, other: bytes) -> Any:
+        """Makes a typed call, and returns its reply."""
+        fields = self._asked
+        fields.kind, fields.number, fields.first, fields.last = kind, number, first, last
+        return self._apply(self.at, self._asked_at, one, len(one), other, len(other))
 
-    def _grow(self, length: int) -> None:
-        self._set_room(ctypes.create_string_buffer(length), ctypes.c_size_t.from_param(length))
+    def _check(self, status: int) -> None:
+        check(status, self._named)
+
+    def _bad_preamble(self, preamble: bytes, line: int) -> BadLine:
+        return _bad_at(preamble, line, "bad preamble")
+
+
+class Library(InProcess):
+    """The layer in this process."""
+
+    def __init__(self, preamble: bytes = b"") -> None:
+        self.untyped_read, self.untyped_write = untyped("read"), untyped("write")
+        super().__init__(preamble)
+
+    def call(self, line: bytes) -> bytes:
+        """Makes the call of a line, and returns its reply; nothing for an empty line and a comment."""
+        line = data_of(line, "a line")
+        if _LINE_FEED in line:
+            raise _bad(line)
+        ran = self._call("call", line, len(line), self.room, len(self.room))
+        if ran.status == BAD_LINE:
+            raise _bad(line)
+        return self._printed(ran)
+
+    def apply(self, asked: Call) -> Any:
+        """Makes a typed call, and returns its value, or the `Reply` of a refusal. That of a `Line` is the words of its reply."""
+        word = asked.word
+        if type(asked) is Line:
+            return made(asked, self.call(asked.text.encode()).decode())
+        if word == "read":
+            return self.read(asked.number, asked.first or 0, asked.last or 0)
+        if word in ("write", "writes"):
+            return self.write(asked.number, asked.first or 0, asked.name or b"", word == "writes")
+        kind = KINDS[word] if asked.name is not None or word != "remove" else REMOVE_PARTITION
+        partition = asked.partition.encode("utf-8", "replace")
+        reply = self._applied(kind, asked.number, asked.first or 0, asked.last or 0, partition, asked.name or b"")
+        if reply.status != DONE:
+            return self.refused(reply.status)
+        return self._value(word, reply)
+
+    def read(self, handle: int, offset: int, length: int) -> Union[bytes, Reply]:
+        """Returns exactly `length` bytes, or the reply that says why not."""
+        if not 0 <= handle <= MAX or not 0 <= offset <= MAX or length < 0:
+            raise ValueError(_NO_NUMBER)
+        if length > len(self.room) and not self._has_grown(handle, offset, length):
+            asked = Call("read", handle, offset, length)
+            found: Union[bytes, Reply] = made(asked, self.call(str(asked).encode()).decode())
+            return found
+        status = self._call("read", handle, offset, self.room, length)
+        return self.room[:length] if status == DONE else self.refused(status)
+
+    def write(self, handle: int, offset: int, data: bytes, sync: bool = False) -> Optional[Reply]:
+        """Writes bytes. Returns the reply if it isn't `ok`."""
+        data = data_of(data, "the data of a write")
+        if not 0 <= handle <= MAX or not 0 <= offset <= MAX:
+            raise ValueError(_NO_NUMBER)
+        status = self._call("write", handle, offset, data, len(data), sync)
+        return None if status == DONE else self.refused(status)
+
+    def _value(self, word: str, reply: Any) -> Any:
+        """What a typed call returned."""
+        if word in ("open", "loose"):
+            return Opened(reply.number, reply.size, reply.version)
+        if word == "size":
+            return reply.size
+        if word == "startsync":
+            return reply.number
+        if word == "scan":
+            return [self._name(index) for index in range(reply.size)]
+        # One call for all rows. By blobcrash_kept_run it would be one for each run of kept bytes.
+        return reply_of(self._last().decode().split(" ")) if word == "crash" else None
+
+    def _name(self, index: int) -> bytes:
+        ran = self._call("name", index, self.room, len(self.room))
+        if ran.status == NO_ROOM:
+            self.room = ctypes.create_string_buffer(ran.len)
+            return self._name(index)
+        self._check(ran.status)
+        return bytes(self.room[: ran.len])
 
     def _has_grown(self, handle: int, offset: int, length: int) -> bool:
         """Grows the buffer for a read that ends within the blob. For any other length it doesn't allocate."""
-        size = self.call(b"size %d" % handle)
-        if not size.startswith(b"size ") or offset + length > int(size[5:]):
+        size = self.apply(Call("size", handle))
+        if isinstance(size, Reply) or offset + length > size:
             return False
-        self._grow(length)
+        self.room = ctypes.create_string_buffer(length)
         return True
 
-    def _other(self, status: int) -> Reply:
-        if status == CLOSED:
-            _check(status)
-        return Reply(self._reply(Ran(NO_ROOM, 0)).decode())
+    def refused(self, status: int) -> Reply:
+        """The reply of a call that was refused."""
+        if status < _FIRST_REFUSAL:
+            self._check(status)
+        return Reply(self._last().decode())
 
-    def _reply(self, ran: Ran) -> bytes:
-        """The reply that is kept. Grows the buffer if it is too small."""
-        while ran.status == NO_ROOM:
-            if ran.len > len(self._room):
-                self._grow(ran.len)
-            ran = self._functions.blobcrash_reply(self._at, self._room, len(self._room))
-        _check(ran.status)
-        return bytes(self._room[: ran.len])
+    def _last(self) -> bytes:
+        """The last reply, as the program prints it."""
+        return self._printed(self._call("reply", self.room, len(self.room)))
 
-
-def _check(status: int, line: bytes = b"") -> None:
-    if status == BAD_LINE:
-        raise _bad(line)
-    if status == CLOSED:
-        raise ValueError("the store is closed")
-    if status == NO_MEMORY:
-        raise NotMade
-    if status != DONE:
-        raise MemoryError
+    def _printed(self, ran: Ran) -> bytes:
+        """A reply in the buffer. Grows it if it is too small."""
+        while ran.status in (NO_ROOM, UNPRINTED):
+            if ran.len > len(self.room):
+                self.room = ctypes.create_string_buffer(ran.len)
+            ran = self._call("reply", self.room, len(self.room))
+            if ran.status == UNPRINTED:
+                break
+        self._check(ran.status)
+        return bytes(self.room[: ran.len])
 
 
 def explain(script: str) -> Optional[str]:
@@ -366,33 +370,25 @@ def explain(script: str) -> Optional[str]:
 def explained(script: bytes) -> bytes:
     """Runs a whole script in this process, and returns what `blobcrash explain` prints. `BadLine` as `run`; `LibraryMissing` if the
     library is of an earlier version that can't explain."""
-    function = getattr(loaded(), "blobcrash_explain", None)
-    if function is None:
-        raise _lacks("explain")
-    return _whole(function, script)
+    return _whole("explain", script)
 
 
 def run(script: bytes) -> bytes:
     """Runs a whole script in this process, and returns what the program prints. `BadLine` has the line's number and, in `replies`,
     what is printed before it."""
-    return _whole(loaded().blobcrash_run, script)
+    return _whole("run", script)
 
 
-def _whole(function: Any, script: bytes) -> bytes:
+def _whole(name: str, script: bytes) -> bytes:
     """What a function of the library writes for a script."""
     room = ctypes.create_string_buffer(65536)
-    ran = function(script, len(script), room, len(room))
+    ran = function(name)(script, len(script), room, len(room))
     if ran.status == NO_ROOM:
         room = ctypes.create_string_buffer(ran.len)
-        ran = function(script, len(script), room, len(room))
+        ran = function(name)(script, len(script), room, len(room))
     if ran.status == BAD_LINE:
         error = _bad_at(script, ran.line, "bad call")
         error.replies = ctypes.string_at(room, ran.len)
         raise error
-    _check(ran.status)
+    check(ran.status)
     return ctypes.string_at(room, ran.len)
-
-
-def _lacks(name: str) -> LibraryMissing:
-    """The error of a library of an earlier version, without this function."""
-    return LibraryMissing(f"{library()} has no blobcrash_{name}: build it with `sh bindings/build.sh`")

@@ -7,14 +7,12 @@ import sys
 from types import FrameType
 from typing import Any, Dict, Iterable, List, Optional, Set, Tuple
 
-from .foreign import DONE, E_BLOB_MISSING, NO_ROOM, Ran, Session
-from .grammar import unhex
+from .foreign import DONE, E_BLOB_MISSING, NO_ROOM, function
 
 # What the rest of a run depends on after a restart.
 State = Tuple[Any, ...]
 # Each state that a run came to, and the choices by which it did.
 Met = Dict[State, State]
-_OPENS = (b"open", b"loose")
 
 
 def frozen(value: Any) -> Any:
@@ -35,16 +33,14 @@ def frozen(value: Any) -> Any:
 def durable_blobs(layer: Any, names: Iterable[Tuple[bytes, bytes]], with_header: bool = True) -> Tuple[Tuple[bytes, bytes, bytes], ...]:
     """Returns the partition, the name and the durable bytes of each of these blobs that there is. Without `with_header` these are the bytes after
     the header, of each blob that has one. `layer` is a `Library`. Draws nothing."""
-    function, size = layer._functions.blobcrash_durable_blob, ctypes.c_size_t
-    function.restype = Ran
-    function.argtypes = [ctypes.POINTER(Session), ctypes.c_char_p, size, ctypes.c_char_p, size, ctypes.c_bool, ctypes.c_void_p, size]
+    durable = function("durable_blob")
     found = []
     room = ctypes.create_string_buffer(4096)
     for partition, name in names:
-        ran = function(layer._at, partition, len(partition), name, len(name), with_header, room, len(room))
+        ran = durable(layer.at, partition, len(partition), name, len(name), with_header, room, len(room))
         if ran.status == NO_ROOM:
             room = ctypes.create_string_buffer(ran.len)
-            ran = function(layer._at, partition, len(partition), name, len(name), with_header, room, len(room))
+            ran = durable(layer.at, partition, len(partition), name, len(name), with_header, room, len(room))
         if ran.status == DONE:
             found.append((partition, name, room.raw[: ran.len]))
         elif ran.status != E_BLOB_MISSING:
@@ -55,11 +51,7 @@ def durable_blobs(layer: Any, names: Iterable[Tuple[bytes, bytes]], with_header:
 def blobs_of(calls: Iterable[Any], images: Iterable[Tuple[str, bytes, bytes]]) -> List[Tuple[bytes, bytes]]:
     """Returns the partition and the name of each blob that there may be: those of the images, and those that a call opened."""
     names: Set[Tuple[bytes, bytes]] = {(partition.encode(), bytes(name)) for partition, name, _ in images}
-    for call in calls:
-        if isinstance(call, bytes):
-            tokens = call.split()
-            if len(tokens) > 2 and tokens[0] in _OPENS:
-                names.add((tokens[1], unhex(tokens[2].decode())))
+    names |= {(call.partition.encode("utf-8", "replace"), call.name) for call in calls if call.word in ("open", "loose")}
     return sorted(names)
 
 
@@ -67,8 +59,8 @@ def settings_of(calls: Iterable[Any]) -> Tuple[Tuple[bytes, ...], ...]:
     """Returns the settings that the calls made, each with what it was set to last."""
     settings: Dict[bytes, Tuple[bytes, ...]] = {}
     for call in calls:
-        tokens = tuple(call.split()) if isinstance(call, bytes) else ()
-        if tokens[:1] == (b"config",):
+        if call.word == "config":
+            tokens = tuple(call.name.split())
             if tokens[1:] == (b"clear",):
                 settings.clear()
             settings[tokens[1]] = tokens

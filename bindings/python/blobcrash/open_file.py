@@ -2,12 +2,12 @@
 
 from __future__ import annotations
 
-import io
 import re
-from typing import TYPE_CHECKING, Any, Optional
+from typing import TYPE_CHECKING, Any
 
+from .byte_file import ByteFile
 from .file_calls import FileCall
-from .grammar import data_of, number
+from .grammar import number
 
 if TYPE_CHECKING:
     from .file_system import Files
@@ -27,7 +27,7 @@ def plain_mode(mode: str) -> str:
     return plain
 
 
-class OpenFile(io.RawIOBase):
+class OpenFile(ByteFile):
     """A file of `Files`, unbuffered: each read and write is a call.
 
     Bytes are durable once `fsync` of the `Files` has returned; `flush` does nothing. There is no `fileno`. After a crash calls raise an
@@ -41,15 +41,6 @@ class OpenFile(io.RawIOBase):
         self._files = files
         self._descriptor = descriptor
         self._plain = mode.replace("b", "", 1)
-        self._at = 0
-
-    if TYPE_CHECKING:
-
-        def read(self, __size: int = -1) -> bytes:
-            ...
-
-        def readall(self) -> bytes:
-            ...
 
     def readable(self) -> bool:
         return self._plain[0] == "r" or "+" in self._plain
@@ -57,61 +48,10 @@ class OpenFile(io.RawIOBase):
     def writable(self) -> bool:
         return self._plain != "r"
 
-    def seekable(self) -> bool:
-        return True
-
-    def readinto(self, buffer: Any) -> int:
-        """Fills a buffer with the bytes at the position, as far as there are any, and returns how many."""
-        self._check_open()
-        if not self.readable():
-            raise io.UnsupportedOperation("the file isn't open for reading")
-        view = memoryview(buffer).cast("B")
-        found = self._ask("read", self._at, len(view))
-        view[: len(found)] = found
-        self._at += len(found)
-        return len(found)
-
-    def write(self, data: Any) -> int:
-        """Writes bytes at the position, or in the mode `a` at the end. Returns how many bytes were written. Without any no call is made."""
-        self._check_open()
-        if not self.writable():
-            raise io.UnsupportedOperation("the file isn't open for writing")
-        data = data_of(data, "the data of a write")
-        if not data:
-            return 0
-        at = self.size() if self._plain[0] == "a" else number(self._at, "an offset")
-        self._files._call(FileCall("write", self._descriptor, at, path=data), self.name)
-        self._at = at + len(data)
-        return len(data)
-
-    def seek(self, offset: int, whence: int = io.SEEK_SET) -> int:
-        """Moves the position, also past the end."""
-        self._check_open()
-        if whence not in (io.SEEK_SET, io.SEEK_CUR, io.SEEK_END):
-            raise ValueError(f"whence is 0, 1 or 2, not {whence!r}")
-        base = {io.SEEK_SET: 0, io.SEEK_CUR: self._at}.get(whence)
-        at = offset + (self.size() if base is None else base)
-        self._at = number(at, "a position")
-        return at
-
-    def tell(self) -> int:
-        """Returns the position."""
-        self._check_open()
-        return self._at
-
     def size(self) -> int:
         """Returns the size in bytes."""
-        self._check_open()
+        self._check()
         return int(self._ask("size").size)
-
-    def truncate(self, size: Optional[int] = None) -> int:
-        """Truncates or extends the file, by default to the position. The position doesn't move."""
-        self._check_open()
-        if not self.writable():
-            raise io.UnsupportedOperation("the file isn't open for writing")
-        size = number(self._at if size is None else size, "a size")
-        self._ask("truncate", size)
-        return size
 
     def close(self) -> None:
         """Closes the file. A call is made unless the file is stale, or the power is off.
@@ -122,10 +62,6 @@ class OpenFile(io.RawIOBase):
             super().close()
             self._files._close(self._descriptor, self.name)
 
-    def __del__(self) -> None:
-        # A file that is dropped isn't closed: when that would happen is up to Python, and the close is a call.
-        pass
-
     def _ask(self, word: str, first: int = 0, last: int = 0) -> Any:
         return self._files._call(FileCall(word, self._descriptor, first, last), self.name)
 
@@ -133,6 +69,19 @@ class OpenFile(io.RawIOBase):
         """Closes the file without a call: its process has ended."""
         super().close()
 
-    def _check_open(self) -> None:
-        if self.closed:
-            raise ValueError("I/O operation on closed file.")
+    def _read(self, length: int) -> bytes:
+        found: bytes = self._ask("read", self._at, length)
+        return found
+
+    def _write(self, data: bytes) -> None:
+        # Without bytes no call is made.
+        if data:
+            at = self.size() if self._plain[0] == "a" else number(self._at, "an offset")
+            self._files._call(FileCall("write", self._descriptor, at, path=data), self.name)
+            self._at = at + len(data)
+
+    def _size(self) -> int:
+        return self.size()
+
+    def _resize(self, size: int) -> None:
+        self._ask("truncate", size)

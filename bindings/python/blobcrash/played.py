@@ -2,11 +2,11 @@
 
 from __future__ import annotations
 
+from itertools import chain, repeat
 from typing import Dict, List, NamedTuple, Optional, Sequence, Tuple
 
 from .grammar import MAX
-from .layers import Library
-from .recorded import Line, Lines, Needs, Writes
+from .recorded import Line, Lines, Needs, Player
 
 
 class Played(NamedTuple):
@@ -49,21 +49,16 @@ def play(lines: Lines, needs: Needs) -> Optional[Played]:
             player.close()
 
 
-class _Player:
+class _Player(Player):
     def __init__(self, lines: Lines, drawn: Dict[int, List[int]]) -> None:
         self._lines = lines
         self._drawn = drawn
         self._images = [" ".join(line.tokens) for line in lines.values() if line.tokens[0] == "image"]
-        preamble = [*self._images, f"words {MAX}"]
-        self._session = Library("".join(line + "\n" for line in preamble).encode())
+        super().__init__(self._images)
         self._made: Dict[int, str] = {}
-        self._writes = Writes()
         self._words: List[int] = []
         self._texts: List[str] = []
         self._made_lines: Lines = {}
-
-    def close(self) -> None:
-        self._session.close()
 
     def run(self) -> Played:
         for at in sorted(self._lines):
@@ -83,9 +78,8 @@ class _Player:
             if line.made_by not in self._made:
                 return
             tokens[1] = self._made[line.made_by]
-        text = " ".join(tokens)
-        given = self._crash_words(at, line) if tokens[0] == "crash" else list(line.words)
-        reply, words = self._made_with(text, given, self._most_words(tokens))
+        given = self._crash_words(at, line) if tokens[0] == "crash" else line.words
+        reply, words = self.make(tokens, chain(given, repeat(0)))
         if _kind(reply) != _kind(line.reply):
             raise _OtherReply
         if tokens[0] == "crash":
@@ -94,22 +88,8 @@ class _Player:
         if reply[0] in ("opened", "started"):
             self._made[at] = reply[1]
         self._words += words
-        self._texts.append(text)
+        self._texts.append(" ".join(tokens))
         self._made_lines[at] = line
-
-    def _made_with(self, text: str, given: List[int], room: int) -> Tuple[List[str], List[int]]:
-        """Makes a call with these words, and zeros after them. Returns the reply, and the words that it took."""
-        given = given + [0] * room
-        before = self._session.words_left() + len(given)
-        self._session.push_words(given)
-        reply = self._session.call(text.encode()).decode().split(" ")
-        return reply, given[: before - self._session.words_left()]
-
-    def _most_words(self, tokens: List[str]) -> int:
-        """How many words a call takes at most."""
-        if tokens[0] == "crash":
-            return sum(recorded.length for recorded in self._writes.recorded.values())
-        return 8 + len(tokens[3]) // 2 if tokens[0] in ("write", "writes") else 8
 
     def _crash_words(self, at: int, line: Line) -> List[int]:
         expected = self._drawn.get(at)

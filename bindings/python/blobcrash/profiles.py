@@ -3,25 +3,16 @@
 from __future__ import annotations
 
 import time
-from typing import Any, Callable, Dict, Iterable, List, Mapping, NamedTuple, Optional, Union
+from typing import Any, Callable, Dict, Iterable, List, Mapping, Optional, Union
 
 from .errors import NoRuns
 from .failures import Failed
 from .file_settings import PROFILES
-from .progress import Progress, in_profile
+from .progress import Kind, Progress, in_profile
+from .results import Part, of_profiles
 
 # Takes a profile and its seconds, and returns what a search came to.
 Search = Callable[[str, Optional[float]], Any]
-
-
-class Kind(NamedTuple):
-    """A kind of search: its name, what sums what it came to in each profile, what makes the result of a part in which no run has ended, and
-    what prints a result after Ctrl-C."""
-
-    name: str
-    sum_of: Callable[[Dict[str, Any]], Any]
-    nothing: Callable[[Any], Any]
-    tell: Callable[[Any, Progress], None]
 
 
 def in_each(search: Search, parts: Mapping[str, List[Any]], seconds: float, kind: Kind) -> Any:
@@ -39,12 +30,12 @@ def in_each(search: Search, parts: Mapping[str, List[Any]], seconds: float, kind
         except Failed as failed:
             found[profile] = failed
         except NoRuns as none:
-            found[profile] = kind.nothing(none.rest)
+            found[profile] = kind.result_of(Part(0, list(none.rest)))
         except KeyboardInterrupt as error:
             interrupt: Any = error
-            found[profile] = getattr(error, "found", None) or kind.nothing(parts[profile])
-            found.update((left, kind.nothing(parts[left])) for left in names[at + 1 :])
-            interrupt.found = kind.sum_of(found)
+            found[profile] = getattr(error, "found", None) or kind.result_of(Part(0, parts[profile]))
+            found.update((left, kind.result_of(Part(0, parts[left]))) for left in names[at + 1 :])
+            interrupt.found = _summed(found, kind)
             kind.tell(interrupt, progress)
             raise
     for each in found.values():
@@ -54,7 +45,15 @@ def in_each(search: Search, parts: Mapping[str, List[Any]], seconds: float, kind
             raise first from each.__cause__
     if not any(each.runs for each in found.values()):
         raise NoRuns(tuple(rest_of(found)))
-    return kind.sum_of(found)
+    return _summed(found, kind)
+
+
+def _summed(found: Dict[str, Any], kind: Kind) -> Any:
+    """The sum of what a search came to in the profiles in which it didn't fail."""
+    part = Part(0, [])
+    for each in found.values():
+        part = part if isinstance(each, Failed) else part.plus(each)
+    return of_profiles(kind.result_of(part._replace(rest=rest_of(found))), found)
 
 
 def rest_of(found: Dict[str, Any]) -> List[Any]:

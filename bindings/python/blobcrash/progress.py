@@ -7,10 +7,11 @@ import sys
 import threading
 import time
 from contextlib import contextmanager
-from typing import Any, Callable, ContextManager, Iterable, Iterator, List, Optional
+from typing import Any, Callable, Iterable, Iterator, List, NamedTuple, Optional
 
-from .failures import Failed
-from .results import Explored, Seeded, with_note
+from .errors import NoRuns
+from .failures import Failed, reporter
+from .results import Part, explored_of, seeded_of
 
 # After how many seconds the line is first shown, and again.
 _FIRST, _EVERY = 1.0, 0.2
@@ -76,33 +77,40 @@ def counted(items: Iterable[Any], count: int, name: str) -> Iterator[Any]:
         progress.clear()
 
 
-def interrupted_exploration() -> ContextManager[Progress]:
-    """Gives the progress of an exploration. After Ctrl-C it prints what was visited, and how to go on."""
-    return _interrupted("explore", lambda part: Explored(part.runs, part.outcomes, tuple(part.rest), part.met), tell_explored)
+class Kind(NamedTuple):
+    """A kind of search: its name, what makes its result, and what prints a result after Ctrl-C."""
 
+    name: str
+    result_of: Callable[[Part], Any]
+    tell: Callable[[Any, Progress], None]
 
-def interrupted_seeds() -> ContextManager[Progress]:
-    """The same for seeds."""
-    return _interrupted("seeds", lambda part: Seeded(part.runs, tuple(part.rest)), tell_seeds)
+    def search(self, visit: Callable[[Progress], Part], report: Optional[str], of_files: bool) -> Any:
+        """Searches, and returns the result. Raises `NoRuns` if no run has ended. `report` is a file for a page that shows a failure."""
+        show = reporter(report, of_files)
+        try:
+            part = self._visited(visit)
+        except Failed as failed:
+            show(failed)
+            raise
+        if not part.runs:
+            raise NoRuns(part.rest)
+        return self.result_of(part)
 
-
-@contextmanager
-def _interrupted(name: str, result_of: Callable[[Any], Any], tell: Callable[[Any, Progress], None]) -> Iterator[Progress]:
-    """Gives the progress of a search. A `KeyboardInterrupt` with the part that was visited, as `part`, is given its result, as `found`. That
-    is told, unless the search is one of those in all profiles."""
-    progress = Progress(name)
-    try:
-        yield progress
-    except KeyboardInterrupt as error:
-        interrupt: Any = error
-        part = getattr(error, "part", None)
-        if part is not None:
-            interrupt.found = with_note(result_of(part), part.unsynced)
-            if not progress.is_of_profile:
-                tell(interrupt, progress)
-        raise
-    finally:
-        progress.clear()
+    def _visited(self, visit: Callable[[Progress], Part]) -> Part:
+        """What a visit came to. A `KeyboardInterrupt` with the part that was visited, as `part`, is given its result, as `found`. That is
+        printed, unless the search is one of those in all profiles."""
+        progress = Progress(self.name)
+        try:
+            return visit(progress)
+        except KeyboardInterrupt as error:
+            interrupt: Any = error
+            if hasattr(error, "part"):
+                interrupt.found = self.result_of(interrupt.part)
+                if not progress.is_of_profile:
+                    self.tell(interrupt, progress)
+            raise
+        finally:
+            progress.clear()
 
 
 def tell_explored(interrupt: Any, progress: Progress) -> None:
@@ -121,6 +129,10 @@ def tell_seeds(interrupt: Any, progress: Progress) -> None:
     else:
         calls = f" seeds(.., {_as_list(list(found.rest))})"
     progress.tell(f"{_so_far(found, 'run' if found.profiles else 'seed', progress)}. To go on:{calls}")
+
+
+EXPLORE = Kind("explore", explored_of, tell_explored)
+SEEDS = Kind("seeds", seeded_of, tell_seeds)
 
 
 def _so_far(found: Any, noun: str, progress: Progress) -> str:

@@ -3,7 +3,7 @@
 from __future__ import annotations
 
 from dataclasses import dataclass, field
-from itertools import chain, islice
+from itertools import chain, islice, repeat
 from typing import Dict, Iterator, List, NamedTuple, Optional, Tuple
 
 from .errors import BadLine
@@ -83,12 +83,13 @@ def record(script: str) -> Lines:
     Raises `BadLine` if a line isn't a call, and `LibraryMissing` if the library isn't built.
     """
     parts = split_script(script)
-    room = 256
-    while True:
-        lines = _recorded(parts, room)
-        if lines is not None:
-            return lines
-        room *= 4
+    recorder = _Recorder(parts)
+    try:
+        for at, line in enumerate(parts.rest, len(parts.images)):
+            recorder.add(at, line)
+    finally:
+        recorder.close()
+    return recorder.lines
 
 
 def split_script(script: str) -> _Parts:
@@ -115,53 +116,53 @@ def _number(token: str, line: int) -> int:
     return value_of(token)
 
 
-def _recorded(parts: _Parts, room: int) -> Optional[Lines]:
-    """The lines of a script, if its calls take at most `room` words. The session has these words, and one more that no call may take."""
-    stream: Iterator[int] = chain(parts.words, words_of(parts.seed) if parts.seed is not None else iter([0] * room))
-    words = list(islice(stream, max(room, len(parts.words))))
-    preamble = [*parts.images, "words " + " ".join(map(str, [*words, MAX]))]
-    session = Library("".join(line + "\n" for line in preamble).encode())
-    recorder = _Recorder(session, words)
-    for at, image in enumerate(parts.images):
-        recorder.lines[at] = Line(tuple(image.split(" ")))
-    try:
-        for at, line in enumerate(parts.rest, len(parts.images)):
-            if not recorder.add(at, line):
-                return None
-    finally:
-        session.close()
-    return recorder.lines
+class Player:
+    """A session of which each call is given its words."""
 
-
-class _Recorder:
-    def __init__(self, session: Library, words: List[int]) -> None:
-        self._session = session
-        self._words = words
-        self._taken = 0
-        self._made: Dict[Tuple[str, str], int] = {}
+    def __init__(self, images: List[str]) -> None:
+        self._session = Library("".join(f"{line}\n" for line in [*images, f"words {MAX}"]).encode())
         self._writes = Writes()
-        self.lines: Lines = {}
+        self.close = self._session.close
 
-    def add(self, at: int, line: str) -> bool:
-        """Makes the call of a line. Returns whether the words were enough for it."""
-        if line.startswith("#"):
-            self.lines[at] = Line(tuple(line.split(" ")))
-            return True
+    def make(self, tokens: List[str], given: Iterator[int]) -> Tuple[List[str], List[int]]:
+        """Makes a call. Returns the reply, and the words that it took of those that are given."""
+        words = list(islice(given, self._most_words(tokens)))
+        before = self._session.words_left() + len(words)
+        self._session.push_words(words)
+        reply = self._session.call(" ".join(tokens).encode()).decode().split(" ")
+        return reply, words[: before - self._session.words_left()]
+
+    def _most_words(self, tokens: List[str]) -> int:
+        """How many words a call takes at most."""
+        if tokens[0] == "crash":
+            return sum(recorded.length for recorded in self._writes.recorded.values())
+        return 8 + len(tokens[3]) // 2 if tokens[0] in ("write", "writes") and tokens[3:] else 8
+
+
+class _Recorder(Player):
+    def __init__(self, parts: _Parts) -> None:
+        super().__init__(parts.images)
+        self._ahead: List[int] = []
+        self._stream = chain(parts.words, repeat(0) if parts.seed is None else words_of(parts.seed))
+        self._made: Dict[Tuple[str, str], int] = {}
+        self.lines: Lines = {at: Line(tuple(image.split(" "))) for at, image in enumerate(parts.images)}
+
+    def add(self, at: int, line: str) -> None:
+        """Makes the call of a line."""
         tokens = line.split(" ")
-        reply = self._session.call(line.encode()).decode().split(" ")
-        left = self._session.words_left()
-        if left == 0:
-            return False
-        taken = len(self._words) + 1 - left
-        words, self._taken = self._words[self._taken : taken], taken
-        rates = self._writes.rates
-        plain = () if tokens[0] == "crash" else tuple(rates.plain(tokens, words))
+        if line.startswith("#"):
+            self.lines[at] = Line(tuple(tokens))
+            return
+        most = self._most_words(tokens)
+        self._ahead += islice(self._stream, max(0, most - len(self._ahead)))
+        reply, words = self.make(tokens, iter(self._ahead))
+        del self._ahead[: len(words)]
+        plain = () if tokens[0] == "crash" else tuple(self._writes.rates.plain(tokens, words))
         self._writes.see(at, tokens, reply, words)
         rows = self._writes.rows(reply) if tokens[0] == "crash" else {}
         self.lines[at] = Line(tuple(tokens), tuple(reply), plain, self._maker(tokens), rows)
         if reply[0] in ("opened", "started"):
             self._made[reply[0], reply[1]] = at
-        return True
 
     def _maker(self, tokens: List[str]) -> Optional[int]:
         if tokens[0] in ON_HANDLE:

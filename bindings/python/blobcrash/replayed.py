@@ -2,16 +2,16 @@
 
 from __future__ import annotations
 
-import ctypes
-from typing import Any, List, Optional, Tuple
+from typing import Any, List, Tuple
 
+from .calls import Line
+from .errors import NotMade
+from .file_calls import FileCall, Found, file_line
 from .file_library import FilesLibrary
-from .file_lines import CHANGES, FileLine, file_line, is_setting
-from .foreign import DONE, NO_MEMORY
-from .foreign_files import IS_DIRECTORY, KINDS
+from .foreign_files import IS_DIRECTORY
 from .layers import Library
 from .met import blobs_of, durable_blobs
-from .power import CHANGES as CHANGES_A_STORE
+from .power import CHANGES, changes_files
 
 # What a crash left: of a store the partition, the name and the bytes with the header of each blob; of files the path of each, with its
 # bytes or, of a directory, `None`.
@@ -27,21 +27,18 @@ class ReplayedStore:
 
     def __init__(self, images: List[str], words: List[int]) -> None:
         self._session = Library("".join(f"{line}\n" for line in [*images, _words_line(words)]).encode())
-        self._lines = [line.encode() for line in images]
+        self._calls = [Line.of(line.replace("image", "open", 1)) for line in images]
+        self.words_left = self._session.words_left
 
     @staticmethod
     def changes(line: str) -> bool:
         """Whether a line may change what a crash leaves."""
-        return line.encode().split()[0] in CHANGES_A_STORE
+        return line.split()[0] in CHANGES
 
     def call(self, line: str) -> None:
         """Makes the call of a line, which may be refused as it was."""
         self._session.call(line.encode())
-        self._lines.append(line.encode())
-
-    def words_left(self) -> int:
-        """Returns how many words there are up to the last one that isn't zero."""
-        return self._session.words_left()
+        self._calls.append(Line.of(line))
 
     def crash(self, words: List[int]) -> None:
         """Crashes by these words."""
@@ -50,8 +47,7 @@ class ReplayedStore:
 
     def content(self) -> Content:
         """What is durable."""
-        images = [line.replace(b"image", b"open", 1) for line in self._lines if line.startswith(b"image ")]
-        return durable_blobs(self._session, blobs_of([*images, *self._lines], ()))
+        return durable_blobs(self._session, blobs_of(self._calls, ()))
 
     def close(self) -> None:
         self._session.close()
@@ -62,42 +58,36 @@ class ReplayedFiles:
 
     def __init__(self, images: List[str], words: List[int]) -> None:
         self._files = FilesLibrary(f"{_words_line(words)}\n".encode())
+        self.words_left = self._files.words_left
 
     @staticmethod
     def changes(line: str) -> bool:
         """Whether a line may change what a crash leaves."""
-        return not is_setting(line) and file_line(line).word in CHANGES
+        word = file_line(line).word
+        return word != "configure" and changes_files(word)
 
     def call(self, line: str) -> None:
         """Makes the call of a line, which may be refused as it was."""
-        if is_setting(line):
-            status = self._files._functions.blobcrash_files_configure(self._files._at, line.encode(), len(line.encode()))
-            _check(status)
-            return
         asked = file_line(line)
-        path = asked.fields.get("file")
-        if path is None:
-            self._make(asked, asked.fields.get("number", 0))
+        if not asked.is_by_path:
+            self._apply(asked)
             return
-        opened = self._apply(KINDS["open"], path=path)
-        if opened.status == DONE:
-            self._make(asked, opened.number)
-            self._apply(KINDS["close"], opened.number)
-
-    def words_left(self) -> int:
-        """Returns how many words there are up to the last one that isn't zero."""
-        return self._files.words_left()
+        opened = self._apply(FileCall("open", path=asked.to))
+        if isinstance(opened, Found):
+            self._apply(asked._replace(number=opened.number, to=b""))
+            self._apply(FileCall("close", opened.number))
 
     def crash(self, words: List[int]) -> None:
         """Crashes by these words."""
-        push = self._files._functions.blobcrash_files_push_words
-        push.restype, push.argtypes = ctypes.c_uint32, [ctypes.c_void_p, ctypes.POINTER(ctypes.c_uint64), ctypes.c_size_t]
-        _check(push(self._files._at, (ctypes.c_uint64 * len(words))(*words), len(words)))
-        self._apply(KINDS["crash"])
+        try:
+            self._files.push_words(words)
+        except NotMade:
+            raise NotMadeAgain from None
+        self._apply(FileCall("crash"))
 
     def content(self) -> Content:
         """The paths that the root reaches, after a crash."""
-        _check(self._files._functions.blobcrash_files_configure(self._files._at, b"config clear", 12))
+        self._apply(FileCall("configure", path=b"config clear"))
         found: List[Tuple[Any, ...]] = []
         self._walk(1, b"", found)
         return tuple(found)
@@ -106,46 +96,23 @@ class ReplayedFiles:
         self._files.close()
 
     def _walk(self, directory: int, above: bytes, found: List[Tuple[Any, ...]]) -> None:
-        count = self._apply(22, directory).size
-        for name in [self._files._name(index) for index in range(count)]:
-            entry = self._apply(24, directory, path=name)
+        for name in self._apply(FileCall("listdir_at", directory)):
+            entry = self._apply(FileCall("find_at", directory, path=name))
             path = above + b"/" + name
             if entry.kind == IS_DIRECTORY:
                 found.append((path, None))
                 self._walk(entry.number, path, found)
             else:
-                number = self._apply(25, entry.number).number
-                found.append((path, self._files._read(number, 0, entry.size) if entry.size else b""))
+                number = self._apply(FileCall("open_inode", entry.number)).number
+                found.append((path, self._apply(FileCall("read", number, 0, entry.size))))
 
-    def _make(self, asked: FileLine, number: int) -> None:
-        fields = asked.fields
-        if asked.word == "write":
-            data = fields["path"]
-            _check(self._files._functions.blobcrash_files_write(self._files._at, number, fields["first"], data, len(data)))
-        elif asked.word == "read":
-            self._files._read(number, fields["first"], fields["last"])
-        else:
-            first, last = fields.get("first", 0), fields.get("last", 0)
-            if asked.word == "rename":
-                first = fields["how"]
-            elif asked.word == "rename_at":
-                last = fields["how"]
-            self._apply(asked.kind, number, first, last, fields.get("path", b""), fields.get("to", b""))
-
-    def _apply(self, kind: int, number: int = 0, first: int = 0, last: int = 0, path: bytes = b"", to: bytes = b"") -> Any:
-        asked = self._files._asked
-        asked.kind, asked.number, asked.first, asked.last = kind, number, first, last
-        reply = self._files._functions.blobcrash_files_apply(self._files._at, self._files._asked_at, path, len(path), to, len(to))
-        _check(reply.status)
-        return reply
+    def _apply(self, asked: FileCall) -> Any:
+        """Makes a call. Raises `NotMadeAgain` if there is no memory. Refusals are as they were."""
+        try:
+            return self._files.apply(asked)
+        except NotMade:
+            raise NotMadeAgain from None
 
 
 def _words_line(words: List[int]) -> str:
     return "words " + " ".join(map(str, words))
-
-
-def _check(status: int) -> Optional[int]:
-    """Raises `NotMadeAgain` if there is no memory. Refusals are as they were."""
-    if status == NO_MEMORY:
-        raise NotMadeAgain
-    return status

@@ -2,9 +2,28 @@
 
 from __future__ import annotations
 
-from typing import Any, Dict, Mapping, NamedTuple, Tuple, TypeVar
+from typing import Any, Dict, List, Mapping, NamedTuple, Tuple, TypeVar
 
 from .unkept import note_of
+
+
+class Part(NamedTuple):
+    """The counts of a visit of some seeds or subtrees: how many runs there were, what is left, what the crashes met (`Unsynced.met`)."""
+
+    runs: int
+    rest: List[Any]
+    unsynced: int = 0
+    outcomes: Dict[Any, int] = {}
+    # How many more runs were ended since another had come to the same state.
+    met: int = 0
+
+    def plus(self, other: Any) -> Part:
+        """The sum of two, without what is left. The other may be a result."""
+        outcomes = dict(self.outcomes)
+        for outcome, count in getattr(other, "outcomes", {}).items():
+            outcomes[outcome] = outcomes.get(outcome, 0) + count
+        unsynced = self.unsynced | getattr(other, "unsynced", 0)
+        return Part(self.runs + other.runs, [], unsynced, outcomes, self.met + getattr(other, "met", 0))
 
 
 class _Explored(NamedTuple):
@@ -55,10 +74,18 @@ class Seeded(_Seeded):
 _Result = TypeVar("_Result", Explored, Seeded)
 
 
-def with_note(result: _Result, met: int) -> _Result:
-    """A result, with the text of what the crashes met."""
-    result.unkept = note_of(met)
-    return result
+def explored_of(part: Part) -> Explored:
+    """The result of an exploration."""
+    explored = Explored(part.runs, part.outcomes, tuple(part.rest), part.met)
+    explored.unkept = note_of(part.unsynced)
+    return explored
+
+
+def seeded_of(part: Part) -> Seeded:
+    """The result of runs by seeds."""
+    seeded = Seeded(part.runs, tuple(part.rest))
+    seeded.unkept = note_of(part.unsynced)
+    return seeded
 
 
 def of_profiles(result: _Result, found: Mapping[str, Any]) -> _Result:

@@ -2,43 +2,44 @@
 
 from __future__ import annotations
 
-import random
 import time
 from functools import partial
 from typing import Any, Callable, Dict, Iterable, List, NamedTuple, Optional, Tuple, Union
 
 from .bodies import check_body, check_result
-from .bounds import FIRST_RUN, BoundedFiles, BoundedStore, Bounds, RunEnded
-from .errors import NoRuns
+from .bounds import FIRST_RUN, Bounded, Bounds, RunEnded
 from .exploration import seconds_of
-from .failures import Failed, one_traceback, reporter
+from .failures import Failed, one_traceback
 from .file_settings import ALL, PROFILES, profile_asked, torn_unless_set
 from .file_system import Files
+from .generator import mixed_of
 from .grammar import number, number_of_branches
 from .power import PowerLoss
-from .profiles import Kind, in_each, rest_of
-from .progress import Progress, interrupted_seeds, tell_seeds
-from .results import Seeded, of_profiles, with_note
-from .shared import Shared
+from .profiles import in_each
+from .progress import SEEDS, Progress
+from .results import Part, Seeded
+from .session import Session
 from .store import Store
 
 # How many seeds a task has at most.
 _CHUNK = 16
 
 
-class BySeed(Shared):
+class BySeed(Session):
     """What the stores and the files of runs by seeds share. It stands before the class that makes the calls."""
 
+    _is_search = True
+
     def __init__(self, seed: int, **arguments: Any) -> None:
-        super().__init__(seed, **arguments)
+        super().__init__(seed, **arguments)  # type: ignore[arg-type]
         self.seed = seed
-        self._random = random.Random(seed)
+        self._chooser = mixed_of(seed)
 
     def choose(self, branches: int) -> int:
         """Returns a number below `branches`, by the seed. `explore` tries every one."""
         branches = number_of_branches(branches)
         self._check()
-        branch = self._random.randrange(branches)
+        branch = next(self._chooser) % branches
         self.note(f"choose({branches}) is {branch}")
         return branch
 
@@ -56,7 +57,7 @@ class SeededFiles(BySeed, Files):
         self.profile = arguments.get("profile", PROFILES[0])
 
 
-class _Timed(BySeed):
+class _Timed(BySeed, Bounded):
     """A run that is ended when its time is over."""
 
     def __init__(self, seed: int, until: float, **arguments: Any) -> None:
@@ -68,11 +69,11 @@ class _Timed(BySeed):
         return super().choose(branches)
 
 
-class _TimedStore(_Timed, BoundedStore, SeededStore):
+class _TimedStore(_Timed, SeededStore):
     """The store of such a run."""
 
 
-class _TimedFiles(_Timed, BoundedFiles, SeededFiles):
+class _TimedFiles(_Timed, SeededFiles):
     """The files of such a run."""
 
 
@@ -125,43 +126,23 @@ def seeds(
     asked = profile_asked(profile, files)
     if asked == ALL:
         search = partial(seeds, body, every, executor=executor, report=report, **arguments)
-        kind = Kind("seeds", _summed, lambda rest: Seeded(0, tuple(rest)), tell_seeds)
         parts: Dict[str, List[int]] = {name: every for name in PROFILES}
-        seeded: Seeded = in_each(lambda name, share: search(profile=name, seconds=share), parts, seconds_of(seconds), kind)
-        return seeded
+        all_seeded: Seeded = in_each(lambda name, share: search(profile=name, seconds=share), parts, seconds_of(seconds), SEEDS)
+        return all_seeded
     now = time.monotonic()
     until = now + seconds_of(seconds)
-    show = reporter(report, asked is not None)
     runs = _Runs(body, arguments, asked)
-    try:
-        with interrupted_seeds() as progress:
-            if executor is None:
-                made = _visit(runs, every, 0, until, max(until, now + FIRST_RUN), progress)
-            else:
-                made = _visit_with(executor, runs, every, until, progress)
-    except Failed as failed:
-        show(failed)
-        raise
-    if not made.runs:
-        raise NoRuns(made.rest)
-    return with_note(Seeded(made.runs, made.rest), made.unsynced)
+
+    def visited(progress: Progress) -> Part:
+        if executor is None:
+            return _visit(runs, every, 0, until, max(until, now + FIRST_RUN), progress)
+        return _visit_with(executor, runs, every, until, progress)
+
+    seeded: Seeded = SEEDS.search(visited, report, asked is not None)
+    return seeded
 
 
-def _summed(found: Dict[str, Any]) -> Seeded:
-    """The sum of what the seeds came to in the profiles that didn't fail."""
-    runs = sum(each.runs for each in found.values() if isinstance(each, Seeded))
-    return of_profiles(Seeded(runs, tuple(rest_of(found))), found)
-
-
-class _Part(NamedTuple):
-    """How many runs there were, the seeds that are left, and what the crashes met."""
-
-    runs: int
-    rest: Tuple[int, ...]
-    unsynced: int
-
-
-def _visit(runs: _Runs, every: List[int], before: int, until: float, first_until: float, progress: Optional[Progress] = None) -> _Part:
+def _visit(runs: _Runs, every: List[int], before: int, until: float, first_until: float, progress: Optional[Progress] = None) -> Part:
     """Makes the run of each seed until it is too late, for the first one `first_until`. `before` is how many runs there were."""
     at = unsynced = 0
     try:
@@ -169,15 +150,15 @@ def _visit(runs: _Runs, every: List[int], before: int, until: float, first_until
             if progress is not None:
                 progress.show(lambda: f"{at} of {len(every)}")
             if at and time.monotonic() >= until:
-                return _Part(at, tuple(every[at:]), unsynced)
+                return Part(at, every[at:], unsynced)
             met = _met_by(runs, seed, before + at, until if at else first_until)
             if met is None:
-                return _Part(at, tuple(every[at:]), unsynced)
+                return Part(at, every[at:], unsynced)
             unsynced |= met
     except KeyboardInterrupt as error:
-        error.part = _Part(at, tuple(every[at:]), unsynced)  # type: ignore[attr-defined]
+        error.part = Part(at, every[at:], unsynced)  # type: ignore[attr-defined]
         raise
-    return _Part(len(every), (), unsynced)
+    return Part(len(every), [], unsynced)
 
 
 def _met_by(runs: _Runs, seed: int, before: int, until: float) -> Optional[int]:
@@ -209,35 +190,30 @@ def _is_late(store: Any) -> bool:
     return isinstance(store, _Timed) and store._bounds.is_late
 
 
-def _visit_with(executor: Any, runs: _Runs, every: List[int], until: float, progress: Progress) -> _Part:
+def _visit_with(executor: Any, runs: _Runs, every: List[int], until: float, progress: Progress) -> Part:
     """Makes the runs by workers."""
     from .spread import Spread
 
-    spread = Spread(executor)
+    spread, waiting = Spread(executor), list(every)
     chunk = min(_CHUNK, max(1, len(every) // (4 * spread.workers)))
-    at, done, rest, unsynced = 0, 0, [], 0
+
+    def take(total: Part) -> Any:
+        left = until - time.monotonic()
+        if left <= 0:
+            return None
+        before, part = len(every) - len(waiting), waiting[:chunk]
+        del waiting[:chunk]
+        return part, _visit_for, runs, part, before, left
+
     try:
-        while at < len(every) or len(spread):
-            while at < len(every) and len(spread) < 2 * spread.workers and time.monotonic() < until:
-                part = every[at : at + chunk]
-                spread.submit(part, _visit_for, runs, part, at, max(0.0, until - time.monotonic()))
-                at += len(part)
-            if not len(spread):
-                break
-            for made in spread.done():
-                done += made.runs
-                rest += made.rest
-                unsynced |= made.unsynced
-            progress.show(lambda: f"{done} of {len(every)}")
+        part = spread.run(waiting, take, progress, lambda total: f"{total.runs} of {len(every)}")
     except KeyboardInterrupt as error:
-        left = sorted([*rest, *spread.under_way(), *every[at:]])
-        error.part = _Part(done, tuple(left), unsynced)  # type: ignore[attr-defined]
+        error.part.rest.sort()  # type: ignore[attr-defined]
         raise
-    rest += every[at:]
-    spread.check(rest)
-    return _Part(done, tuple(sorted(rest)), unsynced)
+    part.rest.sort()
+    return part
 
 
-def _visit_for(runs: _Runs, every: List[int], before: int, seconds: float) -> _Part:
+def _visit_for(runs: _Runs, every: List[int], before: int, seconds: float) -> Part:
     until = time.monotonic() + seconds
     return _visit(runs, every, before, until, until)

@@ -9,46 +9,14 @@ from typing import Iterable, List, Optional
 MAX = 2**64 - 1
 LAST_VERSION = 2**16 - 1
 
-_DIGITS = re.compile(r"[0-9]+")
+DIGITS = re.compile(r"[0-9]+")
 _HEX = re.compile(r"-|([0-9a-fA-F]{2})+")
 # The most bytes of a token that are shown.
 _SHOWN = 40
 
-# The usual form of a call: valid names of partitions, numbers that are small enough by their length, one space between tokens. The two
-# numbers of a rate are compared afterwards.
-_NUMBER, _VERSION = "[0-9]{1,19}", "[0-9]{1,4}"
-_PARTITION, _DIGIT = "[A-Za-z0-9_-]+", "[0-9a-fA-F]"
-# Long runs of digits in steps, each of which is one loop of the matcher.
-_PAIRS = f"(?:{_DIGIT}{{128}})*(?:{_DIGIT}{{16}})*(?:{_DIGIT}{{2}})*"
-_RATE = f"{_NUMBER} {_NUMBER}"
-_MODE = "(?:prefix|subset|sectors [1-9][0-9]{0,18})"
-
-
-def _bytes(name: str) -> str:
-    """The expression of bytes, with a group of this name. What a lookahead has found isn't tried again in other steps, so that a line
-    that doesn't match takes no longer than one that does."""
-    return f"(?:-|(?={_DIGIT})(?=(?P<{name}>{_PAIRS}))(?P={name}))"
-
-
-_FORMS = (
-    f"(?:size|sync|close|startsync|finish) {_NUMBER}",
-    f"read {_NUMBER} {_NUMBER} {_NUMBER}",
-    f"writes? {_NUMBER} {_NUMBER} {_bytes('data')}",
-    f"(?:open|loose) {_PARTITION} {_bytes('opened')}(?: {_VERSION} {_VERSION})?",
-    f"resize {_NUMBER} {_NUMBER}",
-    f"admit {_PARTITION} {_bytes('admitted')}",
-    f"remove {_PARTITION}(?: {_bytes('removed')})?",
-    f"scan {_PARTITION}",
-    "crash|reopen|config clear",
-    f"config (?:open|read|sync|remove|scan) {_RATE}",
-    f"config resize {_RATE} {_RATE}",
-    f"config write {_RATE} {_RATE} {_MODE}",
-)
-_is_usual = re.compile("|".join(_FORMS)).fullmatch
-
 # The arguments of each line by its first words, each named by its kind. What is in brackets may be left out, and `..` are any number of
 # further ones.
-_SHAPES = {
+SHAPES = {
     "image": "P NAME HEX",
     "words": "W ..",
     "seed": "SEED",
@@ -89,6 +57,9 @@ _NOUNS = {
     "[LO": "a version is a number",
     "HI]": "a version is a number",
     "S": "a sector size is a number",
+    # Of files.
+    **dict.fromkeys(("file", "number", "first"), "this is a number"),
+    "last": "a length or an offset is a number",
 }
 
 
@@ -104,27 +75,15 @@ def value_of(digits: str) -> int:
     return int(digits.lstrip("0") or "0")
 
 
-def usual_tokens(line: str) -> Optional[List[str]]:
-    """Returns the tokens of a call in its usual form; `None` for any other line, which may still be a call."""
-    if not _is_usual(line):
-        return None
-    tokens = line.split(" ")
-    if tokens[0] == "config":
-        rates = tokens[2:6]
-        if not all(_is_rate(top, bottom) for top, bottom in zip(rates[::2], rates[1::2])):
-            return None
-    return tokens
-
-
 def reason_of(tokens: List[str]) -> Optional[str]:
     """Returns why these tokens, at least one, aren't a call or a preamble line; `None` if they are."""
     if tokens[0] == "config" and len(tokens) == 1:
         return "a token is missing: `config SETTING ..`"
     words = tokens[:2] if tokens[0] == "config" else tokens[:1]
-    shape = _SHAPES.get(" ".join(words))
+    shape = SHAPES.get(" ".join(words))
     if shape is None:
-        settings = [name[7:] for name in _SHAPES if name.startswith("config ")]
-        return unknown("setting", words[1], settings) if len(words) == 2 else unknown("call", words[0], _SHAPES)
+        settings = [name[7:] for name in SHAPES if name.startswith("config ")]
+        return unknown("setting", words[1], settings) if len(words) == 2 else unknown("call", words[0], SHAPES)
     return _wrong_arguments(words, shape, tokens[len(words) :])
 
 
@@ -146,7 +105,7 @@ def _wrong_arguments(words: List[str], shape: str, arguments: List[str]) -> Opti
     for at, kind in enumerate(kinds):
         if at >= len(arguments):
             return None if kind.startswith("[") else f"a token is missing: {_line(words, shape)}"
-        why = _unmet(kind, arguments[at])
+        why = unmet(kind, arguments[at])
         if why:
             return _wrong(arguments[at], why)
         if kind in ("D", "FD", "RD", "PD") and not _is_rate(arguments[at - 1], arguments[at]):
@@ -158,7 +117,7 @@ def _wrong_rest(words: List[str], shape: str, rest: List[str]) -> Optional[str]:
     if rest and not shape.endswith(".."):
         return _wrong(rest[0], f"a token too many: {_line(words, shape)}")
     for token in rest:
-        why = _unmet("..", token)
+        why = unmet("..", token)
         if why:
             return _wrong(token, why)
     return None
@@ -177,17 +136,17 @@ def _wrong(token: str, expected: str) -> str:
     return f"{shown(token)}: {expected}"
 
 
-def _unmet(kind: str, token: str) -> Optional[str]:
+def unmet(kind: str, token: str) -> Optional[str]:
     """What an argument of a kind must be, if the token isn't that."""
     if kind == "P" or (kind in ("W", "..") and token == "max"):
         return None
     if kind in ("NAME", "[NAME]"):
         return None if _HEX.fullmatch(token) else "a name is hex, two digits a byte, or `-` for no bytes"
-    if kind == "HEX":
+    if kind in ("HEX", "bytes"):
         return None if _HEX.fullmatch(token) else "bytes are hex, two digits each, or `-` for none"
     if kind == "MODE":
         return None if token in ("prefix", "subset", "sectors") else "a mode is `prefix`, `subset` or `sectors S`"
-    if not _DIGITS.fullmatch(token):
+    if not DIGITS.fullmatch(token):
         return _NOUNS.get(kind, "a rate is two numbers, as `1 8`")
     digits = token.lstrip("0") or "0"
     if len(digits) > 20 or int(digits) > MAX:

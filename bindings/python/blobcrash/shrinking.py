@@ -16,18 +16,15 @@ import time
 from typing import Any, Callable, Iterable, Iterator, List, NamedTuple, Optional, Tuple, Union
 
 from .bodies import check_body, check_result
-from .bounds import Bounds, RunEnded
+from .bounds import Bounds
 from .exploration import Body, seconds_of
 from .failures import Failed, reason_of
-from .file_follow import ExploredFiles
 from .file_settings import ALL, profile_asked, refuse_of_stores
-from .file_system import Files
-from .follow import ExploredStore, MoreWords, Run
-from .generator import words_of
+from .follow import ExploredFiles, ExploredStore, MoreWords, Run, called
+from .generator import mixed_of, words_of
 from .grammar import MAX, number
 from .layers import Library
 from .paths import CHOICE, DRAW, POWER, SIZE, WORDS, Choice, draws_of, path_of, text_of
-from .power import PowerLoss
 from .traversal import Traversal
 
 # How many lists of random draws are tried with smaller choices.
@@ -99,7 +96,7 @@ def shrink(
 
     def store(run: Run) -> Any:
         if asked is not None:
-            return _ReplayedFiles(run, settings, asked, by)
+            return ExploredFiles(run, settings, asked, by)
         return ExploredStore(run, settings, images, by, allow_stale)
 
     until = time.monotonic() + seconds_of(seconds)
@@ -183,17 +180,10 @@ class _Seeded(Replay):
 
     def __init__(self, seed: int, room: int) -> None:
         super().__init__(Choices(tuple(itertools.islice(words_of(seed), room)), (), ()), 0)
-        self._random = random.Random(seed)
+        self._chooser = mixed_of(seed)
 
     def pick(self, of: int) -> int:
-        return self._random.randrange(of)
-
-
-class _ReplayedFiles(ExploredFiles):
-    """The files of such a run."""
-
-    def _setting_line(self, setting: str) -> str:
-        return Files._setting_line(self, setting)
+        return next(self._chooser) % of
 
 
 class _Search:
@@ -238,17 +228,8 @@ class _Search:
         while True:
             run = begin()
             store = self._store(run)
-            error: Optional[BaseException] = None
-            result = None
             self.runs += 1
-            try:
-                result = self._body(store)
-            except (Exception, PowerLoss) as raised:
-                error = raised
-            except (MoreWords, RunEnded):
-                pass
-            finally:
-                store.close()
+            result, error = called(self._body, store)
             if run.bounds.is_late:
                 self.stopped = _NO_TIME
             if run.bounds.is_long or run.bounds.is_late:

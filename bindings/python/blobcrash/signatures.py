@@ -4,9 +4,8 @@ from __future__ import annotations
 
 from typing import Any, Callable, Iterable, Literal, Optional, Protocol, Tuple, Union, overload
 
-from .file_follow import ExploredFiles
 from .file_settings import Asked
-from .follow import ExploredStore
+from .follow import ExploredFiles, ExploredStore
 from .results import Explored, Seeded
 from .seeding import SeededFiles, SeededStore
 

@@ -10,9 +10,10 @@ import uuid
 from concurrent.futures import FIRST_COMPLETED, Future, wait
 from typing import Any, Callable, Dict, Iterator, List, NamedTuple, Optional, Tuple
 
-from .exploration import Part, Times, Tree, visit
+from .exploration import Times, Tree, visit
 from .failures import Failed, Trace
 from .progress import Progress, plural
+from .results import Part
 
 # How long a worker goes on before it returns the subtrees that it has left, in seconds: at first, so that there soon are enough for all
 # workers, and then.
@@ -74,15 +75,39 @@ class Spread:
         self.lost: List[Any] = []
         self._cause: Optional[BaseException] = None
 
-    def __len__(self) -> int:
-        return len(self._under_way)
-
     def submit(self, part: Any, *task: Any, again: bool = False) -> None:
         """Gives a task to a worker. `part` is what is lost if that is."""
         try:
             self._under_way[self._executor.submit(told, uuid.uuid4().hex, *task)] = (part, again, task)
         except Exception as error:
             self._lose(part, error)
+
+    def run(self, waiting: List[Any], take: Callable[[Part], Any], progress: Progress, text: Callable[[Part], str]) -> Part:
+        """Does tasks until nothing waits. `take` removes a part from what waits, and returns it with its task, or nothing if no more tasks
+        begin. What a task has left waits again."""
+        total = Part(0, [])
+        try:
+            while waiting or self._under_way:
+                while waiting and len(self._under_way) < 2 * self.workers:
+                    taken = take(total)
+                    if taken is None:
+                        break
+                    self.submit(*taken)
+                if not self._under_way:
+                    break
+                for done in self.done():
+                    total = total.plus(done)
+                    waiting += done.rest
+                progress.show(lambda: text(total))
+        except KeyboardInterrupt as error:
+            error.part = total._replace(rest=[*self.under_way(), *waiting])  # type: ignore[attr-defined]
+            raise
+        self.check(waiting)
+        return total._replace(rest=waiting)
+
+    def tasks(self) -> List[Tuple[Any, ...]]:
+        """The tasks that are under way."""
+        return [task for _, _, task in self._under_way.values()]
 
     def under_way(self) -> List[Any]:
         """What is lost with the tasks that aren't done. They are cancelled, if they haven't begun."""
@@ -151,42 +176,21 @@ def _is_unsent(error: BaseException) -> bool:
 
 def visit_with(executor: Any, tree: Tree, subtrees: List[str], most: int, until: float, progress: Progress) -> Part:
     """Visits the leaves of subtrees by workers, which return what they have left after a while, to be spread again."""
-    spread = Spread(executor)
-    waiting = list(subtrees)
-    outcomes: Dict[Any, int] = {}
-    runs = met = unsynced = promised = 0
-    length = _FIRST_SLICE
+    spread, waiting = Spread(executor), list(subtrees)
+
+    def take(total: Part) -> Any:
+        left, now = most - total.runs - sum(quota for _, _, _, quota, *_ in spread.tasks()), time.monotonic()
+        if left <= 0 or now >= until:
+            return None
+        # The shallowest subtrees, which tend to be the largest, are given away first.
+        waiting.sort(key=len, reverse=True)
+        part = [waiting.pop() for _ in range(max(1, len(waiting) // (_WAITING * spread.workers)))]
+        quota = left if left < spread.workers else left // spread.workers
+        length = _SLICE if total.runs else _FIRST_SLICE
+        return part, visit_for, tree, part, quota, min(length, until - now), until - now
+
     try:
-        while waiting or len(spread):
-            while waiting and len(spread) < 2 * spread.workers:
-                left, now = most - runs - promised, time.monotonic()
-                if left <= 0 or now >= until:
-                    break
-                # The shallowest subtrees, which tend to be the largest, are given away first.
-                waiting.sort(key=len, reverse=True)
-                count = max(1, len(waiting) // (_WAITING * spread.workers))
-                part = [waiting.pop() for _ in range(count)]
-                quota = left if left < spread.workers else left // spread.workers
-                promised += quota
-                spread.submit(part, _visited, tree, part, quota, min(length, until - now), until - now)
-            if not len(spread):
-                break
-            for quota, done in spread.done():
-                promised -= quota
-                runs += done.runs
-                met += done.met
-                unsynced |= done.unsynced
-                waiting += done.rest
-                for outcome, count in done.outcomes.items():
-                    outcomes[outcome] = outcomes.get(outcome, 0) + count
-                length = _SLICE
-            progress.show(lambda: plural(runs, "run"))
+        return spread.run(waiting, take, progress, lambda total: plural(total.runs, "run"))
     except KeyboardInterrupt as error:
-        error.part = Part(runs, outcomes, sorted([*spread.under_way(), *waiting], key=len), met, unsynced)  # type: ignore[attr-defined]
+        error.part.rest.sort(key=len)  # type: ignore[attr-defined]
         raise
-    spread.check(waiting)
-    return Part(runs, outcomes, waiting, met, unsynced)
-
-
-def _visited(tree: Tree, subtrees: List[str], quota: int, seconds: float, left: float) -> Tuple[int, Part]:
-    return quota, visit_for(tree, subtrees, quota, seconds, left)

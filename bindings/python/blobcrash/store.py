@@ -3,37 +3,23 @@
 from __future__ import annotations
 
 from threading import get_ident
-from typing import Any, Callable, Dict, Iterable, List, Optional, Tuple, TypeVar
+from typing import Any, Callable, Dict, Iterable, Iterator, List, Optional, Tuple
 
-from .blob import Blob
-from .errors import BadLine, Interrupted, NeedsSeed, NotMade, WrongThread, refusal
+from .blob import Blob, FollowedBlob
+from .calls import Call, Line, Reply, Rows, reply_of
+from .errors import BadLine, NeedsSeed, refusal
 from .files import BlobFile
-from .grammar import (
-    comment_lines,
-    data_of,
-    hex_of,
-    image_line,
-    number,
-    partition_word,
-    setting_line,
-    text_of,
-    tokens_of,
-    unhex,
-    versions_words,
-)
-from .layers import Library, Program, Reply, default_way, line_of
-from .power import PowerLoss, Supply
+from .grammar import data_of, image_line, is_call, number, setting_line, text_of, tokens_of, versions_of
+from .layers import INT_BITS, Library, default_way
+from .session import Session
 from .unkept import Unsynced
 
 Versions = Optional[Tuple[int, int]]
-# The rows of a crash: a write's number and a choice for each of its bytes, `1` if it is kept.
-Rows = List[Tuple[int, str]]
 # The word after all that are pushed. It isn't zero, so that the library can tell how many words are left.
 _LAST_WORD = 1
-_Own = TypeVar("_Own", bound="Store")
 
 
-class Store:
+class Store(Session):
     """A store with its faults, open handles and started syncs.
 
     `seed`, a number below 2^64, decides what fails and what a crash keeps. `words` are the first words of the generator, in place of
@@ -60,7 +46,7 @@ class Store:
     ) -> None:
         if isinstance(settings, str):
             raise TypeError("settings are a list of texts")
-        self._words = [number(word, "a word") for word in words]
+        super().__init__(words)
         if pushed and (self._words or seed is not None):
             raise ValueError("a store with `pushed` has neither a seed nor words")
         self._pushed = bool(pushed)
@@ -73,56 +59,20 @@ class Store:
         self._unsynced = Unsynced()
         for setting in settings:
             lines.append(self._setting_line(setting))
-        preamble = "\n".join([*lines, ""]).encode()
-        # The script: a line as bytes, a note as its text, and a read or a write as a tuple of its arguments.
-        self._lines: List[Any] = preamble.split(b"\n")[:-1]
+        self._lines = lines
         self._allow_stale = bool(allow_stale)
         # The handles that were opened and not closed, by their numbers.
         self._opened: Dict[int, Blob] = {}
-        self._thread = get_ident()
-        # Whether a call can't be made: one is under way, or was cut short, or the store is closed.
-        self._busy = False
-        self._closed = False
-        self._cause: Optional[BaseException] = None
         way = by or (Library if pushed else default_way())
         if pushed and not hasattr(way, "push_words"):
             raise ValueError("words can be pushed with `by=Library` alone")
-        self._layer = way("\n".join([*self._words_line(), ""]).encode() + preamble)
-
-    def __enter__(self: _Own) -> _Own:
-        return self
-
-    def __exit__(self, *_: object) -> None:
-        self.close()
-
-    def close(self) -> None:
-        """Ends the store. Calls of it and of its blobs then raise `ValueError`."""
-        if get_ident() != self._thread:
-            raise self._unusable()
-        self._busy = self._closed = True
-        self._opened.clear()
-        self._layer.close()
-
-    @property
-    def script(self) -> List[str]:
-        """The lines of all calls, and notes: a script that makes the same calls again."""
-        lines = self._words_line()
-        for line in self._lines:
-            if type(line) is bytes:
-                lines.append(line.decode())
-            elif type(line) is str:
-                lines += comment_lines(line)
-            else:
-                lines.append(line_of(*line))
-        return lines
+        self._layer = way("\n".join([*self._words_line(), *lines, ""]).encode())
+        # The library, if reads and writes are made by it without a layer between.
+        self._direct: Any = self._layer if type(self._layer) is Library and not self._is_bounded else None
 
     def _words_line(self) -> List[str]:
         words = [*self._words, *reversed(self._ahead)]
         return ["words " + " ".join(map(str, words))] if words else []
-
-    def note(self, text: str) -> None:
-        """Adds a comment to the script, a line for each of the text's."""
-        self._lines.append(text if type(text) is str else text_of(text, "a note"))
 
     def push_words(self, words: Iterable[int]) -> None:
         """Gives the words that the next draws take, before any that were pushed and weren't taken.
@@ -149,29 +99,32 @@ class Store:
         """
         if type(line) is not str:
             line = text_of(line, "a line")
-        if line.startswith("write") and type(self._layer) is Library and line.isascii() and "\n" not in line:
-            # The library checks a long line faster, and makes no call if it is bad.
-            try:
-                words = self._ask(line)
-            except BadLine:
-                tokens_of(line)
-                raise
-            self._unsynced.line(line.split(None, 2), words)
-            return words
-        tokens = tokens_of(line)
-        if not tokens:
+        if not is_call(line):
             self._check()
-            self._lines.append(line.encode())
+            self._lines.append(line)
             return []
-        words = self._ask(line)
-        self._unsynced.line(tokens, words)
-        if tokens[0] == "close":
-            self._opened.pop(int(tokens[1]), None)
-        elif tokens[0] == "remove":
-            self._end_blobs(tokens[1], unhex(tokens[2]) if tokens[2:] else None)
-        elif tokens[0] in ("crash", "reopen"):
-            self._end_handles(f"the store had the call `{tokens[0]}` since")
+        if getattr(self._layer, "ends_at_bad_line", False):
+            tokens_of(line)
+        asked = Line.of(line)
+        try:
+            words: List[str] = self._call(asked)
+        except BadLine:
+            # Raises with the reason.
+            tokens_of(line)
+            raise
+        self._follow(asked, reply_of(words))
         return words
+
+    def _follow(self, asked: Call, reply: Any) -> None:
+        """Takes a call by its line, that was made, and what it returned."""
+        word = asked.word
+        self._unsynced.take(asked, reply)
+        if word == "close":
+            self._closed_handle(asked.number)
+        elif word == "remove":
+            self._end_blobs(asked.partition, asked.name)
+        elif word in ("crash", "reopen"):
+            self._end_handles(f"the store had the call `{word}` since")
 
     def open(self, partition: str, name: bytes, versions: Versions = None) -> Tuple[Blob, int]:
         """Opens a blob, or creates it. Returns its handle and its size in bytes.
@@ -191,35 +144,33 @@ class Store:
 
     def admit(self, partition: str, name: bytes) -> None:
         """Drops what is pending of a blob, so that no crash applies it."""
-        self._ask(f"admit {partition_word(partition)} {hex_of(data_of(name, 'a name'))}", partition)
+        self._call(Call("admit", partition=text_of(partition, "a partition"), name=data_of(name, "a name")))
 
     def finish(self, started: int) -> None:
         """Finishes a started sync. Raises what the sync came to."""
-        self._ask(f"finish {number(started, 'a started sync')}")
+        self._call(Call("finish", number(started, "a started sync")))
 
     def remove(self, partition: str, name: Optional[bytes] = None) -> None:
         """Removes a blob, or without a name the partition with all its blobs."""
-        line = f"remove {partition_word(partition)}"
-        if name is not None:
-            name = data_of(name, "a name")
-            line += f" {hex_of(name)}"
-        self._ask(line, partition)
+        partition, name = text_of(partition, "a partition"), None if name is None else data_of(name, "a name")
+        self._call(Call("remove", partition=partition, name=name))
         self._end_blobs(partition, name)
 
     def scan(self, partition: str) -> List[bytes]:
         """Returns the names of a partition's blobs, sorted by their bytes."""
-        return [unhex(name) for name in self._ask(f"scan {partition_word(partition)}", partition)[1:]]
+        names: List[bytes] = self._call(Call("scan", partition=text_of(partition, "a partition")))
+        return names
 
     def crash(self) -> Rows:
         """Loses what isn't durable, except what the draws keep. Returns the draws. All handles are stale."""
-        rows = [row.split(":") for row in self._ask("crash")[1:]]
+        rows: Rows = self._call(Call("crash"))
         self._unsynced.crash()
         self._end_handles("the store has crashed since")
-        return [(int(write), kept) for write, kept in rows]
+        return rows
 
     def reopen(self) -> None:
         """Builds the store again from what is durable. All handles are stale, and no name is open."""
-        self._ask("reopen")
+        self._call(Call("reopen"))
         self._unsynced.reopen()
         self._end_handles("the store was reopened since")
 
@@ -241,27 +192,10 @@ class Store:
     def _expect(self, value: Any) -> None:
         """Takes what a body expects after a restart. Here it does nothing."""
 
-    def crash_after(self, calls: int) -> None:
-        """Turns the power off after `calls` more calls that may change what a crash leaves.
-
-        These are opens, writes, resizes, syncs, removals and admissions, whatever they return. From then on every call raises
-        `PowerLoss`, except `configure`, until the store has crashed and reopened, as by `restart`.
-        """
-        calls = number(calls, "a number of calls")
-        self._check()
-        if not isinstance(self._layer, Supply):
-            self._layer = Supply(self._layer)
-        self._layer.cut_after(calls)
-
     def recover(self, step: Callable[..., Any], *arguments: Any, expecting: Any = None) -> Any:
         """Restarts the store, calls `step` and returns what that returns. Does both again if the power fails meanwhile. `expecting` is
         that of `restart`."""
-        while True:
-            self.restart(expecting=expecting)
-            try:
-                return step(*arguments)
-            except PowerLoss:
-                pass
+        return self._recover(lambda: self.restart(expecting=expecting), step, arguments)
 
     def configure(self, setting: str) -> None:
         """Sets a rate, as `write 1 100 1 2 sectors 512`, or with `clear` none.
@@ -269,7 +203,7 @@ class Store:
         Raises `BadLine` with the reason if it is no setting, and `NeedsSeed` if it needs random draws and the store has neither a seed
         nor a word.
         """
-        self._ask(self._setting_line(setting))
+        self._call(Line.of(self._setting_line(setting)))
 
     def _setting_line(self, setting: str) -> str:
         line, needs_draws = setting_line(setting if type(setting) is str else text_of(setting, "a setting"))
@@ -282,94 +216,81 @@ class Store:
         return line
 
     def _open(self, word: str, partition: str, name: bytes, versions: Versions) -> Tuple[Blob, int]:
-        name = data_of(name, "a name")
-        line = f"{word} {partition_word(partition)} {hex_of(name)}{versions_words(versions)}"
-        handle, size, version = map(int, self._ask(line, partition)[1:])
-        blob = self._opened[handle] = Blob(self, handle, version, partition, name)
+        name, partition = data_of(name, "a name"), text_of(partition, "a partition")
+        handle, size, version = self._call(Call(word, 0, *versions_of(versions), partition, name))
+        kind = FollowedBlob if self._is_search else Blob
+        blob = self._opened[handle] = kind(self, handle, version, partition, name)
         self._unsynced.open(word, handle, blob._of)
         return blob, size
 
     def _end_handles(self, why: str) -> None:
         for blob in self._opened.values():
-            blob._stale = why
+            blob._end(why)
 
     def _end_blobs(self, partition: str, name: Optional[bytes]) -> None:
         self._unsynced.remove(partition, name)
         for blob in self._opened.values():
             if blob._of == (partition, name) or (name is None and blob._of[0] == partition):
-                blob._stale = "its blob was removed since"
-
-    def _check(self) -> None:
-        if self._busy or get_ident() != self._thread:
-            raise self._unusable()
-
-    def _unusable(self) -> Exception:
-        if get_ident() != self._thread:
-            return WrongThread("a store belongs to the thread that made it")
-        if self._closed:
-            return ValueError("the store is closed")
-        error = Interrupted("an earlier call was cut short, so its reply is lost: the store can't be used any more")
-        error.__cause__ = self._cause
-        return error
+                blob._end("its blob was removed since")
 
     def _refused(self) -> None:
         """Is called before a use of a handle is refused without a call."""
 
-    def _ended(self, error: BaseException) -> None:
-        """Forgets a call that wasn't made. A call that may have been made ends the store."""
-        if isinstance(error, PowerLoss):
-            self._lines[-1:] = [b"# power loss"] if error.is_first else []
-            self._busy = False
-        elif isinstance(error, (BadLine, NotMade)):
-            self._lines.pop()
-            self._busy = isinstance(error, BadLine) and isinstance(self._layer, Program)
-        self._cause = error
-
-    def _ask(self, line: str, partition: Optional[str] = None) -> List[str]:
-        """Makes the call of a line that is known to be one, and returns the words of its reply."""
-        return self._call(line.encode(), partition).decode().split(" ")
-
-    def _call(self, line: bytes, partition: Optional[str] = None) -> bytes:
-        """Makes the call of a line that is known to be one, and returns its reply."""
-        if self._busy or get_ident() != self._thread:
-            raise self._unusable()
-        self._busy = True
-        self._lines.append(line)
-        try:
-            reply: bytes = self._layer.call(line)
-        except BaseException as error:
-            self._ended(error)
-            raise
-        self._busy = False
-        if reply != b"ok" and reply.startswith(b"error "):
-            raise refusal(reply.decode(), partition)
+    def _call(self, asked: Call) -> Any:
+        """Makes a call, and returns what it does. Raises its refusal."""
+        reply = self._apply(asked)
+        if isinstance(reply, Reply):
+            raise refusal(reply.line, asked.partition)
         return reply
 
-    def _read(self, handle: int, offset: int, length: int) -> bytes:
-        if self._busy or get_ident() != self._thread:
-            raise self._unusable()
-        self._busy = True
-        self._lines.append((handle, offset, length))
+    def _refuse(self, asked: Call, status: int) -> None:
+        """Raises the refusal of a call that the library was asked for without a call object."""
         try:
-            found: Any = self._layer.read(handle, offset, length)
+            refused = self._direct.refused(status)
         except BaseException as error:
-            self._ended(error)
+            self._ended(asked, error)
             raise
-        self._busy = False
-        if isinstance(found, Reply):
-            raise refusal(found.line)
-        return bytes(found)
+        self._lines.append(asked)
+        self._owner = self._thread
+        raise refusal(refused.line)
 
-    def _write(self, handle: int, offset: int, data: bytes, sync: bool) -> None:
-        if self._busy or get_ident() != self._thread:
+    def _end_direct(self) -> None:
+        self._direct = None
+        for blob in self._opened.values():
+            blob._put = None
+
+    def _closed_handle(self, handle: int) -> None:
+        blob = self._opened.pop(handle, None)
+        if blob is not None:
+            blob._end()
+
+    @staticmethod
+    def _write_call(handle: int, offset: int, data: bytes, sync: bool) -> Call:
+        return Call("writes" if sync else "write", handle, offset, name=data)
+
+    def _made(self) -> Iterator[Any]:
+        lines = iter(self._lines)
+        for line in lines:
+            # The handle of a write by `Blob.write`, which the other arguments follow.
+            yield self._write_call(line, next(lines), next(lines), next(lines)) if type(line) is int else line
+
+    def _read(self, handle: int, offset: int, length: int) -> Any:
+        """Reads exactly `length` bytes. Without a layer between, this makes no call object, as `Blob.write`."""
+        direct = self._direct
+        if direct is None or offset >> INT_BITS or length > len(direct.room):
+            return self._call(Call("read", handle, offset, length))
+        if self._owner != get_ident():
             raise self._unusable()
-        self._busy = True
-        self._lines.append((handle, offset, data, sync))
+        self._owner = None
+        asked = Call("read", handle, offset, length)
         try:
-            found = self._layer.write(handle, offset, data, sync)
+            status = direct.untyped_read(direct.at, handle, offset, direct.room, length)
+            found = direct.room[:length]
         except BaseException as error:
-            self._ended(error)
+            self._ended(asked, error)
             raise
-        self._busy = False
-        if found is not None:
-            raise refusal(found.line)
+        if status:
+            self._refuse(asked, status)
+        self._lines.append(asked)
+        self._owner = self._thread
+        return found

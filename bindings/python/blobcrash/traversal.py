@@ -5,8 +5,7 @@ from __future__ import annotations
 import ctypes
 from typing import Any, List, Sequence
 
-from .errors import LibraryMissing
-from .foreign import NO_ROOM, Branch, Choice, Explorer, library, loaded
+from .foreign import NO_ROOM, Choice, Explorer, function
 from .paths import KINDS, text_of
 from .paths import Choice as Chosen
 
@@ -15,7 +14,6 @@ class Traversal:
     """A path, below which the leaves of a tree are visited, and the choices of the run that follows it."""
 
     def __init__(self, path: Sequence[Chosen] = ()) -> None:
-        self._functions = _functions()
         self._explorer = Explorer(root=len(path), len=len(path))
         self._at = ctypes.byref(self._explorer)
         self._hold(max(64, 2 * len(path)))
@@ -49,12 +47,12 @@ class Traversal:
 
     def begin(self, given: int) -> None:
         """Begins the run of the path, with this many words."""
-        self._functions.blobcrash_explorer_begin(self._at, given)
+        function("explorer_begin")(self._at, given)
 
     def choose(self, kind: str, among: int) -> int:
         """Makes the next choice of the run, and returns its branch."""
         while True:
-            chosen = self._functions.blobcrash_explorer_choose(self._at, self._choices, self._capacity, KINDS.index(kind), among)
+            chosen = function("explorer_choose")(self._at, self._choices, self._capacity, KINDS.index(kind), among)
             if chosen.status != NO_ROOM:
                 return int(chosen.branch)
             self._hold(2 * self._capacity)
@@ -66,16 +64,16 @@ class Traversal:
 
     def _counted(self, left: int, sizes: int) -> int:
         if sizes:
-            return int(self._functions.blobcrash_explorer_count_size(self._at, self._choices, self._capacity, left, sizes))
-        return int(self._functions.blobcrash_explorer_count(self._at, self._choices, self._capacity, left))
+            return int(function("explorer_count_size")(self._at, self._choices, self._capacity, left, sizes))
+        return int(function("explorer_count")(self._at, self._choices, self._capacity, left))
 
     def end(self) -> bool:
         """Ends the run. Returns whether it made the choices of the path, and no fewer."""
-        return bool(self._functions.blobcrash_explorer_end(self._at))
+        return bool(function("explorer_end")(self._at))
 
     def advance(self) -> bool:
         """Makes the path that of the next leaf. Returns `False` for the last one."""
-        return bool(self._functions.blobcrash_explorer_next(self._at, self._choices, self._capacity))
+        return bool(function("explorer_next")(self._at, self._choices, self._capacity))
 
     def rest(self) -> List[str]:
         """The subtrees that are left, from that of the path on, as texts."""
@@ -103,22 +101,3 @@ class Traversal:
 
 def _chosen(choice: Choice) -> Chosen:
     return KINDS[choice.kind], choice.branch, choice.among
-
-
-def _functions() -> Any:
-    functions = loaded()
-    if not hasattr(functions, "blobcrash_explorer_count_size"):
-        raise LibraryMissing(f"{library()} has no blobcrash_explorer_count_size: build it with `sh bindings/build.sh`")
-    explorer, choices, size = ctypes.POINTER(Explorer), ctypes.POINTER(Choice), ctypes.c_size_t
-    functions.blobcrash_explorer_begin.restype = None
-    functions.blobcrash_explorer_begin.argtypes = [explorer, size]
-    functions.blobcrash_explorer_choose.restype = Branch
-    functions.blobcrash_explorer_choose.argtypes = [explorer, choices, size, ctypes.c_uint32, ctypes.c_uint64]
-    functions.blobcrash_explorer_count.restype = ctypes.c_uint32
-    functions.blobcrash_explorer_count.argtypes = [explorer, choices, size, size]
-    functions.blobcrash_explorer_count_size.restype = ctypes.c_uint32
-    functions.blobcrash_explorer_count_size.argtypes = [explorer, choices, size, size, ctypes.c_uint64]
-    functions.blobcrash_explorer_end.restype = functions.blobcrash_explorer_next.restype = ctypes.c_bool
-    functions.blobcrash_explorer_end.argtypes = [explorer]
-    functions.blobcrash_explorer_next.argtypes = [explorer, choices, size]
-    return functions

@@ -5,7 +5,6 @@ from __future__ import annotations
 from typing import Any, Dict, List, Optional
 
 from .file_settings import TORN_WRITES
-from .grammar import unhex
 
 # What a crash met: unsynced writes that it could not keep, and some that it could.
 NEVER_KEPT, MAY_KEEP = 1, 2
@@ -27,7 +26,7 @@ class Unsynced:
         self._kept = NEVER_KEPT
         self._syncs_lie = False
         self._writes: Dict[Any, int] = {}
-        # The blobs of handles.
+        # The blobs of handles, or the inodes of open files by their descriptors.
         self._opened: Dict[int, Any] = {}
 
     def set(self, tokens: List[str]) -> None:
@@ -54,11 +53,6 @@ class Unsynced:
         if not self._syncs_lie:
             self._writes.pop(of, None)
 
-    def sync_all(self, is_settled: bool) -> None:
-        """Takes a sync of everything, or a settle, which doesn't lie."""
-        if is_settled or not self._syncs_lie:
-            self._writes.clear()
-
     def remove(self, partition: str, name: Optional[bytes]) -> None:
         """Takes the removal of a blob, or without a name of a partition."""
         for of in [of for of in self._writes if of and of[0] == partition and name in (None, of[1])]:
@@ -74,18 +68,41 @@ class Unsynced:
         """Takes a reopen, which drops what is pending."""
         self._writes.clear()
 
-    def line(self, tokens: List[str], reply: List[str]) -> None:
-        """Takes the line of a call on a store that was made, and the words of its reply."""
-        word = tokens[0]
+    def take(self, asked: Any, reply: Any) -> None:
+        """Takes a call on a store by its line, that was made, and what it returned."""
+        word, number = asked.word, asked.number
         if word == "config":
-            self.set(tokens)
+            self.set(asked.name.decode().split())
         elif word == "crash":
             self.crash()
         elif word == "reopen":
             self.reopen()
         elif word in ("open", "loose"):
-            self.open(word, int(reply[1]), (tokens[1], unhex(tokens[2])))
+            self.open(word, reply.handle, (asked.partition, asked.name))
         elif word in ("sync", "startsync"):
-            self.sync(self._opened.get(int(tokens[1])))
-        elif word == "write" and not tokens[-1].endswith("-"):
-            self.write(self._opened.get(int(tokens[1])))
+            self.sync(self._opened.get(number))
+        elif word == "write" and asked.name:
+            self.write(self._opened.get(number))
+
+    def take_of_files(self, asked: Any, layer: Any) -> None:
+        """Takes a call on files that was made."""
+        word, number = asked.word, asked.number
+        if word == "write":
+            self.write(self._inode(number, layer))
+        elif word in ("fsync", "fdatasync"):
+            self.sync(self._inode(number, layer))
+        elif word == "close":
+            self._opened.pop(number, None)
+        elif word == "crash":
+            self.crash()
+            self._opened.clear()
+        elif word == "settle" or (word == "sync" and not self._syncs_lie):
+            self._writes.clear()
+
+    def _inode(self, descriptor: int, layer: Any) -> Any:
+        """The inode of an open file; of a layer that doesn't tell it, a key of the descriptor."""
+        inode = self._opened.get(descriptor)
+        if inode is None:
+            ask = getattr(layer, "inode_at", None)
+            inode = self._opened[descriptor] = ask(descriptor) if ask else -1 - descriptor
+        return inode

@@ -43,7 +43,7 @@ mod profiles;
 mod record;
 mod state;
 
-pub use builder::{Builder, FailedSync, FailedWrite, Profile, Syncs};
+pub use builder::{Builder, Edits, FailedSync, FailedWrite, Profile, Syncs};
 pub use calls::Files;
 pub use crash::{Crash, Place};
 pub use entries::{DirEntry, FileType, Metadata};

@@ -185,8 +185,8 @@ fn names_and_directories() -> Result<(), Error> {
 
 #[test]
 fn what_a_crash_kept() -> Result<(), Error> {
-    // A create, then two sectors of one write: the draws of the crash are in this order.
-    let last = [0, 0, u64::MAX, 1];
+    // A create, the zeros of two sectors, and then the write of them: the draws of the crash are in this order.
+    let last = [0, u64::MAX, u64::MAX, 0, u64::MAX, 1];
     let files = Files::builder()
         .words(&last)
         .profile(Profile::Posix)
@@ -198,10 +198,14 @@ fn what_a_crash_kept() -> Result<(), Error> {
     assert_eq!(files.words_left(), Some(1));
     let half = [vec![true; 512], vec![false; 512]].concat();
     // The record of the create: 34 bytes and its entry, 8 bytes of the directory's number and the name.
-    assert_eq!(kept.writes, [(0, vec![true; 43]), (1, half)]);
+    let zeros = vec![false; 1024];
+    assert_eq!(
+        kept.writes,
+        [(0, vec![true; 43]), (1, zeros), (2, half)]
+    );
     assert_eq!(files.read("/f")?, [b'a'; 512]);
     let told = "# of the unsettled edits it keeps 1\n# of write 0 it keeps bytes 0 to 42 of 43\n\
-                # of write 1 it keeps bytes 0 to 511 of 1024\nopen /f # is 1\nsize 1\nread 1 0 512\nclose 1\n";
+                # of write 1 it keeps none of 1024\n# of write 2 it keeps bytes 0 to 511 of 1024\nopen /f # is 1\nsize 1\nread 1 0 512\nclose 1\n";
     assert!(files.script().ends_with(told), "{}", files.script());
     Ok(())
 }

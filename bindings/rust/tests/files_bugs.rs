@@ -81,20 +81,15 @@ fn explored_with(
 }
 
 /// Without a bug there is a run for each call and each way in which a loss there keeps the pending edits and sectors. The first write of
-/// `/f` has 1 + 2, its replacement 1 + 2 + 8 + 1 + 2, and a run without a loss 1. In POSIX the name of the synced file is pending too, at the
-/// last two calls: 2 + 4.
+/// `/f` has 1 + 2, its replacement 1 + 2 + 8 + 1 + 2, and a run without a loss 1. Except in XFS each of the two sectors may also be
+/// zeros: 32 in place of 8. In POSIX the name of the synced file is pending too, at the last two calls: 2 + 4.
 #[test]
 fn a_file_that_is_replaced_by_a_rename() {
-    for (profile, runs) in Profile::ALL.into_iter().zip([18, 18, 18, 21]) {
+    for (profile, runs) in Profile::ALL.into_iter().zip([42, 18, 42, 45]) {
         let of = |forgets| explored(profile, |run| replacement(run, forgets));
         assert_eq!(of(Forgets::Nothing), Ok(runs), "{profile:?}");
-        // ext4 makes the new bytes durable in the rename.
         let unsynced = of(Forgets::Sync);
-        assert_eq!(
-            unsynced.is_ok(),
-            profile == Profile::Ext4,
-            "{profile:?}: {unsynced:?}"
-        );
+        assert!(unsynced.is_err(), "{profile:?}: {unsynced:?}");
         // The old bytes are left although the call has returned.
         let undirected = of(Forgets::DirectorySync);
         assert!(
@@ -114,10 +109,10 @@ fn record(letter: u8) -> Vec<u8> {
     bytes
 }
 
+/// FNV-1a: a sector of a letter and one of zeros have different sums.
 fn checksum(bytes: &[u8]) -> u8 {
-    bytes
-        .iter()
-        .fold(7, |sum: u8, byte| sum.rotate_left(3) ^ byte)
+    let step = |sum: u32, byte: &u8| (sum ^ u32::from(*byte)).wrapping_mul(16_777_619);
+    (bytes.iter().fold(2_166_136_261, step) >> 24) as u8
 }
 
 /// Returns how many records the log has: those before the first one with another checksum.
@@ -167,12 +162,7 @@ fn an_append_without_a_checksum() {
         let checked = explored(profile, |run| append(run, Forgets::Nothing));
         assert!(checked.is_ok(), "{profile:?}: {checked:?}");
         let unchecked = explored(profile, |run| append(run, Forgets::Checksum));
-        // In ext4 an append has no holes, so that a record that is as long is whole.
-        assert_eq!(
-            unchecked.is_ok(),
-            profile == Profile::Ext4,
-            "{profile:?}: {unchecked:?}"
-        );
+        assert!(unchecked.is_err(), "{profile:?}: {unchecked:?}");
     }
 }
 

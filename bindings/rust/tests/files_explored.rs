@@ -54,18 +54,21 @@ fn what_the_profiles_leave() {
             .write_all(&sectors("BB"))
     }
     let holes: &[&str] = &["AA", "AAB", "AABB", "AA0B"];
+    let zeros: &[&str] = &["AA", "AA0", "AA00", "AA0B", "AAB", "AAB0", "AABB"];
     check(
         "append",
         [old, append],
         &["/f"],
-        [&["AA", "AAB", "AABB"], holes, holes, holes],
+        [zeros, holes, zeros, zeros],
     );
-    let unsynced: &[&str] = &["AA", "BB", "B", "0B", ""];
+    let long: &[&str] = &["AA", "00", "0B", "B0", "BB"];
+    let short: &[&str] = &["AA", "BB", "B", "0B", ""];
+    let either: &[&str] = &["AA", "00", "0B", "B0", "BB", "B", "0", ""];
     check(
         "rename",
         [old, rename],
         &["/f"],
-        [&["AA", "BB"], unsynced, unsynced, unsynced],
+        [long, short, either, either],
     );
     let synced: Program = |files| {
         let file = files.create("/t")?;
@@ -98,8 +101,8 @@ fn what_the_profiles_leave() {
     );
 }
 
-/// In ext4 a close makes the bytes of a file durable that an open truncated. A look at its size doesn't: it closes nothing. The truncation
-/// is kept or lost, and so is each of the two sectors that are written after it.
+/// The truncation is kept or lost, and so is each of the two sectors that are written after it. Except in XFS either may also be zeros.
+/// A close changes nothing of it.
 #[test]
 fn a_file_that_is_written_in_place() {
     fn old(files: &Files) -> io::Result<()> {
@@ -113,15 +116,18 @@ fn a_file_that_is_written_in_place() {
         files.crash()?;
         Ok(())
     };
-    let whole: &[&str] = &["AA", "AB", "BA", "BB", "B", ""];
     let holes: &[&str] = &["AA", "AB", "BA", "BB", "B", "0B", ""];
-    check(
-        "closed",
-        [old, closed],
-        &["/f"],
-        [&["BB"], holes, holes, holes],
-    );
-    check("open", [old, opened], &["/f"], [whole, holes, holes, holes]);
+    let zeros: &[&str] = &[
+        "AA", "AB", "BA", "BB", "A0", "0A", "00", "0B", "B0", "B", "0", "",
+    ];
+    for (name, program) in [("closed", closed), ("open", opened)] {
+        check(
+            name,
+            [old, program],
+            &["/f"],
+            [zeros, holes, zeros, zeros],
+        );
+    }
 }
 
 #[test]
@@ -221,7 +227,7 @@ fn what_can_not_be_explored() {
 #[test]
 fn a_loss_at_each_call() {
     // The power fails at the create, the write or the sync, or not at all; the crash's recovery has no call of its own. At the sync the
-    // sector of the write is kept or lost.
+    // sector of the write is kept or lost, and so is that of the zeros by which the file grew.
     let builder = Files::builder().keep(Probability::ZERO);
     let visited = Exploration::of(&builder).power_losses(1).visit(|run| {
         let write = || -> io::Result<()> {
@@ -238,6 +244,6 @@ fn a_loss_at_each_call() {
     let outcomes = visited.unwrap().outcomes;
     assert_eq!(
         outcomes.into_iter().collect::<Vec<_>>(),
-        [((false, false), 4), ((true, true), 1)]
+        [((false, false), 6), ((true, true), 1)]
     );
 }

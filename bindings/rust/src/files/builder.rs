@@ -52,6 +52,26 @@ impl Profile {
     }
 }
 
+/// Which of the edits that nothing settled, changes of names and truncations, a crash may keep.
+///
+/// ```
+/// # use blobcrash::{Probability, files::{Edits, Files}};
+/// # fn main() -> Result<(), blobcrash::Error> {
+/// let files = Files::builder().edits(Edits::Any).words(&[u64::MAX, 0]).open()?;
+/// files.create_dir("/lost")?;
+/// files.create_dir("/kept")?;
+/// assert_eq!(files.crash()?.edits, [false, true]);
+/// # Ok(())
+/// # }
+/// ```
+#[derive(Clone, Copy, Debug, PartialEq, Eq, Hash)]
+pub enum Edits {
+    /// Those up to some point.
+    Prefix,
+    /// Any.
+    Any,
+}
+
 /// What a sync of a file that fails does to the bytes that it was to make durable.
 ///
 /// ```
@@ -113,6 +133,8 @@ pub struct Builder {
     /// The words, the seed, the faults, and whether there is a record.
     base: crate::Builder,
     profile: Profile,
+    /// Those of the profile if it isn't set.
+    edits: Option<Edits>,
     /// How often a crash keeps an edit; 1/2 if it isn't set.
     keep: Option<Probability>,
     space: Option<[u64; 2]>,
@@ -241,6 +263,21 @@ impl Builder {
         self
     }
 
+    /// Sets which unsettled edits a crash may keep, in place of what the profile says.
+    ///
+    /// ```
+    /// # use blobcrash::files::{Edits, Files, Profile};
+    /// # fn main() -> Result<(), blobcrash::Error> {
+    /// let files = Files::builder().profile(Profile::Btrfs).edits(Edits::Any).seed(7).open()?;
+    /// assert!(files.script().contains("profile btrfs\nedits any\n"));
+    /// # Ok(())
+    /// # }
+    /// ```
+    pub fn edits(mut self, edits: Edits) -> Builder {
+        self.edits = Some(edits);
+        self
+    }
+
     /// Returns the lines of the switches that aren't set as at first.
     fn switches(&self) -> impl Iterator<Item = String> + use<> {
         let lines = [
@@ -348,6 +385,11 @@ impl Builder {
             .space
             .map(|[bytes, files]| format!("space {bytes} {files}"));
         self.base.lines.push(self.profile.line().to_owned());
+        let edits = self.edits.map(|edits| match edits {
+            Edits::Prefix => "edits prefix".to_owned(),
+            Edits::Any => "edits any".to_owned(),
+        });
+        self.base.lines.extend(edits);
         let switches = self.switches();
         let settings = keep.into_iter().chain(space).chain(switches);
         self.base.lines.extend(settings);

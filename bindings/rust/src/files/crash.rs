@@ -42,8 +42,9 @@ pub struct Crash {
 /// # let files = files.config(Config::default().write(kept)).open()?;
 /// files.write("/f", b"abc")?;
 /// let inode = Some(files.metadata("/f")?.ino());
-/// let edit = Place { inode: None, offset: 0 };
-/// assert_eq!(files.crash()?.places, [edit, Place { inode, offset: 0 }]);
+/// let (edit, write) = (Place { inode: None, offset: 0 }, Place { inode, offset: 0 });
+/// // The zeros by which the file grows are a write of their own.
+/// assert_eq!(files.crash()?.places, [edit, write, write]);
 /// # Ok(())
 /// # }
 /// ```

@@ -43,12 +43,12 @@ impl Call<'_> {
         }
     }
 
-    /// What the call does to the state that a crash leaves. After an open that truncated, a close may make a file's bytes durable.
-    pub(crate) fn effect(&self, has_truncated: bool) -> Effect {
+    /// What the call does to the state that a crash leaves.
+    pub(crate) fn effect(&self) -> Effect {
         match self.kind {
             Kind::Open | Kind::List | Kind::Find => Effect::Reads,
             Kind::Size | Kind::InodeOf | Kind::Settle | Kind::Commit => Effect::Reads,
-            Kind::Close if !has_truncated => Effect::Closes,
+            Kind::Close => Effect::Closes,
             Kind::Crash => Effect::Crashes,
             _ => Effect::Changes,
         }

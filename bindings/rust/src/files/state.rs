@@ -25,8 +25,6 @@ pub(crate) struct State {
     is_unset: bool,
     /// How many crashes there were. A file of an earlier life is stale.
     pub(crate) life: u64,
-    /// Whether an open truncated a file in this life.
-    has_truncated: bool,
     pub(crate) syncs_lie: bool,
 }
 
@@ -52,7 +50,6 @@ impl State {
             config,
             is_unset: false,
             life: 0,
-            has_truncated: false,
             syncs_lie: false,
         }
     }
@@ -68,10 +65,9 @@ impl State {
 
     /// Makes a call.
     pub(crate) fn call(&mut self, call: &Call<'_>) -> Result<Reply, Error> {
-        self.permit(call.effect(self.has_truncated))?;
+        self.permit(call.effect())?;
         let outcome = self.session.apply(call);
         self.record(|record| record.push_call(call, &outcome));
-        self.has_truncated |= call.kind == Kind::OpenTruncated;
         match call.kind {
             Kind::Sync | Kind::SyncData if outcome.is_ok() && !self.syncs_lie => {
                 let inode = self.inode_of(call.number);
@@ -144,7 +140,6 @@ impl State {
         self.limits.power.follow(Effect::Crashes);
         self.limits.power.follow(Effect::Reopens);
         self.life += 1;
-        self.has_truncated = false;
         Ok(kept)
     }
 
