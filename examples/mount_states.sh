@@ -1,14 +1,14 @@
 #!/bin/sh
 # SQLite's shell commits a row on a mount, and every state is checked in which a crash could have left its files.
 #
-#   mount_states.sh [LEVEL [PROFILE]]   `synchronous=LEVEL` (extra), on files of a PROFILE (posix)
+#   mount_states.sh [LEVEL [PROFILE]]   `synchronous=LEVEL` (extra), on files of a PROFILE (xfs)
 #
 # The run is recorded once. tools/states then makes a crash after each of its calls, and looks at each state that it may leave: the database
 # has to be whole, and to have the row once the commit is acknowledged. Exit status: 1 if a state has not.
 set -eu
 
 level=${1:-extra}
-profile=${2:-posix}
+profile=${2:-xfs}
 cd "$(dirname -- "$0")/.."
 work=$(mktemp -d)
 mkdir "$work/mount"

@@ -1,7 +1,7 @@
 #!/bin/sh
 # SQLite commits a row through the VFS, and every state is checked in which a crash could have left its files.
 #
-#   sqlite_states.sh [LEVEL [PROFILE]]   `synchronous=LEVEL` (extra), on files of a PROFILE (posix)
+#   sqlite_states.sh [LEVEL [PROFILE]]   `synchronous=LEVEL` (extra), on files of a PROFILE (xfs)
 #
 # It needs SQLite's shell and the extension: sh adapters/sqlite/build.sh. The run is recorded once. tools/states then makes a crash after
 # each of its calls, and looks at each state that it may leave: the database has to be whole, and to have the row once the commit is
@@ -9,7 +9,7 @@
 set -eu
 
 level=${1:-extra}
-profile=${2:-posix}
+profile=${2:-xfs}
 case $level$profile in *[!a-z0-9]*) echo "usage: sqlite_states.sh [LEVEL [PROFILE]]" >&2 && exit 2 ;; esac
 cd "$(dirname -- "$0")/.."
 work=$(mktemp -d)
