@@ -161,20 +161,35 @@ def compare_edits(count):
     count.tell(seen not in litmus.outcomes("btrfs")[0], "btrfs, edits up to some point")
 
 
+def found_parts(files, *places):
+    """Returns the first byte of each part of a file that is found, between two of these places, `0` for a zero."""
+    files.restart()
+    with files.open("f") as file:
+        content = file.read()
+    parts = [content[start:end] for start, end in zip(places, places[1:]) if content[start:end]]
+    assert all(part == part[:1] * len(part) for part in parts), "a part is torn"
+    return b"".join(part[:1] for part in parts).replace(b"\0", b"0").decode()
+
+
 def cut_and_append(files):
-    """Truncates a file within a page, and appends to it there. Returns the first byte of each of three parts that are found."""
+    """Truncates a file within a page, and appends to it there."""
     Steps(files, PAGE).put("f", "xb", "A")
     files.settle()
     with files.open("f", "r+b") as file:
         file.truncate(100)
         file.seek(100)
         file.write(b"C" * 100)
-    files.restart()
-    with files.open("f") as file:
-        content = file.read()
-    parts = [content[start:end] for start, end in ((0, 100), (100, 200), (200, PAGE)) if content[start:end]]
-    assert all(part == part[:1] * len(part) for part in parts), "a part is torn"
-    return b"".join(part[:1] for part in parts).replace(b"\0", b"0").decode()
+    return found_parts(files, 0, 100, 200, PAGE)
+
+
+def write_beyond(files):
+    """Writes to the second page of a file that ends within the first one."""
+    Steps(files, 100).put("f", "xb", "A")
+    files.settle()
+    with files.open("f", "r+b") as file:
+        file.seek(PAGE)
+        file.write(b"C" * 100)
+    return found_parts(files, 0, 100, PAGE, PAGE + 100)
 
 
 def compare_within(count):
@@ -186,11 +201,21 @@ def compare_within(count):
         count.tell(found == expected, f"a truncation and an append in a page ({profile}): {sorted(found)}")
 
 
+def compare_beyond(count):
+    """XFS left zeros up to the end of the page alone, after background writeback: `A0`."""
+    others = {"A", "A0", "A00", "A0C"}
+    outcomes = {"ext4": others, "xfs": {"A", "A0", "A0C"}, "btrfs": others, "posix": others}
+    for profile, expected in outcomes.items():
+        found = set(explore(write_beyond, files=profile, settings=[f"write 0 1 1 2 sectors {PAGE}"]).outcomes)
+        count.tell(found == expected, f"a write beyond an end within a page ({profile}): {sorted(found)}")
+
+
 def main():
     count = Count()
     compare_page(count)
     compare_seen(count)
     compare_within(count)
+    compare_beyond(count)
     compare_edits(count)
     print(f"{count.passed} passed, {count.failed} failed")
     return int(count.failed > 0)

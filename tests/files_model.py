@@ -222,8 +222,9 @@ class Model(Names):
     def write(self, asked):
         file = self.files[self.inode_of(asked)]
         before = len(file.seen())
-        if self.profile.zeros and asked.path:
-            self.write_zeros(file, len(file.live), asked.first + len(asked.path))
+        if asked.path:
+            end = self.zeros_end(len(file.live), asked.first, asked.first + len(asked.path))
+            self.write_zeros(file, len(file.live), end)
         if asked.path and self.retention[0]:
             file.pending.append(Write(asked.first, asked.path, self.retention))
         file.live = written(file.live, asked.first, asked.path)
@@ -232,8 +233,14 @@ class Model(Names):
         if len(file.seen()) > before:
             file.sized = self.next_edit
 
+    def zeros_end(self, size, offset, end):
+        """Returns where the zeros end that a write first writes from the end of the file on."""
+        if self.profile.zeros:
+            return end
+        return min(offset, size + -size % PAGE) if self.profile.pages else size
+
     def write_zeros(self, file, start, end):
-        """Adds a write of zeros, which calls don't see: the new part of a longer file, or the rest of a page that is cut."""
+        """Adds a write of zeros, which calls don't see: a part of what makes a file longer, or the rest of a page that is cut."""
         if start < end and self.retention[0]:
             file.pending.append(Write(start, bytes(end - start), self.retention))
 

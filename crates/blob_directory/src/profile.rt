@@ -43,8 +43,8 @@ pub struct Profile {
     pub flushes: bool,
     /// Bytes by which a write makes a file longer may be lost and leave zeros, also at the end of the file.
     pub zeros: bool,
-    /// A truncation also writes zeros from the new end to the end of its page of 4,096 bytes. A crash may keep these although it loses
-    /// the truncation.
+    /// A truncation also writes zeros from the new end to the end of its page of 4,096 bytes, and so does a write that begins beyond
+    /// the end of the file. A crash may keep these although it loses the truncation or the write.
     pub pages: bool,
 }
 

@@ -29,3 +29,4 @@ pub mod Errors
 pub mod Performing
 pub mod Numbered
 pub mod Noting
+mod Zeroing

@@ -1,5 +1,5 @@
 -- What each call of a list does, and what a crash after the list finds.
-use Rattle.std.specs.Prelude.{◌≡◌, ◌≢◌, ℕ, Bool, true, false, List, [], ◌∷◌, Some, None}
+use Rattle.std.specs.Prelude.{◌≡◌, ◌≢◌, ℕ, Bool, true, false, List, [], ◌∷◌, length, Some, None}
 use Rattle.blob_directory.specs.declared.edit.Binding.{Binding}
 use Rattle.blob_directory.specs.Names.{Edit, binds, directory_at, entry, exchanges, file, frees, moves}
 use Rattle.blob_fs.specs.declared.crash.Crash.{Crash}
@@ -15,7 +15,7 @@ use Rattle.blob_fs.specs.declared.file_system.Descriptor.{Descriptor}
 use Rattle.blob_fs.specs.Bytes.{FindsBytes, FindsKnown}
 use Rattle.blob_fs.specs.Fixed.{FindsFixed, FixesFound, KeepsUnreached}
 use Rattle.blob_fs.specs.Places.{FindsPlaces}
-use Rattle.blob_fs.specs.Writes.{RecordsWrite, failed_write_of, leaves_zeros}
+use Rattle.blob_fs.specs.Writes.{RecordsWrite, failed_write_of, writes_zeros}
 use Rattle.blob_fs.specs.Files.{AddsTold, FindsKept, FindsTold, GrowsTold, KeepsNames, KeepsTold, MakesEdit, MayResize, MayTruncate, NotesExchange, NotesMove, SameNames, SettlesSome, SyncsAll, SyncsData, SyncsDirectory, SyncsFile, fresh_inode, names_of, syncs_of}
 
 -- one more edit is recorded, which nothing has settled, and the names have it
@@ -73,7 +73,7 @@ SyncsIf ok exactly fs fs' = MaySettle fs fs' × ByResult ok (syncs_of fs ≡ Hon
 
 -- a write that returned Ok, unless failed writes draw a prefix, is recorded
 abbrev pub WritesIf : {R : Type 0} → Bool → Descriptor → ℕ → List ℕ → FileSystem R → FileSystem R → Type 0
-WritesIf ok f offset bytes fs fs' = Leaves fs fs' × ByResult ok (failed_write_of fs ≡ ByMode → leaves_zeros fs ≡ false → RecordsWrite f offset bytes fs fs') (Unit {0})
+WritesIf ok f offset bytes fs fs' = Leaves fs fs' × ByResult ok (failed_write_of fs ≡ ByMode → writes_zeros fs f offset (length bytes) ≡ false → RecordsWrite f offset bytes fs fs') (Unit {0})
 
 -- what a call does, by whether it returned Ok
 abbrev pub Does : {R : Type 0} → NumberCall → Bool → FileSystem R → FileSystem R → Type 0

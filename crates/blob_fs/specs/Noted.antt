@@ -1,5 +1,5 @@
 -- Sizes that calls see, and what a truncation that returned Ok leaves of its file and its edit.
-use Rattle.std.specs.Prelude.{◌≡◌, ◌⊎◌, ℕ, List, [], ◌∷◌, ◌++◌, length, Option, None, Some}
+use Rattle.std.specs.Prelude.{◌≡◌, ◌⊎◌, ℕ, List, [], ◌∷◌, ◌++◌, length, Option, None, Some, option_and_then}
 use Rattle.blob_faulty.specs.Wrapper.{next_write_of, size_of}
 use Rattle.blob_directory.specs.Names.{resizes}
 use Rattle.blob_directory.specs.Syncs.{of_truncation}
@@ -39,6 +39,14 @@ pub record HasSize {R : Type 0} (fs : FileSystem R) (file : Descriptor) (n : ℕ
 -- this is the size of the blob of a file
 abbrev pub IsEnd : {R : Type 0} → FileSystem R → ℕ → ℕ → Type 0
 IsEnd fs inode n = (was : File) → file_in fs inode ≡ Some was → size_of was.blob.blob ≡ n
+
+-- the size of the blob of an open file, 0 if there is none
+abbrev pub end_in : Option File → ℕ
+end_in None = 0
+end_in (Some file) = size_of file.blob.blob
+
+abbrev pub end_of : {R : Type 0} → FileSystem R → Descriptor → ℕ
+end_of fs file = end_in (option_and_then (file_in fs) (inode_opened fs file))
 
 -- an open file's blob was resized
 abbrev pub ResizesOpen : {R : Type 0} → ℕ → Journaled R → FileBlob → FileBlob → Type 0

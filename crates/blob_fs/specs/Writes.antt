@@ -1,5 +1,5 @@
 -- What an unsynced write of an open file records, and what a crash leaves of it.
-use Rattle.std.specs.Prelude.{◌≡◌, ℕ, Bool, List, Some, option_map}
+use Rattle.std.specs.Prelude.{◌≡◌, ℕ, ◌+◌, ◌%◌, ◌==◌, ◌&&◌, ◌||◌, nat_lt, not, Bool, List, Some, option_map}
 use Rattle.blob_model.specs.Draws.{chosen_by}
 use Rattle.blob_model.specs.Files.{Files, all_logged}
 use Rattle.blob_model.specs.Log.{Entry, replay_log}
@@ -9,6 +9,7 @@ use Rattle.blob_draws.specs.Rows.{table_of}
 use Rattle.blob_draws.specs.declared.config.Config.{Config}
 use Rattle.blob_draws.specs.declared.selections.Selections.{Selections}
 use Rattle.blob_memory.specs.Store.{place}
+use Rattle.blob_directory.specs.declared.profile.Profile.{Profile}
 use Rattle.blob_faulty.specs.Keeps.{IsFor}
 use Rattle.blob_faulty.specs.Wrapper.{config_of, inside, next_write_of}
 use Rattle.blob_journal.specs.Journals.{store_of}
@@ -18,13 +19,22 @@ use Rattle.blob_fs.specs.declared.file_system.FileSystem.{FileSystem}
 use Rattle.blob_fs.specs.declared.switches.FailedWrite.{FailedWrite}
 use Rattle.blob_fs.specs.Bytes.{crashed_file, file_in}
 use Rattle.blob_fs.specs.Files.{inode_opened, journaled_of, options_of}
+use Rattle.blob_fs.specs.Noted.{end_of}
 
 abbrev pub failed_write_of : {R : Type 0} → FileSystem R → FailedWrite
 failed_write_of fs = fs.options.failed_write
 
--- a write that makes a file longer writes zeros first
-abbrev pub leaves_zeros : {R : Type 0} → FileSystem R → Bool
-leaves_zeros fs = (options_of fs).profile.zeros
+abbrev pub profile_of : {R : Type 0} → FileSystem R → Profile
+profile_of fs = (options_of fs).profile
+
+-- A write from an offset up to an end may first write zeros to a file of this size. With `zeros` it does so if it makes the file longer,
+-- with `pages` if it begins beyond an end that is within a page.
+abbrev pub leaves_zeros : Profile → ℕ → ℕ → ℕ → Bool
+leaves_zeros profile size offset end = (profile.zeros && nat_lt size end) || (profile.pages && nat_lt size offset && not (size % 4096 == 0))
+
+-- a write of so many bytes to an open file may do so
+abbrev pub writes_zeros : {R : Type 0} → FileSystem R → Descriptor → ℕ → ℕ → Bool
+writes_zeros fs file offset count = leaves_zeros (profile_of fs) (end_of fs file) offset (offset + count)
 
 -- the rates of faults that the options set, and those that the store draws by
 abbrev pub faults_of : {R : Type 0} → FileSystem R → Config

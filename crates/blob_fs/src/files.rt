@@ -1,7 +1,7 @@
 //! Open files: their bytes and sizes.
 ghost use Rattle.std.specs.Prelude.{◌≡◌, ◌≤◌, [], false, length, true, IfOk, IsSome, None, Some, OnOk};
 ghost use Rattle.blob_fs.specs.declared.switches.FailedWrite.TheVariants.{ByMode};
-ghost use Rattle.blob_fs.specs.Writes.{RecordsWrite, failed_write_of, leaves_zeros};
+ghost use Rattle.blob_fs.specs.Writes.{RecordsWrite, failed_write_of, leaves_zeros, profile_of, writes_zeros};
 ghost use Rattle.blob_fs.specs.Fixed.{KeepsFixed, KeepsFixedBut, KeepsSpared};
 ghost use Rattle.blob_fs.specs.Noted.{KeepsCuts, HasSize, IsEnd, size_in, size_read};
 ghost use Rattle.blob_fs.specs.Named.{links_of};
@@ -12,7 +12,7 @@ ghost use Rattle.blob_fs.specs.Files.{KeepsNames, KeepsOptions, KeepsTold, MayRe
 
 use crate::error::FsError;
 use crate::file_system::{Descriptor, File, FileSystem};
-use crate::writes::{chosen, write_grown};
+use crate::writes::{chosen, write_grown, zeros_between, zeros_end};
 use blob_directory::edit::Kind;
 use blob_journal::FileBlob;
 use rand_core::Rng;
@@ -259,33 +259,29 @@ impl<R: Rng + Drop> FileSystem<R> {
         self.used = self.used.saturating_sub(size).saturating_add(now);
     }
 
-    /// Returns whether a growing write leaves zeros that a crash may keep.
-    fn leaves_zeros(&self) -> bool
-        ensures { result ≡ true → leaves_zeros self.now ≡ true }
-    {
+    /// Returns whether a crash may keep a part of the unsynced writes.
+    fn keeps_writes(&self) -> bool {
         match self.options.faults.write_rate {
-            Some(writes) => self.options.profile.zeros && !writes.retention_rate.is_zero(),
+            Some(writes) => !writes.retention_rate.is_zero(),
             None => false,
         }
     }
 
-    /// Returns the end of a file's blob, and the zeros that a write up to a position leaves from there on. None if the write doesn't make
-    /// the file longer, or the profile leaves none. The only error is `Memory`.
-    fn zeros_of(&self, inode: u64, end: u64) -> Result<(u64, Vec<u8>), FsError>
-        ensures none { IfOk result (λ r. leaves_zeros self.now ≡ false → length r.1.items ≡ 0) }
+    /// Returns the end of a file's blob, and the zeros that a write from an offset up to an end first writes there. The only error is
+    /// `Memory`.
+    fn zeros_of(&self, inode: u64, offset: u64, end: u64) -> Result<(u64, Vec<u8>), FsError>
+        ensures none { IfOk result (λ r. leaves_zeros (profile_of self.now) r.0 offset end ≡ false → length r.1.items ≡ 0) }
         ensures end { IfOk result (λ r. IsEnd self.now inode r.0) }
     {
-        let mut zeros = Vec::new(self.alloc);
         let Some(found) = self.files.get(&inode) else {
-            return Ok((0, zeros));
+            return Ok((0, Vec::new(self.alloc)));
         };
         let from = found.as_ref().blob.size();
-        if !self.leaves_zeros() {
-            return Ok((from, zeros));
+        if !self.keeps_writes() {
+            return Ok((from, Vec::new(self.alloc)));
         }
-        if end > from {
-            zeros.resize((end - from) as usize, 0)?;
-        }
+        let to = zeros_end(&self.options.profile, from, offset, end);
+        let zeros = zeros_between(self.alloc, from, to)?;
         Ok((from, zeros))
     }
 
@@ -296,12 +292,12 @@ impl<R: Rng + Drop> FileSystem<R> {
     /// `Stale`; `NoSpace` beyond the limit of bytes; those of the layer's write, which may leave a part of it. While the file has a
     /// truncation that no sync made durable, a write that fails leaves nothing.
     ///
-    /// If the profile leaves zeros, a write that makes the file longer first writes zeros there, of which a crash keeps what it keeps of
-    /// writes.
+    /// If the profile says so, a write that makes the file longer first writes zeros from its end on, of which a crash keeps what it
+    /// keeps of writes (docs/FILES.md).
     pub fn write(&mut self, file: Descriptor, offset: u64, bytes: &[u8]) -> Result<(), FsError>
         ensures names { KeepsNames self.old self.new }
         ensures told { KeepsTold self.old self.new }
-        ensures recorded { OnOk result (failed_write_of self.old ≡ ByMode → leaves_zeros self.old ≡ false
+        ensures recorded { OnOk result (failed_write_of self.old ≡ ByMode → writes_zeros self.old file offset (length bytes.now) ≡ false
             → RecordsWrite file offset bytes.now self.old self.new) }
         ensures fixed { KeepsSpared file (IsBeside offset (length bytes.now)) self.old self.new }
         ensures cuts { KeepsCuts self.old self.new }
@@ -313,7 +309,7 @@ impl<R: Rng + Drop> FileSystem<R> {
         let size = self.size(file)?;
         let end = offset.saturating_add(bytes.len() as u64);
         self.check_room(size, end)?;
-        let (from, zeros) = self.zeros_of(inode, end)?;
+        let (from, zeros) = self.zeros_of(inode, offset, end)?;
         let (how, is_zeroed) = self.draw_growth(inode, zeros.is_empty())?;
         let zeros = chosen(is_zeroed, &zeros);
         let next_edit = self.store.next_edit();

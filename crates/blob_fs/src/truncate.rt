@@ -9,7 +9,7 @@ ghost use Rattle.blob_fs.specs.Tracked.{freed_of};
 use crate::error::FsError;
 use crate::file_system::{Descriptor, File, FileSystem};
 use crate::truncation::Truncation;
-use crate::writes::{cut_page, zeroing};
+use crate::writes::{PAGE, cut_page, zeroing, zeros_between};
 use blob_base::Error;
 use blob_journal::laws::bindings;
 use rand_core::Rng;
@@ -27,20 +27,16 @@ impl File {
     }
 }
 
-/// The bytes of a page of the kernel's cache.
-const PAGE: u64 = 4096;
-
 impl<R: Rng + Drop> FileSystem<R> {
     /// Returns the zeros that a truncation from a size to a length writes: up to the end of the page, or of the file. The only error is
     /// `Memory`.
     fn page_zeros(&self, size: u64, length: u64) -> Result<Vec<u8>, FsError> {
-        let mut zeros = Vec::new(self.alloc);
         let within = length % PAGE;
         if !self.options.profile.pages || within == 0 {
-            return Ok(zeros);
+            return Ok(Vec::new(self.alloc));
         }
-        let count = size.saturating_sub(length).min(PAGE - within);
-        zeros.resize(count as usize, 0)?;
+        let end = length.saturating_add(PAGE - within).min(size);
+        let zeros = zeros_between(self.alloc, length, end)?;
         Ok(zeros)
     }
 

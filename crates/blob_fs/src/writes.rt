@@ -1,9 +1,10 @@
 //! Writes of a blob, by which bytes of a failed one are written.
-ghost use Rattle.std.specs.Prelude.{◌≡◌, ◌<◌, ◌≤◌, OnOk, Some, length};
+ghost use Rattle.std.specs.Prelude.{◌≡◌, ◌<◌, ◌≤◌, ◌-◌, IfOk, OnOk, Some, false, length};
 ghost use Rattle.blob_faulty.specs.Wrapper.{size_of};
 ghost use Rattle.blob_draws.specs.Faults.{retention};
 ghost use Rattle.blob_fs.specs.declared.switches.FailedWrite.TheVariants.{ByMode};
 ghost use Rattle.blob_fs.specs.Noted.{ResizesOpen};
+ghost use Rattle.blob_fs.specs.Writes.{leaves_zeros};
 ghost use Rattle.blob_journal.specs.Fixed.{ChangesOpen, IsBeside};
 ghost use Rattle.blob_journal.specs.Keeping.{KeepsTable, KeepsTold};
 ghost use Rattle.blob_journal.specs.Settling.{KeepsUnsettled};
@@ -12,9 +13,11 @@ ghost use Rattle.blob_journal.specs.Writes.{RecordsWrite};
 use crate::base::copy_of;
 use crate::switches::FailedWrite;
 use blob_base::{Error, Probability};
+use blob_directory::profile::Profile;
 use blob_faulty::{Config, PartialWriteMode, WriteConfig};
 use blob_journal::{FileBlob, Journaled};
 use rand_core::Rng;
+use std::alloc::{AllocError, Global};
 
 /// Returns the faults with this rate of failures of writes. A failed one keeps by this rate, in this mode.
 pub(crate) fn with_writes(faults: &Config, failure_rate: Probability, writes: WriteConfig) -> Config
@@ -24,6 +27,34 @@ pub(crate) fn with_writes(faults: &Config, failure_rate: Probability, writes: Wr
         failure_rate,
         ..writes
     })
+}
+
+/// The bytes of a page of the kernel's cache.
+pub(crate) const PAGE: u64 = 4096;
+
+/// Returns where the zeros end that a write from an offset up to an end first writes from the end of the file on. They are none if
+/// that isn't beyond it.
+pub(crate) fn zeros_end(profile: &Profile, size: u64, offset: u64, end: u64) -> u64
+    ensures { leaves_zeros profile.now size offset end ≡ false → result ≤ size }
+{
+    if profile.zeros {
+        return end;
+    }
+    let within = size % PAGE;
+    if !profile.pages || within == 0 {
+        return size;
+    }
+    size.saturating_add(PAGE - within).min(offset)
+}
+
+/// Returns as many zeros as there are bytes between two offsets, none if the second one isn't beyond the first. Fails only if memory
+/// runs out.
+pub(crate) fn zeros_between(alloc: Global, from: u64, to: u64) -> Result<Vec<u8>, AllocError>
+    ensures { IfOk result (λ zeros. length zeros.items ≡ to - from) }
+{
+    let mut zeros = Vec::new(alloc);
+    zeros.resize(to.saturating_sub(from) as usize, 0)?;
+    Ok(zeros)
 }
 
 /// Writes zeros, unsynced. If there are none, it does nothing.

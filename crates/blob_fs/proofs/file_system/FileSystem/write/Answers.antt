@@ -19,7 +19,7 @@ use Rattle.blob_fs.specs.Open.{KeepsCutsOf}
 use Rattle.blob_fs.proofs.Fixed.{changes_again, contents_same, contents_through, cuts_from, cuts_of, cuts_same, cuts_set, fixed_after, fixed_twice, keeps_spared, opened_changed, opened_none, opened_through, sets_through, still_self, synced_kept}
 use Rattle.blob_fs.proofs.Named.{links_set, named_after, named_none, named_through, same_at_most}
 use Rattle.blob_fs.proofs.Tracked.{freed_set, tracked_after, tracked_none, tracked_through}
-use Rattle.std.proofs.Common.{◌≡◌, List, Option, ap₂, true}
+use Rattle.std.proofs.Common.{◌≡◌, ◌+◌, List, Option, ap₂, false, true}
 use Rattle.blob_model.specs.Files.{all_logged}
 use Rattle.blob_model.specs.Log.{Entry}
 use Rattle.blob_model.specs.Rates.{Rate}
@@ -32,7 +32,9 @@ use Rattle.blob_faulty.specs.Keeps.{IsFor}
 use Rattle.blob_faulty.specs.Wrapper.{inside, size_of}
 use Rattle.blob_journal.specs.Journals.{store_of}
 use Rattle.blob_journal.specs.Writes.{entries_of_write as journal_entries}
-use Rattle.blob_fs.specs.Writes.{KeepsAsSet, entries_of_write, faults_of, rates_of}
+use Rattle.blob_fs.specs.Writes.{KeepsAsSet, entries_of_write, faults_of, leaves_zeros, profile_of, rates_of}
+use Rattle.blob_fs.proofs.Zeroing.{end_there, none_below}
+use Rattle.blob_directory.specs.declared.profile.Profile.{Profile}
 use Rattle.blob_fs.proofs.file_system.FileSystem.write.Goals as goal
 
 pub returns-in_err-begin_call-clause-fixed : goal.returns-in_err-begin_call-clause-fixed
@@ -124,13 +126,19 @@ returns-in-Ok-clause-recorded g c = λ by_mode no_zeros.
     let found : File = c.as_mut-found.result.now in
     let there = ap Some c.as_mut-found.ensures.value ∙ c.in-Some.ensures.value in
     let small : inode < 2 ^ 64 = omega arith in
-    let none : length c.in_ok-from.zeros.items ≡ 0 = c.in_ok-from.ensures.none (ap (λ (o : Options). o.profile.zeros) same.options ∙ no_zeros) in
-    let plain : c.is_empty.result ≡ true = grind (arith, none, c.is_empty.ensures) in
+    let opened = ap (λ (m : BTreeMap ℕ ℕ). get nat_cmp m (descriptor_number c.args.file)) (sym same.opens) ∙ c.in_ok-inode.ensures in
+    let filed = ap (λ (m : BTreeMap ℕ File). get nat_cmp m inode) (sym (drawn.files.files ∙ same.files)) ∙ sym there in
+    let end = end_there fs c.args.file inode found opened filed ∙ c.in_ok-from.ensures.end found (ap (λ (m : BTreeMap ℕ File). get nat_cmp m inode) (sym drawn.files.files) ∙ sym there) in
+    let plain : leaves_zeros (profile_of begun) c.in_ok-from.from c.args.offset (c.args.offset + length c.args.bytes.now) ≡ false =
+    ap₂ (λ (p : Profile) (size : ℕ). leaves_zeros p size c.args.offset (c.args.offset + length c.args.bytes.now)) (ap (λ (o : Options). o.profile) same.options) (sym end) ∙ no_zeros in
+    let none : length c.in_ok-from.zeros.items ≡ 0 = c.in_ok-from.ensures.none
+    (none_below (profile_of begun) c.in_ok-from.from c.args.offset (c.args.offset + length c.args.bytes.now) c.saturating_add-end.result (omega (arith, c.saturating_add-end.ensures)) plain) in
+    let empty_zeros : c.is_empty.result ≡ true = grind (arith, none, c.is_empty.ensures) in
     let how = c.in_ok-how.ensures.how (ap (λ (o : Options). o.failed_write) same.options ∙ by_mode) in
     let offset = c.args.offset in
     let bytes = c.args.bytes.now in
     let set : KeepsAsSet begun = ap (λ (r : Config). retention r.write_rate) (c.in_ok-begin_call.ensures.rates ∙ sym (ap (λ (o : Options). o.faults) same.options)) in
-    let kept : retention (rates_of one).write_rate ≡ retention (faults_of fs).write_rate = c.in_ok-how.ensures.rates plain set ∙ ap (λ (o : Options). retention o.faults.write_rate) (drawn.files.options ∙ same.options) in
+    let kept : retention (rates_of one).write_rate ≡ retention (faults_of fs).write_rate = c.in_ok-how.ensures.rates empty_zeros set ∙ ap (λ (o : Options). retention o.faults.write_rate) (drawn.files.options ∙ same.options) in
     let entries : journal_entries (store_of one.store) offset bytes ≡ entries_of_write fs offset bytes =
     ap₂ (λ (k : Option (PartialWriteMode × Rate)) (n : ℕ). loose k n offset bytes) kept (drawn.crashes.next_write ∙ crashes.next_write) in
     was_ok c.write_grown-written.result _ c.in-Ok.is c.write_grown-written.ensures.recorded (λ recorded.
@@ -138,9 +146,9 @@ returns-in-Ok-clause-recorded g c = λ by_mode no_zeros.
     let written = recorded how empty in
     record {
       inode = inode;
-      opened = ap (λ (m : BTreeMap ℕ ℕ). get nat_cmp m (descriptor_number c.args.file)) (sym same.opens) ∙ c.in_ok-inode.ensures;
+      opened = opened;
       old = found;
-      there = ap (λ (m : BTreeMap ℕ File). get nat_cmp m inode) (sym (drawn.files.files ∙ same.files)) ∙ sym there;
+      there = filed;
       logged = λ files for.
           subst (λ (j : Journaled g.row.R.Denot). IsFor (store_of j) (all_logged files (place (inside found.blob.blob)) (entries_of_write fs offset bytes))) (sym c.count.ensures.store)
           (subst (λ (l : List Entry). IsFor (store_of c.write_grown-written.new.store) (all_logged files (place (inside found.blob.blob)) l)) entries
