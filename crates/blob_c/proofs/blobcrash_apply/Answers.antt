@@ -11,6 +11,6 @@ returns c =
     let reply = c.supplied_apply-reply.result in
     let Open : Kept → Kept → Type 0 = λ k k'. AppliesSupplied k k' c.args.asked.now c.args.partition.now c.args.name.now reply in
     let made : Open c.in-Some.kept.value c.supplied_apply-reply.new.self =
-      subst (λ (k : Kept). Open k c.supplied_apply-reply.new.self) c.deref_mut.ensures.value c.supplied_apply-reply.ensures in
+    subst (λ (k : Kept). Open k c.supplied_apply-reply.new.self) c.deref_mut.ensures.value c.supplied_apply-reply.ensures in
     subst (λ (a : Option Kept). OnHeld a (kept_of c.put.new.self) Open (reply ≡ without_reply CLOSED)) c.in-Some.ensures.was
     (subst (λ (b : Option Kept). OnHeld (Some c.in-Some.kept.value) b Open (reply ≡ without_reply CLOSED)) (sym c.put.ensures) made)
