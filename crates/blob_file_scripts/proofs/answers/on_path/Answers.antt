@@ -9,6 +9,6 @@ pub returns : goal.returns
 returns c =
     let f = c.in-Some.file in
     let opened : c.make.new.self.last ≡ Some (replies.Opened f) = search rules in
-    let opens : Does (Open c.args.path.now) c.args.files.now c.make.new.self = c.make.ensures in
-    let closes : Does (Close f) c.on_open-printed.new.files c.make-2.new.self = c.make-2.ensures in
+    let opens : Does (Open c.args.path.now) c.args.files.now c.make.new.self = c.make.ensures.makes in
+    let closes : Does (Close f) c.on_open-printed.new.files c.make-2.new.self = c.make-2.ensures.makes in
     map_ok c.on_open-printed.result (λ made. Opened f c.make.new.self c.on_open-printed.new.files opens opened made closes) c.on_open-printed.ensures
