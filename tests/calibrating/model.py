@@ -154,12 +154,20 @@ def directed(written, end, state, kept):
             if rate:
                 planned.append(WRITES.format(rate, sectors if is_zeros else written.unit))
                 is_same = is_same and not is_zeros
-            places[len(planned)] = number
+            places[number] = len(planned)
             planned.append(line)
         for rates in kept(written, end):
-            yield [each for at, line in enumerate(planned) for each in ([f"keep {rates[places[at]]}"] if places.get(at) in rates else []) + [line]]
+            yield list(with_keeps(planned, {places[number]: rate for number, rate in rates.items()}))
         if is_same:
             break
+
+
+def with_keeps(lines, rates):
+    """Lines, with the rate with which a crash keeps an edit before each that has one, by its number."""
+    for number, line in enumerate(lines):
+        if number in rates:
+            yield f"keep {rates[number]}"
+        yield line
 
 
 def rate_of(line, grows, letters, unit):

@@ -3,15 +3,36 @@
 from itertools import product
 from typing import NamedTuple
 
-from model import EDITS, LARGE, PAGE, WRITES, TooMany
+from model import EDITS, LARGE, PAGE, WRITES, TooMany, with_keeps
 
 # The lines that sync something, by the rule that says what they settle.
 SYNCS = {"fsync": "7 sync", "fdatasync": "7 sync_data", "fsyncdir": "6 sync_directory"}
-# Profiles in which one rule is left out: without zeros or flushes, without pages, and one whose syncs settle no name.
+# Profiles without a rule: without zeros or flushes, without pages, and with syncs that settle no name.
 NO_ZEROS, NO_PAGES, NO_NAMES = "profile xfs", "profile btrfs", "profile posix"
 TRUNCATIONS = ("truncate", "open_truncated")
+ON_FILE, OPENING = ("write", "truncate", "fsync", "fdatasync", "close"), ("create", "open", "open_truncated")
 # More combinations aren't tried.
 MOST_PLANS = 64
+
+
+class Extra(str):
+    """A line of a plan that opens a file, and that the program doesn't have."""
+
+
+def renumbered(plan):
+    """A plan in which the descriptors of the program are those that its calls now get."""
+    made, numbers, count = [], [], 0
+    for line in plan:
+        words = line.split()
+        is_path = words[1:] and words[1].startswith("/")
+        if words[0] in ON_FILE and not is_path:
+            words[1] = str(numbers[int(words[1])])
+        if words[0] in OPENING or words[0] in ON_FILE and is_path:
+            if not isinstance(line, Extra):
+                numbers.append(count)
+            count += 1
+        made.append(" ".join(words))
+    return made
 
 
 def word_of(line):
@@ -25,7 +46,7 @@ class Program(NamedTuple):
     unit: int
     start: int
     lines: tuple
-    # The lines that make a file longer, with its length before, and those that rename over a name.
+    # The lines that make a file longer, with its length before; and those that rename over a name.
     grows: dict
     replaces: frozenset
 
@@ -42,7 +63,7 @@ class Program(NamedTuple):
 
     def kept(self, rates):
         """Lines in which a crash keeps edits with given rates, by their lines."""
-        return [given for number, line in enumerate(self.lines) for given in ([f"keep {rates[number]}"] if number in rates else []) + [line]]
+        return list(with_keeps(self.lines, rates))
 
     def edits(self):
         return [number for number in range(self.start, len(self.lines)) if word_of(self.lines[number]) in EDITS]
@@ -78,8 +99,12 @@ def settling(word):
     """A sync of this kind settles all edits."""
 
     def plans(program):
-        lines = program.lines
-        return [[each for number, line in enumerate(lines) for each in ([line, "commit"] if word_of(line) == word and number >= program.start else [line])]]
+        made = []
+        for number, line in enumerate(program.lines):
+            made.append(line)
+            if number >= program.start and word_of(line) == word:
+                made.append("commit")
+        return [made]
 
     return plans
 
@@ -103,8 +128,10 @@ def no_holes(program):
     for chosen in product(*choices):
         if len(plans) == MOST_PLANS:
             raise TooMany
-        kept = dict(zip(grows, chosen))
-        plans.append([each for number, line in enumerate(program.lines) for each in (grown(program, number, kept[number]) if number in kept else [line])])
+        kept, made = dict(zip(grows, chosen)), []
+        for number, line in enumerate(program.lines):
+            made += grown(program, number, kept[number]) if number in kept else [line]
+        plans.append(made)
     return plans
 
 
@@ -119,13 +146,14 @@ def beyond(program, number):
 
 
 def grown(program, number, kept):
-    """A write that makes a file longer, in pieces. Beyond the end its first letters are kept, this many, and the others lost."""
+    """The pieces of a write that makes a file longer. Beyond the end its first letters are kept, this many, and the others lost."""
     _, file, offset, letters = program.lines[number].split()
     at, length, end = int(offset), program.grows[number], end_of(program.lines[number])
     middle = beyond(program, number) + kept
     pieces = [("1 2", length, "00" * (end - length))] if program.profile in ("ext4", "btrfs") else []
     pieces += [(rate, start, letters[2 * (start - at) : 2 * (stop - at)]) for rate, start, stop in parts(at, max(at, length), middle, end)]
-    made = [f"write {file} {start} {text}" for _, start, text in pieces if text]
+    made = [Extra(f"write {file} {start} {text}") for _, start, text in pieces if text]
+    made[0] = str(made[0])
     rates = [program.writes_with(rate) for rate, _, text in pieces if text]
     return [NO_ZEROS, *(line for pair in zip(rates, made) for line in pair), program.writes_with("1 2"), f"profile {program.profile}"]
 
@@ -144,7 +172,7 @@ def synced_renames(program):
     made = []
     for number, line in enumerate(program.lines):
         is_over = number >= program.start and number in program.replaces
-        made += [NO_NAMES, f"fsync {line.split()[1]}", f"profile {program.profile}", line] if is_over else [line]
+        made += [NO_NAMES, Extra(f"fsync {line.split()[1]}"), f"profile {program.profile}", line] if is_over else [line]
     return [made]
 
 
@@ -193,7 +221,7 @@ class Coverage:
             if has(self.model.profile, case.unit):
                 without = set()
                 for plan in plans(program):
-                    without |= self.model.explore(case.unit, plan)
+                    without |= self.model.explore(case.unit, renumbered(plan))
                 # Without writes there is no plan, and nothing that a rule of writes adds.
                 for state in set(states) - without if without else ():
                     states[state].append(name)
