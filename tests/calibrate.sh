@@ -1,8 +1,8 @@
 #!/bin/sh
 # calibrate.sh [FS] [SECONDS]: what ext4, XFS and btrfs of this kernel leave after power losses lies in the sets of their profiles: random
 # programs from a fixed seed for SECONDS (20) on each file system, and those of tests/calibrating/found. A state that one file system
-# leaves is outside the profile of another, so the comparison can fail. Skipped, with CI=true too, without root, loop devices, or a file
-# system of the kernel: no package brings them. The last line is `N passed, M failed`.
+# leaves is outside the profile of another, so the comparison can fail. --coverage prints what was worked out by hand. Skipped, with
+# CI=true too, without root, loop devices, or a file system of the kernel: no package brings them. The last line is `N passed, M failed`.
 top=$(CDPATH='' cd -- "$(dirname -- "$0")/.." && pwd -P)
 # shellcheck source=tests/counting.sh
 . "$top/tests/counting.sh"
@@ -35,6 +35,25 @@ told() {
     if [ $? -eq 1 ] && grep -q '^OUTSIDE' "$work/out"; then pass; else tell 1 "$1 isn't told from $2"; fi
 }
 
+# covered: counts whether --coverage prints what was worked out by hand for two states of an append on ext4.
+covered() {
+    program='f = AA -- append BB to f'
+    for state in AA AAB; do printf 'ext4\t1\t%s\t1\t0\tf=%s\n' "$program" "$state"; done >"$work/state"
+    cat >"$work/wanted" <<END
+never | $program | f=AA0 | 1 sectors, 8 zeros
+never | $program | f=AA00 | 8 zeros
+never | $program | f=AA0B | 1 sectors, 8 holes
+never | $program | f=AAB0 | 1 sectors, 8 zeros
+never | $program | f=AABB | none
+# 1 programs: 2 of 7 states were left
+# rule 1 sectors: 1 of 4 states that need it
+# rule 8 holes: 0 of 1 states that need it
+# rule 8 zeros: 0 of 3 states that need it
+END
+    "$top/tools/calibrate" ext4 --compare "$work/state" --coverage 2>"$work/err" | sed 1d >"$work/out"
+    ok 'the coverage of an append' diff "$work/wanted" "$work/out"
+}
+
 if [ "$(id -u)" -ne 0 ]; then
     leave_out 'real file systems: only root can mount them'
     finish
@@ -54,7 +73,10 @@ for kind in $kinds; do
     calibrate "$kind" 'a program of the mount' --program "$found/programs.txt" --runs 2
     calibrate "$kind" 'a random program' --seconds "$seconds"
     case $kind in
-    ext4) told ext4 xfs 'f = A -- t = BB, rename t f, ~commit' 2 'f=00' ;;
+    ext4)
+        told ext4 xfs 'f = A -- t = BB, rename t f, ~commit' 2 'f=00'
+        covered
+        ;;
     xfs) told xfs ext4 'f = A -- t = BB, rename t f, ~commit' 2 'f=' ;;
     btrfs) told btrfs xfs 'mkdir e -- rename e d, create d/a, fsync d/a' 3 'e/ e/a=' ;;
     esac

@@ -180,8 +180,7 @@ class Crashes:
         self.disk.save()
         steps = {number: Tagged(None, case.unit, number) for number, case in group.items()}
         done = {number: (0, False) for number in group}
-        # A torn superblock of btrfs can't be mounted.
-        unit = PAGE if self.kind.type == "btrfs" else min(case.unit for case in group.values())
+        unit = max(self.kind.whole, min(case.unit for case in group.values()))
         met, found, at = {}, set(), 0
         for order, (index, how) in enumerate(self.plan(events, unit, seed)):
             for event in events[at:index]:

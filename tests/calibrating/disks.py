@@ -21,7 +21,8 @@ libc = ctypes.CDLL(None, use_errno=True)
 
 
 class Kind(NamedTuple):
-    """A file system: its type, its profile, the size of its image in MB, how it is made and checked, and its options."""
+    """A file system: its type, its profile, the size of its image in MB, how it is made and checked, its options, and how many bytes the
+    disk keeps or loses together, so that no crash tears the superblock, which has a checksum."""
 
     type: str
     profile: str
@@ -29,15 +30,16 @@ class Kind(NamedTuple):
     make: tuple
     check: tuple
     options: str = ""
+    whole: int = 512
 
 
 EXT4 = ("mkfs.ext4", "-q", "-F", "-b", str(BLOCK), "-J", "size=4", "-E", "lazy_itable_init=0,lazy_journal_init=0")
 EXT4_CHECK = ("e2fsck", "-f", "-n")
 KINDS = {
-    "ext4": Kind("ext4", "ext4", 64, EXT4, EXT4_CHECK, "commit=60"),
-    "ext4-nodelalloc": Kind("ext4", "ext4", 64, EXT4, EXT4_CHECK, "commit=60,nodelalloc"),
+    "ext4": Kind("ext4", "ext4", 64, EXT4, EXT4_CHECK, "commit=60", 1024),
+    "ext4-nodelalloc": Kind("ext4", "ext4", 64, EXT4, EXT4_CHECK, "commit=60,nodelalloc", 1024),
     "xfs": Kind("xfs", "xfs", 300, ("mkfs.xfs", "-q", "-f"), ("xfs_repair", "-n")),
-    "btrfs": Kind("btrfs", "btrfs", 128, ("mkfs.btrfs", "-q", "-f"), ("btrfs", "check", "--readonly"), "commit=60"),
+    "btrfs": Kind("btrfs", "btrfs", 128, ("mkfs.btrfs", "-q", "-f"), ("btrfs", "check", "--readonly"), "commit=60", BLOCK),
 }
 
 

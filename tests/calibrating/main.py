@@ -22,7 +22,8 @@ from cases import Case, Follow, valid  # noqa: E402
 from disks import KINDS, Refused  # noqa: E402
 from files_litmus import SEEN, rows_of  # noqa: E402
 from files_steps import parted  # noqa: E402
-from searches import BATCH, describe, search  # noqa: E402
+from rules import Coverage  # noqa: E402
+from searches import BATCH, describe, save, search  # noqa: E402
 from shrinking import shrink  # noqa: E402
 
 PROFILES = ("ext4", "xfs", "btrfs", "posix")
@@ -45,6 +46,7 @@ def parsed():
     parser.add_argument("--only-save", action="store_true", help="compares nothing, for --save and a --compare later")
     parser.add_argument("--compare", metavar="FILE", help="compares the states of a file again, without the file system")
     parser.add_argument("--program", metavar="PROGRAM", help="a program, a file with one per line, or `litmus`, those of docs/FILES.md")
+    parser.add_argument("--coverage", action="store_true", help="with --program or --compare: which states were never left, by rules")
     parser.add_argument("--runs", type=int, default=10, metavar="N", help="how often a program is run (10)")
     parser.add_argument("--shrink", action="store_true", help="makes the program shorter, as long as a state of it is outside")
     return parser.parse_args()
@@ -94,16 +96,19 @@ def run_programs(worker, options):
     programs = programs_of(options.program)
     if options.shrink:
         return sum(shrink_and_print(worker, case, options.crashes) for case, _ in programs)
-    totals = Counter()
+    totals, coverage = Counter(), Coverage(worker.model)
     # On one image one after another.
     together = max(1, BATCH // options.runs)
     for at in range(0, len(programs), together):
         part = programs[at : at + together]
         groups = [{1 + index * options.runs + run: case} for index, (case, _) in enumerate(part) for run in range(options.runs)]
         found = worker.check(groups, options.crashes, keep_seen=True, compares=False).seen
+        if options.save:
+            save(options.save, options.fs, groups, found)
         for index, (case, wanted) in enumerate(part):
             all_found = [each for run in range(options.runs) for each in found[1 + index * options.runs + run]]
             totals += print_states(worker, case, all_found)
+            coverage.add(case, {each.state for each in all_found if at_end(case, each.done, each.inside)})
             if wanted is not None:
                 is_left = any(each.state == wanted for each in all_found)
                 totals += Counter(wanted=1, left=is_left)
@@ -111,7 +116,14 @@ def run_programs(worker, options):
     again = f", {totals['left']} of {totals['wanted']} wanted states were left" if totals["wanted"] else ""
     end = f"{totals['seen']} of {totals['states']} states after the last call"
     print(f"# {options.fs}: {len(programs)} programs, {totals['outside']} outside{again}, {end}")
+    if options.coverage:
+        coverage.print()
     return totals["outside"]
+
+
+def at_end(case, done, inside):
+    """Whether all calls of a case were made."""
+    return not inside and done == len(case.calls())
 
 
 def print_states(worker, case, all_found):
@@ -142,7 +154,7 @@ def shrink_and_print(worker, case, crashes):
 def compare(worker, options):
     """Compares the states of a file. Returns how many are outside."""
     states = outside = known = 0
-    programs = set()
+    programs, coverage = set(), Coverage(worker.model)
     with open(options.compare, encoding="utf-8") as file:
         for line in file:
             name, number, text, done, inside, state = line.rstrip("\n").split("\t")
@@ -150,11 +162,16 @@ def compare(worker, options):
                 continue
             states += 1
             programs.add((number, text))
-            word = worker.model.verdict(Case.parse(text), int(done), inside == "1", state)
+            case = Case.parse(text)
+            word = worker.model.verdict(case, int(done), inside == "1", state)
+            if at_end(case, int(done), inside == "1"):
+                coverage.add(case, {state})
             outside, known = outside + (word == "OUTSIDE"), known + (word == "known")
             if word:
                 print(f"{word} | {text} | after {done}{'+' if inside == '1' else ''} | {state}", flush=True)
     print(f"# {options.fs}: {len(programs)} programs, {states} states, {outside} outside, {known} of known deviations")
+    if options.coverage:
+        coverage.print()
     return outside
 
 

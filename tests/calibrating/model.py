@@ -12,6 +12,7 @@ WRITES = "config write 0 1 {} sectors {}"
 PAGE, LARGE = 4096, 16
 # The lines that change names or truncate.
 EDITS = ("create", "link", "unlink", "rename", "mkdir", "rmdir", "truncate", "open_truncated")
+SYNCS = ("fsync", "fdatasync", "fsyncdir")
 
 
 class TooMany(Exception):
@@ -78,13 +79,11 @@ class Model:
 
     def deviates(self, case, done, inside, state):
         """Whether a state that isn't in the set is a known deviation (docs/FILES.md): it is in the set of other calls."""
-        forms = []
         if self.profile == "xfs" and case.unit < PAGE:
-            forms = [(False, (), PAGE // case.unit)]
-        elif self.profile == "btrfs":
-            cuts = range(self.written(case, True).script.cuts)
-            forms = [(splits, lost) for splits in (True, False) for size in range(len(cuts) + 1) for lost in combinations(cuts, size)]
-        return any(self.leaves(self.written(case, *form), done, inside, state) for form in forms)
+            return self.leaves(self.written(case, PAGE // case.unit), done, inside, state)
+        if self.profile != "btrfs":
+            return False
+        return any(self.leaves(written, done, inside, state, logged) for written in (self.written(case), self.written(case, 1)))
 
     def written(self, case, *form):
         """The lines of a case, also in the form of a deviation."""
@@ -94,45 +93,81 @@ class Model:
             self.forms[form] = Written(Deviating(*form) if form else Script(), case)
         return self.forms[form]
 
-    def leaves(self, written, done, inside, state):
-        """Whether a crash leaves a state. Inside of a step it does if it does after some of the calls of which this consists."""
+    def leaves(self, written, done, inside, state, kept=None):
+        """Whether a crash leaves a state. Inside of a step it does if it does after some of the calls of which this consists. `kept` is
+        another rule for the edits that a crash keeps than the profile's."""
         last = written.ends[done + 1] if inside else written.ends[done]
-        return any(self.has(written, end, state) for end in range(written.ends[done], last + 1))
+        return any(self.has(written, end, state, kept) for end in range(written.ends[done], last + 1))
 
-    def has(self, written, end, state):
+    def has(self, written, end, state, kept=None):
         """Whether a crash after some lines leaves a state. First without the draws that the state decides, and then with all. If these are
         too many it is taken for one that isn't left; a shorter program shows whether that is so."""
-        if (end, state) not in written.known:
+        place = end, state, kept
+        if place not in written.known:
             lines, unit = written.script.lines, written.unit
-            before = lines[: written.start]
+            before = lines[: written.start] + (["edits any"] if kept else [])
             try:
-                is_found = any(state in self.explore(unit, before + given) for given in directed(written, end, state))
-                written.known[end, state] = is_found or state in self.explore(unit, lines[:end])
+                is_found = any(state in self.explore(unit, before + given) for given in directed(written, end, state, kept or up_to_point))
+                written.known[place] = is_found or not kept and state in self.explore(unit, lines[:end])
             except TooMany:
-                written.known[end, state] = False
-        return written.known[end, state]
+                written.known[place] = False
+        return written.known[place]
 
 
-def directed(written, end, state):
+def up_to_point(written, end):
+    """The rates with which a crash keeps edits, by their lines: those up to some point."""
+    edits = edits_of(written, written.start, end)
+    for count in range(len(edits), -1, -1):
+        yield {**dict.fromkeys(edits[:count], "1 1"), **dict.fromkeys(edits[count:], "0 1")}
+
+
+def logged(written, end):
+    """The same for what btrfs's log leaves (docs/FILES.md): any edits from before the last sync, or all of these and later ones up to some
+    point. Of the moves to other folders some are whole, and of the others the old name stays."""
+    lines, halves = written.script.lines, written.script.halves
+    last = max((number for number in range(written.start, end) if lines[number].split()[0] in SYNCS), default=written.start)
+    edits = edits_of(written, written.start, last)
+    moves = [number for number in edits if number in halves]
+    later = dict.fromkeys(edits_of(written, last, end), "0 1")
+    for size in range(len(moves) + 1):
+        for whole in combinations(moves, size):
+            kept = {**dict.fromkeys(edits, "1 2"), **dict.fromkeys(moves, "0 1")}
+            kept.update({number: "1 1" for move in whole for number in (move, halves[move])})
+            yield {**kept, **later}
+    yield from up_to_point(written, end)
+
+
+def edits_of(written, start, end):
+    return [number for number in range(start, end) if written.script.lines[number].split()[0] in EDITS]
+
+
+def directed(written, end, state, kept):
     """The lines of a case up to one, with rates of 0 and 1 that leave few draws: a write is lost of which a state has nothing, and kept of
-    which it has everything. The edits are kept up to a point. Returns lines for each point: first those by which zeros that a write leaves
+    which it has everything. Edits are kept by a rule. Returns lines for each of its rates: first those by which zeros that a write leaves
     are kept or lost in large sectors."""
     letters = "".join(word.partition("=")[2] for word in state.split())
     for sectors in (LARGE * written.unit, written.unit):
-        planned, edits, is_same = [], [], True
+        planned, places, is_same = [], {}, True
         for number in range(written.start, end):
             line = written.script.lines[number]
             rate, is_zeros = rate_of(line, number in written.script.grows, letters, written.unit)
             if rate:
                 planned.append(WRITES.format(rate, sectors if is_zeros else written.unit))
                 is_same = is_same and not is_zeros
-            if line.split()[0] in EDITS:
-                edits.append(len(planned))
+            places[number] = len(planned)
             planned.append(line)
-        for at in [len(planned), *edits]:
-            yield ["keep 1 1", *planned[:at], "keep 0 1", *planned[at:]]
+        for rates in kept(written, end):
+            yield list(with_keeps(planned, {places[number]: rate for number, rate in rates.items()}))
         if is_same:
             break
+
+
+def with_keeps(lines, rates):
+    """Lines, with the rate with which a crash keeps an edit before each that has one, by its number."""
+    for number, line in enumerate(lines):
+        if number in rates:
+            yield f"keep {rates[number]}"
+        yield line
 
 
 def rate_of(line, grows, letters, unit):

@@ -21,7 +21,7 @@ class Open:
         self.number = None
         if mode in ("xb", "wb"):
             self.number = script.take()
-            script.add(f"{'create' if mode == 'xb' else 'open' if script.loses() else 'open_truncated'} {self.name}")
+            script.add(f"{'create' if mode == 'xb' else 'open_truncated'} {self.name}")
 
     def __enter__(self):
         return self
@@ -41,7 +41,7 @@ class Open:
 
     def put(self, data):
         if self.at + len(data) > self.entry.length:
-            self.script.grows.add(len(self.script.lines))
+            self.script.grows[len(self.script.lines)] = self.entry.length
         self.call("write", f"{self.at} {data.hex()}")
         self.at += len(data)
         self.entry.length = max(self.entry.length, self.at)
@@ -50,8 +50,7 @@ class Open:
         self.at = offset
 
     def truncate(self, size):
-        if not self.script.loses():
-            self.call("truncate", size)
+        self.call("truncate", size)
         self.entry.length = size
 
     def allocate(self, size):
@@ -72,8 +71,10 @@ class Script:
 
     def __init__(self):
         self.lines, self.found, self.descriptors = [], {"/": Entry(None), ".": Entry(None)}, 0
-        # The numbers of the lines that make a file longer.
-        self.grows = set()
+        # The numbers of the lines that make a file longer, with its length before, and of those that rename over a name.
+        self.grows, self.replaces = {}, set()
+        # Of moves that are made in two steps, the removal of the old name with the line that makes the new one.
+        self.halves = {}
 
     def add(self, line):
         self.lines.append(line)
@@ -85,10 +86,6 @@ class Script:
     def settle(self):
         """Makes all durable."""
         self.add("settle")
-
-    def loses(self):
-        """Whether the next truncation is left out: none is."""
-        return False
 
     def fill(self, file):
         """Writes what comes before a write: nothing."""
@@ -153,6 +150,8 @@ class Script:
         if taken is not self.found[old]:
             self.found.pop(new, None)
             self.move(old, new)
+            if taken is not None:
+                self.replaces.add(len(self.lines))
         self.add(f"rename {self.absolute(old)} {self.absolute(new)}")
 
     def exchange(self, one, other):
@@ -177,23 +176,16 @@ class Script:
 
 
 class Deviating(Script):
-    """A script for sets with known deviations (docs/FILES.md). With `splits` a move of a file to another folder is a new name and then the
-    removal of the old one. `lost` has the numbers of truncations that are left out. With `page`, the letters of a page, a write beyond the
-    end of a file first fills the page in which this ends with zeros."""
+    """A script for sets with known deviations (docs/FILES.md). With `page`, the letters of a page, a write beyond the end of a file first
+    fills the page in which this ends with zeros. A move of a file to another folder is a new name and then the removal of the old one."""
 
-    def __init__(self, splits=False, lost=(), page=1):
+    def __init__(self, page):
         super().__init__()
-        self.splits, self.lost, self.page = splits, lost, page
-        self.cuts, self.is_settled = 0, False
+        self.page, self.is_settled = page, False
 
     def settle(self):
         super().settle()
         self.is_settled = True
-
-    def loses(self):
-        """Whether the next truncation is left out."""
-        self.cuts += self.is_settled
-        return self.is_settled and self.cuts - 1 in self.lost
 
     def fill(self, file):
         length = file.entry.length
@@ -205,12 +197,13 @@ class Deviating(Script):
 
     def rename(self, old, new):
         is_moved = self.found[old].length is not None and old.rpartition("/")[0] != new.rpartition("/")[0]
-        if not (self.splits and self.is_settled and is_moved) or self.found.get(new) is self.found[old]:
+        if self.page > 1 or not (self.is_settled and is_moved) or self.found.get(new) is self.found[old]:
             super().rename(old, new)
             return
         if new in self.found:
             self.unlink(new)
         self.link(old, new)
+        self.halves[len(self.lines)] = len(self.lines) - 1
         self.unlink(old)
 
 

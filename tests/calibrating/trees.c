@@ -96,10 +96,11 @@ static uint32_t call(struct blobcrash_files *files, const char *line) {
         if (unit == 0 || unit > UNIT_MOST) end("no unit", line);
         return BLOBCRASH_DONE;
     }
-    if (!strcmp(name, "config") || !strcmp(name, "keep") || !strcmp(name, "profile"))
+    if (!strcmp(name, "config") || !strcmp(name, "keep") || !strcmp(name, "profile") || !strcmp(name, "edits"))
         return blobcrash_files_configure(files, (const uint8_t *)line, strlen(line));
     if (!strcmp(name, "sync")) return blobcrash_files_sync(files);
     if (!strcmp(name, "settle")) return blobcrash_files_settle(files);
+    if (!strcmp(name, "commit")) return blobcrash_files_commit(files);
     if (count < 2) end("no call", line);
     if (!strcmp(name, "create")) return blobcrash_file_create(files, words[1], NULL);
     if (!strcmp(name, "open")) return blobcrash_file_open(files, words[1], NULL);
