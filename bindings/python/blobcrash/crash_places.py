@@ -1,0 +1,139 @@
+"""A run that crashes after each of its calls: what was unsynced there, and what an outcome leaves."""
+
+from __future__ import annotations
+
+import hashlib
+from typing import Any, Dict, FrozenSet, Iterable, Iterator, List, NamedTuple, Optional, Sequence, Tuple
+
+from .crash_units import Key, Lost, Row, Unit, canonical, rows_of, unit_of, words_of_outcome
+from .forked import in_child
+from .recorded_run import AddedSync, RecordedRun, Replay
+
+# How many words a crash is given for what it draws unexpectedly.
+_ROOM = 4096
+
+
+class State(NamedTuple):
+    """What a crash left: a checksum, and its content pickled."""
+
+    digest: bytes
+    pickled: bytes
+    rows: Tuple[Row, ...]
+    words: Tuple[int, ...]
+
+
+class Place:
+    """A place of a crash: after a line, with what nothing had made durable. It is gone when the run goes on."""
+
+    def __init__(self, walk: Walk, units: List[Unit], old: int) -> None:
+        self.run, self.line, self.units = walk.run, walk.replay.line, units
+        self.is_ordered = walk.is_ordered
+        self._replay = walk.replay
+        # How many of the units were there at the place before, if they are the first ones of these and nothing else has changed.
+        self.old = old
+
+    def canonical(self, lost: Lost) -> Lost:
+        """An outcome with all that is lost with it."""
+        return canonical(self.units, lost, self.is_ordered)
+
+    def is_old(self, lost: Lost) -> bool:
+        """Whether an outcome was one of the place before: what the calls since then made is lost."""
+        new = range(self.old, len(self.units))
+        return len(new) > 0 and all(lost[at] == self.units[at].all for at in new)
+
+    def crash(self, lost: Lost) -> State:
+        """What a crash leaves with this outcome."""
+        words = words_of_outcome(self.units, lost)
+
+        def work() -> Any:
+            taken, reply = self._replay.crash([*words, *[0] * _ROOM])
+            return (tuple(taken), rows_of(reply)), self._replay.content()
+
+        (taken, rows), pickled = in_child(work)
+        return State(hashlib.sha256(pickled).digest(), pickled, tuple(rows), taken)
+
+    def names(self) -> Dict[int, List[str]]:
+        """The paths of each inode that calls see."""
+        names, _ = in_child(lambda: (self._replay.names(), None))
+        found: Dict[int, List[str]] = {}
+        for path, inode in names.items():
+            found.setdefault(inode, []).append(path.decode(errors="backslashreplace"))
+        return found
+
+    def script(self, state: State) -> str:
+        """A script that makes the calls up to here, and crashes with the same outcome."""
+        return self._replay.script(state.words)
+
+
+class Walk:
+    """The places of a run in order, from the line `since` on."""
+
+    def __init__(
+        self, run: RecordedRun, added: Iterable[AddedSync] = (), without: FrozenSet[int] = frozenset(), since: int = 0
+    ) -> None:
+        self.run = run
+        self.replay = Replay(run, added, without)
+        self.is_ordered = True
+        self._since = since
+        self._made: Dict[int, Key] = {}
+        # The writes that were dropped by a sync that failed, by the line of that sync.
+        self.dropped: Dict[int, List[Unit]] = {}
+
+    def places(self, only: Optional[Sequence[int]] = None) -> Iterator[Place]:
+        """Yields the places, or those after some lines alone."""
+        before: List[Unit] = []
+        old_line = -1
+        try:
+            for line in self.run.places():
+                for skipped in range(self.replay.line, line):
+                    self._see_setting(skipped + 1)
+                self.replay.go_to(line)
+                units = self._units(line)
+                if line and self.run.made[line - 1].is_refused:
+                    self._see_dropped(line, before, units)
+                is_same = [unit.key for unit in units[: len(before)]] == [unit.key for unit in before]
+                is_known = is_same and old_line >= 0 and not self.run.is_acknowledgement(line)
+                if line >= self._since and (only is None or line in only):
+                    yield Place(self, units, len(before) if is_known else len(units))
+                    old_line = line
+                else:
+                    old_line = -1
+                before = units
+        finally:
+            self.replay.close()
+
+    def _see_setting(self, line: int) -> None:
+        """Notes whether a crash keeps edits up to some point alone."""
+        tokens = self.run.lines[line - 1].split()
+        if tokens[0] == "profile":
+            self.is_ordered = tokens[1] != "posix"
+        elif tokens[0] == "edits":
+            self.is_ordered = tokens[1] == "prefix"
+
+    def _units(self, line: int) -> List[Unit]:
+        """What a crash draws for, which it shows if it keeps all. What is new was made by this line."""
+        def work() -> Any:
+            taken, reply = self.replay.crash([0] * _ROOM)
+            return (len(taken), rows_of(reply)), None
+
+        (count, rows), _ = in_child(work)
+        fresh = 0
+        units = []
+        for row in sorted(rows):
+            if row.write not in self._made:
+                self._made[row.write] = (line, fresh)
+                fresh += 1
+            key = self._made[row.write]
+            text = self.run.lines[key[0] - 1]
+            units.append(unit_of(row, key, self.run.is_files, self.run.mode(key[0]), text))
+        drawn = sum(unit.draws for unit in units)
+        if drawn != count:
+            raise RuntimeError(f"a crash after line {line} makes {count} draws, and {drawn} were expected")
+        return units
+
+    def _see_dropped(self, line: int, before: List[Unit], units: List[Unit]) -> None:
+        """Notes what a call that failed has dropped."""
+        keys = {unit.key for unit in units}
+        dropped = [unit for unit in before if unit.key not in keys and not unit.is_edit]
+        if dropped:
+            self.dropped[line] = dropped
