@@ -9,8 +9,8 @@ from .crash_units import Key, Lost, Row, Unit, canonical, rows_of, unit_of, word
 from .forked import in_child
 from .recorded_run import AddedSync, RecordedRun, Replay
 
-# How many words a crash is given for what it draws unexpectedly.
-_ROOM = 4096
+# How many words a crash is given at first, beyond what it drew at the place before.
+_ROOM = 64
 
 
 class State(NamedTuple):
@@ -25,7 +25,8 @@ class State(NamedTuple):
 class Place:
     """A place of a crash: after a line, with what nothing had made durable. It is gone when the run goes on."""
 
-    def __init__(self, walk: Walk, units: List[Unit], old: int) -> None:
+    def __init__(self, walk: Walk, units: List[Unit], old: int, kept: State) -> None:
+        self._kept = kept
         self.run, self.line, self.units = walk.run, walk.replay.line, units
         self.is_ordered = walk.is_ordered
         self._replay = walk.replay
@@ -43,22 +44,7 @@ class Place:
 
     def crash(self, lost: Lost) -> State:
         """What a crash leaves with this outcome."""
-        words = words_of_outcome(self.units, lost)
-
-        def work() -> Any:
-            taken, reply = self._replay.crash([*words, *[0] * _ROOM])
-            return (tuple(taken), rows_of(reply)), self._replay.content()
-
-        (taken, rows), pickled = in_child(work)
-        return State(hashlib.sha256(pickled).digest(), pickled, tuple(rows), taken)
-
-    def names(self) -> Dict[int, List[str]]:
-        """The paths of each inode that calls see."""
-        names, _ = in_child(lambda: (self._replay.names(), None))
-        found: Dict[int, List[str]] = {}
-        for path, inode in names.items():
-            found.setdefault(inode, []).append(path.decode(errors="backslashreplace"))
-        return found
+        return _crashed(self._replay, words_of_outcome(self.units, lost)) if any(lost) else self._kept
 
     def script(self, state: State) -> str:
         """A script that makes the calls up to here, and crashes with the same outcome."""
@@ -88,13 +74,13 @@ class Walk:
                 for skipped in range(self.replay.line, line):
                     self._see_setting(skipped + 1)
                 self.replay.go_to(line)
-                units = self._units(line)
+                units, kept = self._units(line, before)
                 if line and self.run.made[line - 1].is_refused:
                     self._see_dropped(line, before, units)
                 is_same = [unit.key for unit in units[: len(before)]] == [unit.key for unit in before]
                 is_known = is_same and old_line >= 0 and not self.run.is_acknowledgement(line)
                 if line >= self._since and (only is None or line in only):
-                    yield Place(self, units, len(before) if is_known else len(units))
+                    yield Place(self, units, len(before) if is_known else len(units), kept)
                     old_line = line
                 else:
                     old_line = -1
@@ -110,16 +96,17 @@ class Walk:
         elif tokens[0] == "edits":
             self.is_ordered = tokens[1] == "prefix"
 
-    def _units(self, line: int) -> List[Unit]:
-        """What a crash draws for, which it shows if it keeps all. What is new was made by this line."""
-        def work() -> Any:
-            taken, reply = self.replay.crash([0] * _ROOM)
-            return (len(taken), rows_of(reply)), None
-
-        (count, rows), _ = in_child(work)
+    def _units(self, line: int, before: List[Unit]) -> Tuple[List[Unit], State]:
+        """What a crash draws for, which it shows if it keeps all, and what it leaves then. What is new was made by this line."""
+        room = sum(unit.draws for unit in before) + _ROOM
+        while True:
+            kept = _crashed(self.replay, [0] * room)
+            if len(kept.words) < room:
+                break
+            room *= 4
         fresh = 0
         units = []
-        for row in sorted(rows):
+        for row in kept.rows:
             if row.write not in self._made:
                 self._made[row.write] = (line, fresh)
                 fresh += 1
@@ -127,9 +114,9 @@ class Walk:
             text = self.run.lines[key[0] - 1]
             units.append(unit_of(row, key, self.run.is_files, self.run.mode(key[0]), text))
         drawn = sum(unit.draws for unit in units)
-        if drawn != count:
-            raise RuntimeError(f"a crash after line {line} makes {count} draws, and {drawn} were expected")
-        return units
+        if drawn != len(kept.words):
+            raise RuntimeError(f"a crash after line {line} makes {len(kept.words)} draws, and {drawn} were expected")
+        return units, kept
 
     def _see_dropped(self, line: int, before: List[Unit], units: List[Unit]) -> None:
         """Notes what a call that failed has dropped."""
@@ -137,3 +124,14 @@ class Walk:
         dropped = [unit for unit in before if unit.key not in keys and not unit.is_edit]
         if dropped:
             self.dropped[line] = dropped
+
+
+def _crashed(replay: Replay, words: List[int]) -> State:
+    """What a crash by these words leaves."""
+
+    def work() -> Any:
+        taken, reply = replay.crash(words)
+        return (tuple(taken), rows_of(reply)), replay.content()
+
+    (taken, rows), pickled = in_child(work)
+    return State(hashlib.sha256(pickled).digest(), pickled, tuple(sorted(rows, key=lambda row: row.write)), taken)

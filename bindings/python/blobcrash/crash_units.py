@@ -2,7 +2,7 @@
 
 from __future__ import annotations
 
-from itertools import combinations, islice
+from itertools import combinations
 from typing import Any, Dict, Iterator, List, NamedTuple, Optional, Sequence, Set, Tuple
 
 from .file_calls import Kept
@@ -158,8 +158,3 @@ def runs(digits: str, wanted: str, offset: int) -> List[Tuple[int, int]]:
             found.append((offset + at, offset + end))
         at = end
     return found
-
-
-def first_of(iterator: Iterator[Any], count: int) -> List[Any]:
-    """The first items."""
-    return list(islice(iterator, count))

@@ -87,10 +87,12 @@ class RecordedRun:
 
     def process(self, line: int) -> Optional[str]:
         """Which process made a call, if the record says so."""
+        if line and self.lines[line - 1].startswith("#"):
+            return None
         for text in reversed(self.lines[:line]):
             if text.startswith(_PROCESS):
                 number, _, name = text[len(_PROCESS) :].partition(" ")
-                return f"{name}[{number}]"
+                return None if number == "0" else f"{name}[{number}]"
         return None
 
     def places(self) -> List[int]:
