@@ -12,6 +12,7 @@ from passing import run_tests
 
 TOP = os.path.dirname(os.path.dirname(os.path.abspath(__file__)))
 from blobcrash import Files, Injected, Library, Store
+from blobcrash.crash_units import Unit, canonical, count_outcomes, outcomes, runs
 
 SECTORS = ["write 0 1 1 2 sectors 4"]
 # What is in /settings: what was acknowledged last, or what is saved next. In a file of zeros the shell reads nothing.
@@ -223,6 +224,21 @@ def test_a_check_that_fails_without_a_loss():
     assert [(cause["class"], cause["at"]) for cause in found.causes] == [("no loss", None)], found.causes
     found = Diagnosed("create /f\nunlink /f\n", 'test ! -e "$STATE/f"\n')
     assert [(cause["class"], cause["at"]) for cause in found.causes] == [("no loss", {"line": 1, "call": "create /f"})], found.causes
+
+
+def test_outcomes():
+    """A write of two sectors, and two edits of which a crash keeps those up to some point."""
+    write, one, other = Unit((1, 0), False, 2, False, 2, 0, 8), *(Unit((line, 0), True, 1, False, None, 0, 9) for line in (2, 3))
+    units = [write, one, other]
+    least = [(0, 0, 0), (3, 0, 0), (0, 1, 1), (0, 0, 1), (3, 1, 1), (3, 0, 1), (1, 0, 0), (2, 0, 0)]
+    assert list(outcomes(units, True, None)) == [*least, (1, 1, 1), (1, 0, 1), (2, 1, 1), (2, 0, 1)]
+    assert list(outcomes(units, True, 3)) == least[:3] and count_outcomes(units, True) == 12
+    assert len(list(outcomes(units, False, None))) == count_outcomes(units, False) == 16
+    # Of a write whose bytes are kept up to the first that is lost, the rest is lost with it.
+    prefix = Unit((1, 0), False, 4, True, 2, 0, 4)
+    assert canonical([prefix], (0b0010,), True) == (0b1110,) and prefix.words(0b1110) == [0, 2**64 - 1]
+    assert count_outcomes([prefix], True) == len(list(outcomes([prefix], True, None))) == 5
+    assert runs("110100", "1", 8) == [(8, 10), (11, 12)] and runs("110100", "0", 8) == [(10, 11), (12, 14)]
 
 
 REPLACED = """profile posix

@@ -25,5 +25,5 @@ for tool in sqlite3 git; do
         skip "there is no $tool"
     fi
 done
-add python3 "$top/tests/diagnose_mount.py" test_processes
+add python3 "$top/tests/diagnose_mount.py" test_processes test_crash_run
 finish

@@ -14,10 +14,6 @@ sys.path.insert(0, os.path.join(TOP, "adapters", "mount"))
 from mounting import Mount
 
 PROGRAM = os.path.join(TOP, "out", "mount", "blobcrash_mount")
-SQLITE = """
-found=$(sqlite3 "$STATE/db" "pragma integrity_check; select count(*) from sqlite_schema; select n from t" 2>&1 | tr "\\n" " ")
-test ! -s "$ACKNOWLEDGED" || test "$found" = "ok 1 1 "
-"""
 GIT = """
 cd "$STATE/r" 2>/dev/null && [ -s "$ACKNOWLEDGED" ] || exit 0
 git -c safe.directory='*' fsck --full >/dev/null 2>&1 || exit 1
@@ -56,14 +52,20 @@ def missing(text):
     return sorted(re.findall(r"`(fsync\w* [^`]*)` before line", text[text.rindex("\nWith") :])) if "\nWith" in text else []
 
 
+def example(level):
+    """What the example prints of a commit of SQLite's shell at this level."""
+    ran = subprocess.run(["sh", f"{TOP}/examples/mount_diagnose.sh", level], stdout=subprocess.PIPE, text=True)
+    return ran.returncode, ran.stdout
+
+
 def test_sqlite3():
-    create, insert = "sqlite3 db 'create table t(n integer primary key, x)'", "sqlite3 db \"pragma synchronous={}; insert into t values(1, 'one')\""
-    full = diagnosed("posix", create, insert.format("full"), SQLITE, "--whole")
+    status, full = example("full")
     # EXTRA syncs the folder after the journal has been deleted.
-    assert missing(full) == ["fsyncdir /"] and "; 1 fails" in full.splitlines()[0], full
-    assert re.search(r"1\. acknowledged before durable: .*\n  lost: line \d+, unlink /db-journal, by sqlite3\[\d+\]\n  then: line \d+, acknowledged 1\n", full), full
-    extra = diagnosed("posix", create, insert.format("extra"), SQLITE, "--whole")
-    assert extra.splitlines()[0].endswith("; 0 fail"), extra
+    assert status == 1 and missing(full) == ["fsyncdir /"] and "; 1 fails" in full.splitlines()[0], full
+    found = r"1\. acknowledged before durable: .*\n  lost: line \d+, unlink /db-journal, by sqlite3\[\d+\]\n  then: line \d+, acknowledged 1\n"
+    assert re.search(found, full), full
+    status, extra = example("extra")
+    assert status == 0 and extra.splitlines()[0].endswith("; 0 fail"), extra
 
 
 def test_git():
@@ -93,6 +95,16 @@ def test_processes():
         elif line.split()[0] in ("mkdir_at", "create_at", "rename_at"):
             made.append((by, line.split()[0]))
     assert made == [("mkdir", "mkdir_at"), ("cp", "create_at"), ("mv", "rename_at")], lines
+
+
+def test_crash_run():
+    """The record of a failing seed has what was acknowledged. The log forgets its sync."""
+    log = f"{TOP}/examples/mount_log.py"
+    with tempfile.TemporaryDirectory() as folder:
+        words = ["--first", "3", "--seeds", "1", "--stop-after", "14", "--out", folder, "--work", f"{log} append --forget-sync", "--check", f"{log} check"]
+        ran = subprocess.run([f"{TOP}/tools/crash_run", "--diagnose", *words], stdout=subprocess.PIPE, text=True)
+    assert ran.returncode == 1 and re.search(r"^  diagnose: \S*blobcrash diagnose ", ran.stdout, re.M), ran.stdout
+    assert "1. acknowledged before durable: " in ran.stdout and set(missing(ran.stdout)) == {"fsync /log"}, ran.stdout
 
 
 if __name__ == "__main__":

@@ -99,7 +99,9 @@ def cause_of(called: Called, place: Place, lost: Lost, state: State, shown: Cras
         kind = ACKNOWLEDGED
     else:
         kind = ORDER if place.line > max(lines) else SPLIT
-    added = {sync for loss in losses for sync in _syncs(called, run, loss, place.line)} if kind != SPLIT else set()
+    added: Set[AddedSync] = set()
+    if kind != SPLIT:
+        added = {sync for loss in losses for sync in _syncs(called, run, loss, place.line)}
     return Cause(kind, losses, place.line, tuple(sorted(added)), shown)
 
 
@@ -117,7 +119,8 @@ def _losses(place: Place, lost: Lost, state: State) -> List[Loss]:
         if not bits or (unit.is_edit and place.is_ordered and has_edit):
             continue
         has_edit = has_edit or unit.is_edit
-        kept, gone = ((), ()) if unit.is_edit else (tuple(runs(row.kept, digit, unit.offset)) for digit in "10")
+        kept = () if unit.is_edit else tuple(runs(row.kept, "1", unit.offset))
+        gone = () if unit.is_edit else tuple(runs(row.kept, "0", unit.offset))
         losses.append(Loss(unit.key, unit.is_edit, bits != unit.all, unit.inode, unit.offset, kept, gone))
     return losses
 

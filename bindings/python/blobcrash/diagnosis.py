@@ -198,7 +198,8 @@ class Diagnosis:
         which causes were found come first."""
         unfixed = self.unfixed
         likely = sorted({cause.at for cause in self.causes if cause.added and cause.at >= since})
-        for only in ([likely] if likely else []) + [None]:
+        tries: List[Optional[List[int]]] = [likely, None] if likely else [None]
+        for only in tries:
             for failing in self._failing(added, without, since, only, {}):
                 is_of = [cause.is_in(failing.place, failing.lost) for cause in (unfixed if of is None else of)]
                 if any(is_of) == (of is not None):

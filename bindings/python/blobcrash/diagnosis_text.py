@@ -91,9 +91,9 @@ def _of_cause(diagnosis: Diagnosis, cause: Cause) -> List[str]:
     lines = []
     shown = cause.losses[:_MOST_CALLS]
     for loss in shown:
-        lines.append(f"  lost: {_named(diagnosis, loss.line)}{_part(loss)}")
-        if loss.is_torn:
-            lines += _torn(diagnosis, loss)
+        is_part = cause.kind == TORN and not loss.is_edit
+        lines.append(f"  lost: {_named(diagnosis, loss.line)}{_part(loss) if is_part else ''}")
+        lines += _torn(diagnosis, loss) if is_part else []
     if len(cause.losses) > len(shown):
         lines.append(f"  and {len(cause.losses) - len(shown)} calls more")
     if cause.failed is not None:
@@ -148,17 +148,16 @@ def _call(diagnosis: Diagnosis, line: int) -> Optional[Dict[str, Any]]:
 
 
 def _part(loss: Loss) -> str:
-    """Which bytes of a write were lost, if not all."""
-    if not loss.is_torn:
-        return ""
-    return f": kept {_runs(loss.kept)}; lost {_runs(loss.lost)}"
+    """Which bytes of a torn write were kept and lost. If none were kept, its zeros were."""
+    return f": kept {_runs(loss.kept) or 'its zeros'}; lost {_runs(loss.lost)}"
 
 
 def _torn(diagnosis: Diagnosis, loss: Loss) -> List[str]:
     """The bytes of a torn write."""
     data = diagnosis.called.written(loss.line)
     lines = []
-    for start, end, what in sorted([(*run, "kept") for run in loss.kept] + [(*run, "lost") for run in loss.lost]):
+    parts = [(start, end, "kept") for start, end in loss.kept] + [(start, end, "lost") for start, end in loss.lost]
+    for start, end, what in sorted(parts):
         part = data[start - loss.start : min(end - loss.start, start - loss.start + _MOST_BYTES)]
         lines.append(f"    {what} {start}: {part.hex(' ')}{' ..' if end - start > _MOST_BYTES else ''}")
     return lines[: 2 * _MOST_CALLS]

@@ -136,7 +136,8 @@ class RecordedRun:
 
     def _made_by(self, words: List[int]) -> Optional[List[Made]]:
         """Makes all calls by these words. `None` if they are too few."""
-        session, made = self.way(self.images, words), []
+        session = self.way(self.images, words)
+        made: List[Made] = []
         try:
             left = session.words_left()
             for setting in self.settings[0]:
