@@ -183,6 +183,27 @@ def test_two_causes():
     assert [sync["sync"] for sync in found.counts["syncs"]] == ["fsync /a.new", "fsyncdir /"], found.counts
 
 
+def test_several_syncs():
+    """Each of two folders needs its sync. A crash that keeps the second rename keeps the first one too, so that only one loss shows at first."""
+
+    def program(files):
+        for folder in ("/d", "/e"):
+            files.mkdir(folder)
+        files.settle()
+        for folder in ("/d", "/e"):
+            with files.open(f"{folder}/new", "xb") as file:
+                file.write(b"x")
+                files.fsync(file)
+            files.rename(f"{folder}/new", f"{folder}/old")
+        files.note("acknowledged both")
+
+    found = Diagnosed(recorded(program, "btrfs"), '[ ! -s "$ACKNOWLEDGED" ] || [ -e "$STATE/d/old" -a -e "$STATE/e/old" ]\n')
+    for number, folder in enumerate(("/e", "/d")):
+        lost = f"rename {folder}/new -> {folder}/old"
+        found.is_cause(number, "acknowledged before durable", [lost], "acknowledged both", f"fsyncdir {folder}")
+    assert len(found.causes) == 2 and sorted(sync["sync"] for sync in found.counts["syncs"]) == ["fsyncdir /d", "fsyncdir /e"], found.counts
+
+
 def test_a_superfluous_sync():
     def program(files):
         with files.open("/new", "xb") as file:
@@ -234,7 +255,7 @@ def test_outcomes():
     assert list(outcomes(units, True, None)) == [*least, (1, 1, 1), (1, 0, 1), (2, 1, 1), (2, 0, 1)]
     assert list(outcomes(units, True, 3)) == least[:3] and count_outcomes(units, True) == 12
     assert len(list(outcomes(units, False, None))) == count_outcomes(units, False) == 16
-    # Of a write whose bytes are kept up to the first that is lost, the rest is lost with it.
+    # In the mode `prefix` the bytes after the first one that is lost are lost too.
     prefix = Unit((1, 0), False, 4, True, 2, 0, 4)
     assert canonical([prefix], (0b0010,), True) == (0b1110,) and prefix.words(0b1110) == [0, 2**64 - 1]
     assert count_outcomes([prefix], True) == len(list(outcomes([prefix], True, None))) == 5
@@ -259,13 +280,11 @@ def test_text():
         assert ran.stderr == "" and ran.returncode == 1, ran
         # None, and /f and /g each empty, of three zeros, and whole. With the sync /g is whole in each state that has it.
         assert ran.stdout == f"""5 crashes, 7 states; 2 fail
-
 1. order: a later call was kept, and one that it depends on was lost
   lost: line 3, write 0..3 of /f
   kept: line 4, rename /f -> /g
   missing: `fsync /f` before line 4
   state: {folder}/out/1
-
 With `fsync /f` before line 4 none of 5 states fails.
 This is said of this record and this check alone.
 Not needed for this check, all of them left out: 1 sync

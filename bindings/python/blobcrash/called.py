@@ -1,4 +1,4 @@
-"""What a call of a record is called: with the paths that its numbers had, the file that it changed, and the directories whose names."""
+"""The calls of a record as texts with paths, the file that each one changes, and the directories in which it changes names."""
 
 from __future__ import annotations
 

@@ -23,14 +23,14 @@ class State(NamedTuple):
 
 
 class Place:
-    """A place of a crash: after a line, with what nothing had made durable. It is gone when the run goes on."""
+    """A place of a crash: after a line, with what nothing had made durable. It can't be used once the run goes on."""
 
     def __init__(self, walk: Walk, units: List[Unit], old: int, kept: State) -> None:
         self._kept = kept
         self.run, self.line, self.units = walk.run, walk.replay.line, units
         self.is_ordered = walk.is_ordered
         self._replay = walk.replay
-        # How many of the units were there at the place before, if they are the first ones of these and nothing else has changed.
+        # How many of the units the place before had, if they are the first of these and no other was changed since.
         self.old = old
 
     def canonical(self, lost: Lost) -> Lost:

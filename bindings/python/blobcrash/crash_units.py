@@ -24,7 +24,7 @@ class Row(NamedTuple):
 
 
 class Unit(NamedTuple):
-    """An unsynced write, or an edit that nothing settled, with how many draws a crash makes of it."""
+    """An unsynced write, or an edit that nothing settled, with the number of draws of a crash for it."""
 
     key: Key
     is_edit: bool

@@ -30,7 +30,7 @@ def as_text(diagnosis: Diagnosis, wrong: Optional[CrashState], kept: List[str]) 
     for number, (cause, folder) in enumerate(zip(diagnosis.causes, kept), 1):
         later = " (once the syncs for those before are added)" if cause.is_later else ""
         why = f": {_WHY[cause.kind]}" if cause.kind in _WHY else ""
-        lines += ["", f"{number}. {cause.kind}{why}{later}", *_of_cause(diagnosis, cause), f"  state: {folder}"]
+        lines += [f"{number}. {cause.kind}{why}{later}", *_of_cause(diagnosis, cause), f"  state: {folder}"]
     return lines
 
 
@@ -44,9 +44,9 @@ def summary(diagnosis: Diagnosis, wrong: Optional[CrashState], options: argparse
         others = " of another cause" if diagnosis.unfixed else ""
         syncs = _placed(diagnosis, diagnosis.added)
         if len(syncs) == 1:
-            lines += ["", f"With {syncs[0]} none of {states} fails{others}."]
+            lines += [f"With {syncs[0]} none of {states} fails{others}."]
         elif syncs:
-            lines += ["", f"With these {len(syncs)} syncs none of {states} fails{others}:", *(f"  {sync}" for sync in syncs)]
+            lines += [f"With these {len(syncs)} syncs none of {states} fails{others}:", *(f"  {sync}" for sync in syncs)]
         lines.append("This is said of this record and this check alone.")
     if options.superfluous:
         lines += _superfluous(diagnosis)

@@ -1,4 +1,4 @@
-"""Work in a copy of this process: it changes nothing here, and what a session has become is there at once."""
+"""Work in a copy of this process, which has its sessions as they are and changes nothing here."""
 
 from __future__ import annotations
 

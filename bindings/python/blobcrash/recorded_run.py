@@ -62,7 +62,7 @@ class RecordedRun:
         end = next((at for at, line in enumerate(parts.rest) if line.split()[0] == "crash"), len(parts.rest))
         self.lines = parts.rest[:end]
         self.way: Any = ReplayedFiles if self.is_files else ReplayedStore
-        # Where each line is in the record, counted as an editor does.
+        # The place of each line in the file, from 1 on.
         self.shown = _places_in(script)[:end]
         self._modes: List[str] = []
         self.settings = self._settings(whole)
@@ -192,7 +192,7 @@ class Replay:
                     self._make(setting, self._run.made[self.line - 1])
 
     def crash(self, words: List[int]) -> Tuple[List[int], Any]:
-        """Crashes by these words. Returns those that it took, and its reply. Nothing else can be called but `content`."""
+        """Crashes by these words. Returns those that it took, and its reply. From then on only `content` can be called."""
         before = self._session.words_left() + len(words)
         reply = self._session.crash(words)
         return words[: before - self._session.words_left()], reply
@@ -276,7 +276,7 @@ def _is_files(lines: List[str]) -> bool:
 
 
 def _places_in(script: str) -> List[int]:
-    """Where the lines of a script are that aren't empty, and neither words nor images."""
+    """The places of the lines that aren't empty, and neither words nor images."""
     tokens = [line.split() for line in script.split("\n")]
     return [at for at, words in enumerate(tokens, 1) if words and words[0] not in ("words", "seed", "image")]
 
