@@ -37,6 +37,7 @@ same() {
 same explore explore "$top/blobcrash" explore
 same states 'states \[--at' "$top/blobcrash" states
 same 'states of checks' 'states \[options\]' "$top/tools/states"
+same diagnose diagnose "$top/tools/diagnose"
 same 'files explore' 'files explore' "$top/blobcrash" files
 same mount mount "$top/blobcrash" mount
 same mountctl mountctl "$top/blobcrash" mountctl
@@ -44,7 +45,7 @@ same crash-run crash-run "$top/blobcrash" crash-run
 ok 'no line of the help is longer than 120 columns' sh -c '! "$1/blobcrash" help | grep ".\{121\}"' sh "$top"
 
 # Commands that are tools, by both of their names.
-for row in 'check:check' 'judge:judge' 'shrink:shrink' 'page:crash_page' 'mountctl:mountctl' 'mount:mount' 'crash-run:crash_run' 'crash_run:crash_run'; do
+for row in 'check:check' 'judge:judge' 'shrink:shrink' 'page:crash_page' 'diagnose:diagnose' 'mountctl:mountctl' 'mount:mount' 'crash-run:crash_run' 'crash_run:crash_run'; do
     "$top/tools/${row#*:}" --help >"$work/wanted"
     for word in --help -h; do
         run "$top/blobcrash" "${row%:*}" "$word" </dev/null
@@ -78,6 +79,8 @@ check --fiels|`--fiels` is no option
 judge a b|`b` is an argument too many
 states --filse x -- y|--filse
 states --limit x y -- z|argument --limit: invalid int value: 'x'
+diagnose --wohle x -- y|--wohle
+diagnose --jobs 0 x -- y|wants a CHECK after --, and numbers from 1 on
 ROWS
 
 mkdir "$work/shells"
@@ -88,7 +91,7 @@ done
 ok 'completion bash prints it' sh -c '"$1/blobcrash" completion bash | cmp - "$2/bash"' sh "$top" "$work/shells"
 if has man; then
     ok 'the manual page has no warning' sh -c 'MANROFFSEQ="" man --warnings -l "$1/man" 2>&1 >"$2" | grep .; [ $? -eq 1 ]' sh "$work/shells" "$work/page"
-    for command in explain explore states files check judge shrink page resolve mount mountctl crash-run build completion help version; do
+    for command in explain explore states diagnose files check judge shrink page resolve mount mountctl crash-run build completion help version; do
         ok "it has $command" grep -q "^       $command\( \|\$\)" "$work/page"
     done
 else

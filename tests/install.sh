@@ -52,6 +52,7 @@ share/bash-completion/completions/blobcrash
 share/blobcrash/tools/check
 share/blobcrash/tools/commands.txt
 share/blobcrash/tools/crash_page
+share/blobcrash/tools/diagnose
 share/blobcrash/tools/door.sh
 share/blobcrash/tools/judge
 share/blobcrash/tools/shrink

@@ -22,6 +22,7 @@ static int file = -1;
 static int failure;      /* the number of errno for which the record stopped */
 static bool reads_draw;  /* since a setting gave reads a rate */
 static uint64_t written; /* bytes of the file */
+static pid_t process, noted; /* the one that makes the calls, and the last one that the record names; 0 if none is known */
 static char *buffer, *end;
 
 const char *record_state(void) { return file >= 0 ? "on" : failure ? "failed" : "off"; }
@@ -70,6 +71,26 @@ static void stop_before(int error) {
     if (file >= 0) fail(error);
 }
 
+static void end_line(void) {
+    *end++ = '\n';
+    if (end - buffer >= FLUSH_AT) flush();
+}
+
+/* Puts the number and the name of a process, if its calls begin here. The name is read each time, since a process may run another program. */
+static void put_process(void) {
+    char path[32], name[32];
+    if (process == noted) return;
+    noted = process;
+    snprintf(path, sizeof path, "/proc/%d/comm", (int)process);
+    int opened = open(path, O_RDONLY | O_CLOEXEC);
+    ssize_t len = opened < 0 ? 0 : read(opened, name, sizeof name);
+    if (opened >= 0) close(opened);
+    end += sprintf(end, "# process %d ", (int)process);
+    for (ssize_t at = 0; at < len && name[at] != '\n'; at++) *end++ = name[at] > ' ' && name[at] <= '~' ? name[at] : '?';
+    if (len <= 0) *end++ = '?';
+    end_line();
+}
+
 /* Returns whether a line of at most so many bytes can be put. A replay may have the memory that a call didn't have. */
 static bool begin_line(size_t most, uint32_t status) {
     if (file < 0)
@@ -78,12 +99,9 @@ static bool begin_line(size_t most, uint32_t status) {
         stop_before(ENOMEM);
     else if (most > LINE_MOST)
         stop_before(EMSGSIZE);
+    else
+        put_process();
     return file >= 0;
-}
-
-static void end_line(void) {
-    *end++ = '\n';
-    if (end - buffer >= FLUSH_AT) flush();
 }
 
 /* Puts the line of a call that returned this status. */
@@ -121,6 +139,8 @@ void record_note(const char *text) {
     put_text(text);
     end_line();
 }
+
+void record_process(pid_t number) { process = number; }
 
 void record_write(uint64_t descriptor, uint64_t offset, const void *bytes, size_t len, uint32_t status) {
     struct blobcrash_file_call call = {.kind = BLOBCRASH_F_WRITE, .number = descriptor, .first = offset};

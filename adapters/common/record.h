@@ -9,6 +9,7 @@
 #include "blobcrash_files.h"
 
 #include <stdbool.h>
+#include <sys/types.h>
 
 #ifdef __cplusplus
 extern "C" {
@@ -34,6 +35,8 @@ void record_call(const struct blobcrash_file_call *call, const char *path, const
 void record_setting(const char *setting);
 /* Adds a comment to the record, if there is one. It is no change. The text is UTF-8 without a line feed: else no replay reads it. */
 void record_note(const char *text);
+/* Says which process makes the calls from here on. When the calls of another one begin, the record gets a comment with its number and name. */
+void record_process(pid_t number);
 void record_write(uint64_t descriptor, uint64_t offset, const void *bytes, size_t len, uint32_t status);
 void record_read(uint64_t descriptor, uint64_t offset, size_t len, uint32_t status);
 

@@ -3,6 +3,7 @@
 
 #include "layer.h"
 #include "power.h"
+#include "record.h"
 
 #include <errno.h>
 #include <string.h>
@@ -34,6 +35,7 @@ static void count_change(enum call_kind kind) {
 
 struct node *call_begin(fuse_req_t req, fuse_ino_t id, enum call_kind kind) {
     power.calls++;
+    record_process(fuse_req_ctx(req)->pid);
     struct node *node = power.is_ending ? NULL : call_node(id);
     if (!node) {
         if (!power.is_ending) power.stale_calls++;

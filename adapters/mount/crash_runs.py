@@ -85,6 +85,8 @@ class Run:
                             "ACKNOWLEDGED": os.path.join(self.folder, "acknowledged")}
         with open(self.environment["ACKNOWLEDGED"], "wb"):
             pass
+        # How many bytes of that file the record has, as comments.
+        self.noted = 0
 
     def command(self, name):
         """Runs a command, until it ends or the power goes off. Returns its status, or None: the power is off, or `too slow`."""
@@ -98,12 +100,28 @@ class Run:
         until = time.monotonic() + self.options.timeout
         while True:
             try:
-                return process.wait(0.004)
+                status = process.wait(0.004)
+                self.note_acknowledged()
+                return status
             except subprocess.TimeoutExpired:
+                self.note_acknowledged()
                 if self.mount.control.is_off():
                     return None
                 if time.monotonic() > until:
                     return "too slow"
+
+    def note_acknowledged(self):
+        """Adds what was acknowledged meanwhile to the record, for `blobcrash diagnose`. It may come after calls that followed it."""
+        if self.options.no_record or self.crashes:
+            return
+        with open(self.environment["ACKNOWLEDGED"], "rb") as file:
+            file.seek(self.noted)
+            lines = file.read().splitlines(keepends=True)
+        for line in lines:
+            if line.endswith(b"\n"):
+                self.noted += len(line)
+                with contextlib.suppress(Failed, UnicodeDecodeError):
+                    self.mount.ask(f"note acknowledged {line[:-1].decode()}")
 
     def prepare(self):
         """Makes what is durable before the program starts."""
@@ -131,6 +149,7 @@ class Run:
         """Kills what runs, and crashes."""
         self.mount.ask("off")
         kill_started(self.mount.daemon.pid, 0.2)
+        self.note_acknowledged()
         self.mount.ask("crash")
         if not kill_started(self.mount.daemon.pid, 20):
             raise Broken("a process can't be killed")

@@ -19,6 +19,7 @@ a third of the seeds the power goes off in that recovery too.
   --timeout SECONDS  how long a command may take (60)
   --out FOLDER       where failures are kept (out/crash_run)
   --no-record        doesn't record the runs
+  --diagnose         names the sync that the first failing seed lacks, by `blobcrash diagnose`; not with --start
   --json             prints JSON, an object a line: one for each failure, and one at the end
   --profile, --tear, --keep, --size, --allow-other   as for tools/mount
 
@@ -48,6 +49,7 @@ from mounting import Failed
 TOP = os.path.dirname(os.path.dirname(os.path.dirname(os.path.realpath(__file__))))
 # Where failures are kept: an installed tool keeps them in the current folder.
 KEPT = os.path.join(TOP if os.path.isdir(os.path.join(TOP, "crates")) else os.getcwd(), "out", "crash_run")
+DIAGNOSE = os.path.join(TOP, "tools", "diagnose")
 TOOL = os.path.join(TOP, "tools", "crash_run")
 PROGRAM = shlex.quote(os.path.join(TOP, "blobcrash")) if os.path.isdir(os.path.join(TOP, "crates")) else "blobcrash"
 SET_CHILD_SUBREAPER = 36
@@ -67,6 +69,7 @@ def parse(words):
     parser.add_argument("--fault", action="append", default=[])
     parser.add_argument("--no-record", action="store_true")
     parser.add_argument("--json", action="store_true")
+    parser.add_argument("--diagnose", action="store_true")
     for name in ("prepare", "start", *MOUNT_OPTIONS):
         parser.add_argument("--" + name)
     for name in ("work", "check"):
@@ -75,6 +78,8 @@ def parse(words):
     options = parser.parse_args(words)
     if options.seeds < 1 or options.first < 0 or options.jobs < 1 or (options.stop_after is not None and options.stop_after < 1):
         parser.error("--seeds, --jobs and --stop-after are at least 1, and --first at least 0")
+    if options.diagnose and (options.start or options.no_record):
+        parser.error("--diagnose needs a record, and a check without --start")
     return options
 
 
@@ -83,6 +88,8 @@ def of_seed(words, seed, calls):
     kept, skips = [], False
     for word in words:
         name = word.split("=")[0]
+        if word == "--diagnose":
+            continue
         if skips or name in ("--seeds", "--first", "--stop-after", "--jobs"):
             skips = not skips and "=" not in word
         else:
@@ -185,6 +192,7 @@ class Totals:
         self.counts = dict.fromkeys(VERDICTS, 0)
         self.crashes = self.acknowledged = 0
         self.calls = options.stop_after
+        self.is_diagnosed = not options.diagnose
 
     def __str__(self):
         number = sum(self.counts.values())
@@ -203,6 +211,10 @@ class Totals:
             if result["kept"]:
                 self.progress.clear()
                 (self.print_json if options.json else self.print_failure)(seed, result)
+                if not self.is_diagnosed:
+                    self.is_diagnosed = True
+                    json_too = ["--json"] if options.json else []
+                    subprocess.run([DIAGNOSE, *json_too, *self.diagnosed(seed, result)], stdin=subprocess.DEVNULL, check=False)
             self.progress.show(self.__str__)
 
     def again(self, seed):
@@ -210,14 +222,22 @@ class Totals:
         tool = os.path.relpath(TOOL) if os.path.samefile(TOP, ".") else TOOL
         return shlex.join([tool, *of_seed(self.words, seed, self.calls)])
 
+    def diagnosed(self, seed, result):
+        """Returns the words by which `blobcrash diagnose` checks what is in STATE as on the mount."""
+        check = f"MOUNT=$STATE SEED={seed}; export MOUNT SEED; {self.options.check}"
+        out = os.path.join(result["kept"], "diagnosis")
+        return ["--out", out, os.path.join(result["kept"], "run.script"), "--", "sh", "-c", check]
+
     def print_failure(self, seed, result):
-        """Prints a failure, with the commands that replay and repeat it."""
+        """Prints a failure, with the commands that replay, diagnose and repeat it."""
         print(f"seed {seed}: {result['verdict']}{result['tail']}", flush=True)
         if os.path.exists(os.path.join(result["kept"], "tree")):
             print(f"  the durable tree: {result['kept']}/tree", flush=True)
         script = os.path.join(result["kept"], "run.script")
         if os.path.exists(script):
             print(f"  replay: (cat {shlex.quote(script)}; echo tree) | {PROGRAM} files | tail -n 1", flush=True)
+            if not self.options.start:
+                print(f"  diagnose: {PROGRAM} diagnose {shlex.join(self.diagnosed(seed, result))}", flush=True)
         print(f"  again: {self.again(seed)}", flush=True)
 
     def print_json(self, seed, result):

@@ -143,7 +143,7 @@ class Crashes:
                     for event in events:
                         self.apply(event)
                     numbers = []
-                elif numbers:
+                elif numbers and not note.startswith("process "):
                     events.append(note)
                 continue
             if word == b"write":

@@ -14,6 +14,8 @@ from .power import PowerLoss
 # A longer script is cut in the middle: `script` has all of it. So is a path with more characters.
 _MOST_LINES = 80
 _MOST_CHARACTERS = 2000
+_CALLS = "its calls:"
+_DIAGNOSES = "as a file, with a command CHECK that looks at what is in $STATE: `blobcrash diagnose FILE -- CHECK` names the missing sync"
 _Search = TypeVar("_Search", bound=Callable[..., Any])
 
 
@@ -32,8 +34,9 @@ class Failed(AssertionError):
         self.path, self.script, self.reason, self.run, self.stopped = path, script, reason, run, stopped
         self.profiles = profiles or {}
         lines = [f"run {run} failed: {reason}", *_of_profiles(self.profiles), *([stopped] if stopped else []), *_named(path)]
-        heading = "its calls:" if _is_of_files(script) else "its script, to explain with `blobcrash explain`:"
-        super().__init__("\n".join([*lines, heading, *_shown(script)]))
+        heading = _CALLS if _is_of_files(script) else "its script, to explain with `blobcrash explain`:"
+        told = [_DIAGNOSES] if _is_of_files(script) else []
+        super().__init__("\n".join([*lines, heading, *_shown(script), *told]))
         self.cause: Optional[BaseException] = None
 
     @classmethod

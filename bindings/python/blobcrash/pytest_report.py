@@ -42,7 +42,7 @@ def show(item: Any, call: Any, fixture: str, store: Any, arguments: Dict[str, An
         script = smaller.script
         lines.append(_written(item, ".short.script", script, f"a smaller run that fails, of {_calls(script)} calls"))
     if isinstance(store, SeededFiles):
-        return lines
+        return [*lines, "which sync is missing: `blobcrash diagnose SCRIPT -- CHECK`, with a command CHECK that looks at what is in $STATE"]
     if item.config.getoption("--blobcrash-report") is not None:
         lines.append(_page(item, store.script, reason))
     return lines + _picture(script)

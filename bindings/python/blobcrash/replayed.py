@@ -2,7 +2,7 @@
 
 from __future__ import annotations
 
-from typing import Any, List, Tuple
+from typing import Any, Dict, List, Tuple
 
 from .calls import Line
 from .errors import NotMade
@@ -35,15 +35,20 @@ class ReplayedStore:
         """Whether a line may change what a crash leaves."""
         return line.split()[0] in CHANGES
 
-    def call(self, line: str) -> None:
-        """Makes the call of a line, which may be refused as it was."""
-        self._session.call(line.encode())
+    def call(self, line: str) -> Any:
+        """Makes the call of a line, which may be refused as it was. Returns the reply."""
+        reply = self._session.call(line.encode())
         self._calls.append(Line.of(line))
+        return reply
 
-    def crash(self, words: List[int]) -> None:
-        """Crashes by these words."""
+    def push_words(self, words: List[int]) -> None:
+        """Inserts words before those that are left."""
         self._session.push_words(words)
-        self.call("crash")
+
+    def crash(self, words: List[int]) -> Any:
+        """Crashes by these words. Returns the reply."""
+        self.push_words(words)
+        return self.call("crash")
 
     def content(self) -> Content:
         """What is durable."""
@@ -66,24 +71,42 @@ class ReplayedFiles:
         word = file_line(line).word
         return word != "configure" and changes_files(word)
 
-    def call(self, line: str) -> None:
-        """Makes the call of a line, which may be refused as it was."""
-        asked = file_line(line)
-        if not asked.is_by_path:
-            self._apply(asked)
-            return
-        opened = self._apply(FileCall("open", path=asked.to))
-        if isinstance(opened, Found):
-            self._apply(asked._replace(number=opened.number, to=b""))
-            self._apply(FileCall("close", opened.number))
+    def call(self, line: str) -> Any:
+        """Makes the call of a line, which may be refused as it was. Returns the reply."""
+        return self.make(file_line(line))
 
-    def crash(self, words: List[int]) -> None:
-        """Crashes by these words."""
+    def make(self, asked: FileCall) -> Any:
+        """Makes a call. Returns the reply, of a file by its path that of the call or the refusal of the open."""
+        if not asked.is_by_path:
+            return self._apply(asked)
+        opened = self._apply(FileCall("open", path=asked.to))
+        if not isinstance(opened, Found):
+            return opened
+        reply = self._apply(asked._replace(number=opened.number, to=b""))
+        self._apply(FileCall("close", opened.number))
+        return reply
+
+    def push_words(self, words: List[int]) -> None:
+        """Inserts words before those that are left."""
         try:
             self._files.push_words(words)
         except NotMade:
             raise NotMadeAgain from None
-        self._apply(FileCall("crash"))
+
+    def crash(self, words: List[int]) -> Any:
+        """Crashes by these words. Returns the reply."""
+        self.push_words(words)
+        return self._apply(FileCall("crash"))
+
+    def inode_at(self, descriptor: int) -> int:
+        """Returns the inode of an open file, or 0."""
+        return self._files.inode_at(descriptor)
+
+    def names(self) -> Dict[bytes, int]:
+        """Returns the inode of each path that calls see, the root's too."""
+        found = {b"/": 1}
+        self._list(1, b"", found)
+        return found
 
     def content(self) -> Content:
         """The paths that the root reaches, after a crash."""
@@ -94,6 +117,13 @@ class ReplayedFiles:
 
     def close(self) -> None:
         self._files.close()
+
+    def _list(self, directory: int, above: bytes, found: Dict[bytes, int]) -> None:
+        for name in self._apply(FileCall("listdir_at", directory)):
+            entry = self._apply(FileCall("find_at", directory, path=name))
+            found[above + b"/" + name] = entry.number
+            if entry.kind == IS_DIRECTORY:
+                self._list(entry.number, above + b"/" + name, found)
 
     def _walk(self, directory: int, above: bytes, found: List[Tuple[Any, ...]]) -> None:
         for name in self._apply(FileCall("listdir_at", directory)):

@@ -154,7 +154,7 @@ class CrashStates:
     def _printed(self, crash: _Crash, line: int) -> Iterator[Tuple[str, Content]]:
         """The script and the content of each state that the program prints. It counts the other outcomes."""
         parts = self._parts
-        given = [f"words {_shown(parts.words)}"] if parts.words else []
+        given = [f"words {shown_words(parts.words)}"] if parts.words else []
         seed = [] if parts.seed is None else [f"seed {parts.seed}"]
         script = "".join(f"{text}\n" for text in [*parts.images, *given, *seed, *self._lines])
         calls = sum(not text.startswith("#") for text in self._lines[:line])
@@ -270,7 +270,7 @@ class _Crash:
         return self._words[: used or 0]
 
     def script(self, words: List[int]) -> str:
-        lines = [*self._of._parts.images, *([f"words {_shown(words)}"] if words else []), *self._of._lines[: self._line], "crash"]
+        lines = [*self._of._parts.images, *([f"words {shown_words(words)}"] if words else []), *self._of._lines[: self._line], "crash"]
         return "".join(f"{line}\n" for line in lines)
 
 
@@ -279,7 +279,8 @@ def _words_in(printed: str) -> List[int]:
     return [MAX if word == "max" else int(word) for word in printed.split(", ")[1].split() if word not in ("no", "words")]
 
 
-def _shown(words: List[int]) -> str:
+def shown_words(words: List[int]) -> str:
+    """The words as a line of a script has them."""
     return " ".join("max" if word == MAX else str(word) for word in words)
 
 

@@ -39,11 +39,11 @@ from .progress import Progress
 from .states import CrashState, CrashStates
 
 # A folder in memory, if there is one.
-_IN_MEMORY = "/dev/shm"
+IN_MEMORY = "/dev/shm"
 
 
-def check_state(state: CrashState, command: List[str], folder: str) -> int:
-    """Writes a state below a folder and runs the command. Returns its status."""
+def written(state: CrashState, folder: str) -> Dict[str, str]:
+    """Writes a state below a folder. Returns the environment of its check."""
     places = {name: os.path.join(folder, name.lower()) for name in ("STATE", "SCRIPT", "ACKNOWLEDGED")}
     os.makedirs(places["STATE"])
     state.write_to(places["STATE"])
@@ -51,7 +51,12 @@ def check_state(state: CrashState, command: List[str], folder: str) -> int:
         file.write(state.script)
     with open(places["ACKNOWLEDGED"], "w", encoding="utf-8") as file:
         file.write("".join(f"{text}\n" for text in state.acknowledged))
-    return subprocess.run(command, env={**os.environ, **places}, stdin=subprocess.DEVNULL, check=False).returncode
+    return {**os.environ, **places}
+
+
+def check_state(state: CrashState, command: List[str], folder: str) -> int:
+    """Writes a state below a folder and runs the command. Returns its status."""
+    return subprocess.run(command, env=written(state, folder), stdin=subprocess.DEVNULL, check=False).returncode
 
 
 class _Checks:
@@ -144,7 +149,7 @@ def states_command(arguments: List[str]) -> int:
 def _run(script: str, options: argparse.Namespace, command: List[str]) -> int:
     of = {"files": options.files, "at": options.at, "limit": options.limit, "whole": options.whole, "proved": options.proved}
     states, progress = CrashStates(script, since=options.since, **of), Progress("states")
-    with tempfile.TemporaryDirectory(dir=_IN_MEMORY if os.path.isdir(_IN_MEMORY) else None) as work:
+    with tempfile.TemporaryDirectory(dir=IN_MEMORY if os.path.isdir(IN_MEMORY) else None) as work:
         checks = _Checks(command, options, work, progress)
 
         def so_far() -> str:

@@ -1,0 +1,160 @@
+"""What a crash draws for: unsynced writes and edits, and the outcomes of these draws in the order of their losses."""
+
+from __future__ import annotations
+
+from itertools import combinations
+from typing import Any, Dict, Iterator, List, NamedTuple, Optional, Sequence, Set, Tuple
+
+from .file_calls import Kept
+from .grammar import MAX
+
+# Of each unit which of its draws lose, as the bits of a number.
+Lost = Tuple[int, ...]
+# A unit by the line that made it, and which one of that line it is.
+Key = Tuple[int, int]
+
+
+class Row(NamedTuple):
+    """What a crash kept of a write or an edit: a digit for each byte. An edit has neither an inode nor an offset."""
+
+    write: int
+    kept: str
+    inode: Optional[int]
+    offset: Optional[int]
+
+
+class Unit(NamedTuple):
+    """An unsynced write, or an edit that nothing settled, with the number of draws of a crash for it."""
+
+    key: Key
+    is_edit: bool
+    draws: int
+    is_prefix: bool
+    inode: Optional[int]
+    offset: int
+    length: int
+
+    @property
+    def line(self) -> int:
+        return self.key[0]
+
+    @property
+    def all(self) -> int:
+        """All draws."""
+        return (1 << self.draws) - 1
+
+    def words(self, lost: int) -> List[int]:
+        """The words by which a crash loses these draws."""
+        if self.is_prefix and lost:
+            return [0] * _first(lost) + [MAX]
+        return [MAX if lost >> at & 1 else 0 for at in range(self.draws)]
+
+
+def rows_of(reply: Any) -> List[Row]:
+    """The rows of the reply to a crash."""
+    if isinstance(reply, Kept):
+        pairs = zip(reply.writes, reply.places)
+        return [Row(write, kept, inode, None if inode is None else at) for (write, kept), (inode, at) in pairs]
+    pairs = [row.split(":") for row in reply.decode().split(" ")[1:]]
+    return [Row(int(write), kept, None, None) for write, kept in pairs]
+
+
+def unit_of(row: Row, key: Key, is_files: bool, mode: Sequence[str], text: str) -> Unit:
+    """The unit of a row. `text` is the line that made it, `mode` that of its writes."""
+    length = len(row.kept)
+    if is_files and row.inode is None:
+        return Unit(key, True, 1, False, None, 0, length)
+    offset = row.offset if row.offset is not None else int(text.split()[2])
+    if mode[0] == "sectors":
+        size = int(mode[1])
+        return Unit(key, False, (offset + length - 1) // size - offset // size + 1, False, row.inode, offset, length)
+    return Unit(key, False, length, mode[0] == "prefix", row.inode, offset, length)
+
+
+def words_of_outcome(units: Sequence[Unit], lost: Lost) -> List[int]:
+    """The words by which a crash loses this."""
+    return [word for unit, bits in zip(units, lost) for word in unit.words(bits)]
+
+
+def canonical(units: Sequence[Unit], lost: Lost, is_ordered: bool) -> Lost:
+    """The same outcome with all that is lost with it: of a write in the mode `prefix` the rest, and with `is_ordered` each later edit."""
+    found, is_after = [], False
+    for unit, bits in zip(units, lost):
+        if unit.is_edit and is_ordered:
+            is_after = is_after or bits != 0
+            bits = 1 if is_after else 0
+        elif unit.is_prefix and bits:
+            bits = unit.all & ~((1 << _first(bits)) - 1)
+        found.append(bits)
+    return tuple(found)
+
+
+def outcomes(units: Sequence[Unit], is_ordered: bool, limit: Optional[int]) -> Iterator[Lost]:
+    """Yields outcomes, each once, at most `limit`: none lost; each unit lost alone; all lost; each kept alone; each draw of a write lost
+    alone, and kept alone; then more and more units lost, and then draws."""
+    seen: Set[Lost] = set()
+    for lost in _in_order(units):
+        lost = canonical(units, lost, is_ordered)
+        if lost not in seen:
+            if limit is not None and len(seen) >= limit:
+                return
+            seen.add(lost)
+            yield lost
+
+
+def count_outcomes(units: Sequence[Unit], is_ordered: bool) -> int:
+    """How many outcomes there are."""
+    edits = sum(unit.is_edit for unit in units)
+    count = edits + 1 if is_ordered else 1 << edits
+    for unit in units:
+        if not unit.is_edit:
+            count *= unit.draws + 1 if unit.is_prefix else 1 << unit.draws
+    return count
+
+
+def _in_order(units: Sequence[Unit]) -> Iterator[Lost]:
+    none, every = [0] * len(units), [unit.all for unit in units]
+
+    def changed(base: List[int], change: Dict[int, int]) -> Lost:
+        return tuple(change.get(at, bits) for at, bits in enumerate(base))
+
+    yield tuple(none)
+    for at, unit in enumerate(units):
+        yield changed(none, {at: unit.all})
+    yield tuple(every)
+    for at in range(len(units)):
+        yield changed(every, {at: 0})
+    for at, unit in enumerate(units):
+        for draw in range(unit.draws if unit.draws > 1 else 0):
+            yield changed(none, {at: 1 << draw})
+            yield changed(none, {at: unit.all & ~(1 << draw)})
+    for count in range(2, len(units)):
+        for chosen in combinations(range(len(units)), count):
+            yield changed(none, {at: units[at].all for at in chosen})
+    draws = [(at, draw) for at, unit in enumerate(units) for draw in range(unit.draws)]
+    if len(draws) == len(units):
+        return
+    for count in range(1, len(draws)):
+        for chosen_draws in combinations(draws, count):
+            change: Dict[int, int] = {}
+            for at, draw in chosen_draws:
+                change[at] = change.get(at, 0) | 1 << draw
+            yield changed(none, change)
+
+
+def _first(bits: int) -> int:
+    """The first of some draws."""
+    return (bits & -bits).bit_length() - 1
+
+
+def runs(digits: str, wanted: str, offset: int) -> List[Tuple[int, int]]:
+    """The runs of a digit in a row, as the first byte and the one after the last."""
+    found, at = [], 0
+    while at < len(digits):
+        end = at
+        while end < len(digits) and digits[end] == digits[at]:
+            end += 1
+        if digits[at] == wanted:
+            found.append((offset + at, offset + end))
+        at = end
+    return found
