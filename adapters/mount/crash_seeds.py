@@ -1,36 +1,5 @@
-"""
-tools/crash_run --work CMD --check CMD [options]: crashes a program on a mount, once or twice for each seed, and checks what is left.
+"""tools/crash_run: takes a program through the seeds, each in a process of its own. crash_options.py has the options."""
 
-For each seed: a new mount; CMD of --prepare, after which everything is durable; CMD of --start, then CMD of --work, until the power
-goes off after a call that the seed draws. What runs is killed, the layer crashes, and the program is started again and checked. In
-a third of the seeds the power goes off in that recovery too.
-
-  --seeds N          how many seeds (20)
-  --first N          the first of them (1)
-  --jobs N           how many of them run at once (1)
-  --prepare CMD      makes what is durable before the program starts
-  --from FOLDER      copies a folder in before that
-  --start CMD        starts the program, and returns when it serves; not needed if the other commands do that
-  --work CMD         the workload. It acknowledges by lines in the file $ACKNOWLEDGED, which is outside the mount
-  --check CMD        exits with 0 if all that was acknowledged is found, 2 if what is found is damaged, otherwise with 1
-  --fault SETTING    faults from the start of the program until the first crash, such as 'config sync 1 12', one sync of 12 fails;
-                     any setting of tools/mountctl. May be repeated
-  --stop-after N     the power goes off after one of the first N changing calls (as many as a run without a crash makes)
-  --timeout SECONDS  how long a command may take (60)
-  --out FOLDER       where failures are kept (out/crash_run)
-  --no-record        doesn't record the runs
-  --json             prints JSON, an object a line: one for each failure, and one at the end
-  --profile, --tear, --keep, --size, --allow-other   as for tools/mount
-
-A command is run by sh in this folder, with MOUNT, the folder of the mount, ACKNOWLEDGED and SEED in the environment.
-Exit statuses: 0 if nothing failed; 1 if a seed failed; 2 for bad options, if the check fails without a crash, or if the start and the
-workload change nothing; 3 without FUSE; 130 after Ctrl-C, with the counts so far. A terminal shows how far it is.
-
-From Python: `main(words, executor)` of this module with the words of a command line and an executor of `concurrent.futures`, which may
-be that of a cluster: each seed is a process of its own on one of its workers. The repository has the same path on each of them.
-"""
-
-import argparse
 import ctypes
 import itertools
 import json
@@ -41,53 +10,16 @@ import sys
 import threading
 from concurrent.futures import ThreadPoolExecutor
 
+import crash_options
 import interrupts
-from crash_runs import MOUNT_OPTIONS, VERDICTS, Broken, judge, measure
-from mounting import Failed
+from crash_options import TOP, of_seed, parse
+from crash_points import Points
+from crash_runs import FINE, VERDICTS, judge, measure
+from mounting import Broken, Failed
 
-TOP = os.path.dirname(os.path.dirname(os.path.dirname(os.path.realpath(__file__))))
-# Where failures are kept: an installed tool keeps them in the current folder.
-KEPT = os.path.join(TOP if os.path.isdir(os.path.join(TOP, "crates")) else os.getcwd(), "out", "crash_run")
 TOOL = os.path.join(TOP, "tools", "crash_run")
 PROGRAM = shlex.quote(os.path.join(TOP, "blobcrash")) if os.path.isdir(os.path.join(TOP, "crates")) else "blobcrash"
 SET_CHILD_SUBREAPER = 36
-
-
-def parse(words):
-    """Returns the options."""
-    parser = argparse.ArgumentParser(prog="crash_run", usage=__doc__.strip(), add_help=False, allow_abbrev=False)
-    parser.add_argument("--seeds", type=int, default=20)
-    parser.add_argument("--first", type=int, default=1)
-    parser.add_argument("--from", dest="from_folder")
-    parser.add_argument("--jobs", type=int, default=1)
-    parser.add_argument("--stop-after", type=int)
-    parser.add_argument("--timeout", type=float, default=60)
-    parser.add_argument("--out", default=KEPT)
-    parser.add_argument("--allow-other", action="store_true")
-    parser.add_argument("--fault", action="append", default=[])
-    parser.add_argument("--no-record", action="store_true")
-    parser.add_argument("--json", action="store_true")
-    for name in ("prepare", "start", *MOUNT_OPTIONS):
-        parser.add_argument("--" + name)
-    for name in ("work", "check"):
-        parser.add_argument("--" + name, required=True)
-    parser.add_argument("--one", choices=("measure", "judge"), help=argparse.SUPPRESS)  # by a worker: one seed, with a line of JSON
-    options = parser.parse_args(words)
-    if options.seeds < 1 or options.first < 0 or options.jobs < 1 or (options.stop_after is not None and options.stop_after < 1):
-        parser.error("--seeds, --jobs and --stop-after are at least 1, and --first at least 0")
-    return options
-
-
-def of_seed(words, seed, calls):
-    """Returns the words of a command line for one seed."""
-    kept, skips = [], False
-    for word in words:
-        name = word.split("=")[0]
-        if skips or name in ("--seeds", "--first", "--stop-after", "--jobs"):
-            skips = not skips and "=" not in word
-        else:
-            kept.append(word)
-    return ["--first", str(seed), "--seeds", "1", *([] if calls is None else ["--stop-after", str(calls)]), *kept]
 
 
 def run_one(options):
@@ -95,7 +27,7 @@ def run_one(options):
     ctypes.CDLL(None).prctl(SET_CHILD_SUBREAPER, 1, 0, 0, 0)  # the parent of all orphans that come from it
     try:
         built = program()
-        result = {"calls": measure(options, built)} if options.one == "measure" else judge(options, built, options.stop_after)
+        result = (measure if options.one == "measure" else judge)(options, built)
     except (Broken, Failed) as error:
         result = {"error": str(error)}
     except KeyboardInterrupt:
@@ -168,12 +100,12 @@ def result_of(task):
     return result
 
 
-def judge_all(executor, words, seeds, calls, at_once):
+def judge_all(executor, words, seeds, points, at_once):
     """Yields each seed with its result, in order. At most so many are under way or wait for their turn."""
     waiting, tasks = iter(seeds), {}
     for seed in seeds:
         for next_one in itertools.islice(waiting, max(0, at_once - len(tasks))):
-            tasks[next_one] = start(executor, of_seed(words, next_one, calls), "judge")
+            tasks[next_one] = start(executor, of_seed(words, next_one, points.words(next_one)), "judge")
         yield seed, result_of(tasks.pop(seed))
 
 
@@ -184,19 +116,24 @@ class Totals:
         self.options, self.words, self.progress = options, words, progress
         self.counts = dict.fromkeys(VERDICTS, 0)
         self.crashes = self.acknowledged = 0
-        self.calls = options.stop_after
+        self.points = None
 
     def __str__(self):
-        number = sum(self.counts.values())
-        return f"{number} of {self.options.seeds} seeds, {number - self.counts['held']} failed"
+        return f"{sum(self.counts.values())} of {self.options.seeds} seeds, {self.failed} failed"
+
+    @property
+    def failed(self):
+        """How many failed."""
+        return sum(count for verdict, count in self.counts.items() if verdict not in FINE)
 
     def run(self, executor, at_once):
-        """Runs the seeds."""
+        """Runs without a crash, and then the seeds."""
         options = self.options
-        if self.calls is None:
-            self.calls = result_of(start(executor, of_seed(self.words, options.first, None), "measure"))["calls"]
+        points = [word for name in ("stop_after", "from_call", "after_acknowledgement") if getattr(options, name) is not None
+                  for word in ("--" + name.replace("_", "-"), str(getattr(options, name)))]
+        self.points = Points(options, result_of(start(executor, of_seed(self.words, options.first, points), "measure")))
         seeds = range(options.first, options.first + options.seeds)
-        for seed, result in judge_all(executor, self.words, seeds, self.calls, at_once):
+        for seed, result in judge_all(executor, self.words, seeds, self.points, at_once):
             self.counts[result["verdict"]] += 1
             self.crashes += result["crashes"]
             self.acknowledged += result["acknowledged"]
@@ -208,7 +145,15 @@ class Totals:
     def again(self, seed):
         """Returns the command that runs a seed again."""
         tool = os.path.relpath(TOOL) if os.path.samefile(TOP, ".") else TOOL
-        return shlex.join([tool, *of_seed(self.words, seed, self.calls)])
+        return shlex.join([tool, *of_seed(self.words, seed, self.points.words(seed))])
+
+    def status(self):
+        """Returns the exit status. If no acknowledgement was tested, says so."""
+        if self.counts["untested"] == self.options.seeds:
+            why = "a seed" if self.points.acknowledges else "--work, which writes nothing to $ACKNOWLEDGED"
+            print(f"crash_run: no acknowledgement was tested by {why}", file=sys.stderr)
+            return 2 if self.points.acknowledges else 0
+        return int(self.failed > 0)
 
     def print_failure(self, seed, result):
         """Prints a failure, with the commands that replay and repeat it."""
@@ -227,7 +172,7 @@ class Totals:
     def print_totals(self):
         """Prints the table of all seeds, or an object."""
         options = self.options
-        row = {"profile": options.profile or "ext4", "seeds": options.seeds, "calls": self.calls, "crashes": self.crashes,
+        row = {"profile": options.profile or "ext4", "seeds": options.seeds, "calls": options.stop_after or self.points.calls, "crashes": self.crashes,
                "acknowledged": self.acknowledged, **self.counts}
         if options.json:
             print(json.dumps(row))
@@ -247,7 +192,7 @@ def progress_line():
 def main(words, executor=None):
     """Runs all. Returns the exit status."""
     if words in (["--help"], ["-h"]):
-        print(__doc__.strip())
+        print(crash_options.__doc__.strip())
         return 0
     options = parse(words)
     interrupts.install()
@@ -273,4 +218,4 @@ def main(words, executor=None):
             own.end()
             own.shutdown()
     totals.print_totals()
-    return int(totals.counts["held"] != options.seeds)
+    return totals.status()

@@ -43,6 +43,10 @@ def socket_of(directory):
     return os.path.join(socket_folder(), name + ".socket")
 
 
+class Broken(Exception):
+    """The commands fail without a crash, or there is no mount."""
+
+
 class Control:
     """A connection to a daemon."""
 

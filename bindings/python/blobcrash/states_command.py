@@ -6,7 +6,8 @@ once, CHECK is run: it exits with 0 if all is well. `docs/GUIDE.md` has an examp
 
   --files        SCRIPT is a script of files
   --at LINE      only a crash after this line, of those that aren't empty, `words` or `seed`
-  --since LINE   only crashes after this line and later ones, to go on after an interruption
+  --from LINE    only crashes after this line and later ones. Of files without it: from the last `settle` on; --from 0 is all of them
+  --since LINE   the same, to go on after an interruption
   --limit N      at most N outcomes of each crash: first none lost, each single loss, all lost, each single draw kept
   --whole        each write is kept or lost as a whole
   --proved       the states are those that `blobcrash states` prints: of a store, and without --limit
@@ -36,6 +37,7 @@ from typing import Dict, List, Set
 from .as_json import line_of_json
 from .errors import LibraryMissing
 from .progress import Progress
+from .recorded import split_script
 from .states import CrashState, CrashStates
 
 # A folder in memory, if there is one.
@@ -120,8 +122,9 @@ def states_command(arguments: List[str]) -> int:
     own, command = arguments[:at], arguments[at + 1 :]
     for name in ("--files", "--whole", "--proved", "--json"):
         parser.add_argument(name, action="store_true", help=argparse.SUPPRESS)
-    for name, default in (("--at", None), ("--since", 0), ("--limit", None), ("--jobs", 1)):
+    for name, default in (("--at", None), ("--limit", None), ("--jobs", 1)):
         parser.add_argument(name, type=int, default=default, help=argparse.SUPPRESS)
+    parser.add_argument("--from", "--since", dest="since", type=int, help=argparse.SUPPRESS)
     parser.add_argument("--out", default=os.path.join("out", "states"), help=argparse.SUPPRESS)
     parser.add_argument("script", help=argparse.SUPPRESS)
     options = parser.parse_args(own)
@@ -141,9 +144,17 @@ def states_command(arguments: List[str]) -> int:
         return 3
 
 
+def first_place(script: str, options: argparse.Namespace) -> int:
+    """The line from which on crashes are tried if none is named: of files that of the last `settle`, since all before it is durable."""
+    if not options.files or options.at is not None:
+        return 0
+    return max((number for number, line in enumerate(split_script(script).rest, 1) if line == "settle"), default=0)
+
+
 def _run(script: str, options: argparse.Namespace, command: List[str]) -> int:
     of = {"files": options.files, "at": options.at, "limit": options.limit, "whole": options.whole, "proved": options.proved}
-    states, progress = CrashStates(script, since=options.since, **of), Progress("states")
+    since = first_place(script, options) if options.since is None else options.since
+    states, progress = CrashStates(script, since=since, **of), Progress("states")
     with tempfile.TemporaryDirectory(dir=_IN_MEMORY if os.path.isdir(_IN_MEMORY) else None) as work:
         checks = _Checks(command, options, work, progress)
 

@@ -1,0 +1,105 @@
+"""
+Tests of tools/crash_run: mount_runs.py. The run without a crash, what counts as tested, and after which call the power goes off. The last line is
+`N passed, M failed`.
+"""
+
+import json
+import os
+import subprocess
+import sys
+import tempfile
+
+sys.dont_write_bytecode = True
+from mount_calls import TOP, check, run_tests  # noqa: E402
+
+FOLDER = tempfile.TemporaryDirectory()  # removed at the end
+# Six files. Each has three changing calls, create, write and fsync, and is acknowledged after them: 18 calls.
+SIX = 'for i in 1 2 3 4 5 6; do echo $i >$MOUNT/f$i; sync $MOUNT/f$i; echo $i >>$ACKNOWLEDGED; done'
+ALL_SIX = 'test $(wc -l <$ACKNOWLEDGED) -eq 6'  # holds without a crash alone
+
+
+def crash_run(*words):
+    """Runs crash_run with JSON. Returns its status, the objects that it prints, and its messages."""
+    command = ["tools/crash_run", "--json", "--out", f"{FOLDER.name}/out", *words]
+    ran = subprocess.run(command, cwd=TOP, stdin=subprocess.DEVNULL, stdout=subprocess.PIPE, stderr=subprocess.PIPE, text=True)
+    said = "".join(line + "\n" for line in ran.stderr.splitlines() if not line.startswith("not proved yet"))
+    return ran.returncode, [json.loads(line) for line in ran.stdout.splitlines()], said
+
+
+def acknowledged(failure):
+    """Returns how many lines were acknowledged in a failure that was kept."""
+    with open(f"{failure['kept']}/acknowledged", encoding="ascii") as file:
+        return len(file.readlines())
+
+
+def option(failure, name):
+    """Returns an option of the command that repeats a failure, or None."""
+    words = failure["again"].split()
+    return words[words.index(name) + 1] if name in words else None
+
+
+def test_without_a_crash():
+    """What fails without a crash isn't a loss, also with --stop-after."""
+    for words in ([], ["--stop-after", "5"], ["--after-acknowledgement", "1"]):
+        status, found, said = crash_run("--seeds", "2", *words, "--work", SIX, "--check", "test -e $MOUNT/f7")
+        check(f"a check that fails: {words}", (status, found) == (2, []) and said.startswith("crash_run: --check without a crash: 1"), said)
+        status, found, said = crash_run("--seeds", "2", *words, "--work", f"{SIX}; exit 7", "--check", "true")
+        check(f"a workload that fails: {words}", (status, found) == (2, []) and said.startswith("crash_run: --work without a crash: 7"), said)
+
+
+def test_untested():
+    """A seed without an acknowledgement is untested, and if all are, the run fails. A workload that has none may run."""
+    late = "for i in 1 2 3 4 5 6; do echo $i >$MOUNT/f$i; done; sync $MOUNT/f6; echo 1 >>$ACKNOWLEDGED"
+    status, found, said = crash_run("--seeds", "3", "--stop-after", "4", "--work", late, "--check", "true")
+    check("all are untested", status == 2 and (found[0]["held"], found[0]["untested"]) == (0, 3), (status, found))
+    check("it says so", said == "crash_run: no acknowledgement was tested by a seed\n", said)
+    status, found, said = crash_run("--seeds", "2", "--work", late, "--check", "true")
+    check("after the first one", status == 0 and found[0]["held"] >= 1 and found[0]["held"] + found[0]["untested"] == 2, (status, found))
+    status, found, said = crash_run("--seeds", "2", "--work", "mkdir $MOUNT/d", "--check", "true")
+    check("no acknowledgement", status == 0 and found[0]["untested"] == 2 and "writes nothing to $ACKNOWLEDGED" in said, (status, found, said))
+
+
+def test_points():
+    """After which calls the power goes off."""
+    for words, wanted in ((["--after-acknowledgement", "3", "--stop-after", "2"], {3}), (["--from-call", "10", "--stop-after", "2"], {3}),
+                          (["--from-acknowledged", "--stop-after", "0"], {1}), (["--from-call", "18"], {6})):
+        status, found, said = crash_run("--seeds", "4", *words, "--work", SIX, "--check", f"{ALL_SIX} && test -z $(cat $MOUNT/f9)")
+        counts = {acknowledged(failure) for failure in found[:-1]}
+        check(f"{words}", (status, counts or {6}) == (int(wanted != {6}), wanted), (status, counts, said))
+    for words, why in ((["--after-acknowledgement", "7"], "acknowledges only 6 times"), (["--from-call", "19"], "makes only 18 changing calls")):
+        status, found, said = crash_run("--seeds", "1", *words, "--work", SIX, "--check", "true")
+        check(f"too many: {words}", status == 2 and said == f"crash_run: the run without a crash {why}\n", said)
+    for words in (["--from-call", "0"], ["--after-acknowledgement", "0"], ["--from-call", "1", "--from-acknowledged"], ["--stop-after", "0"]):
+        check(f"bad: {words}", crash_run(*words, "--work", SIX, "--check", "true")[0] == 2)
+
+
+def test_halves():
+    """Without an option seeds with an even number stop after the first acknowledgement. The command that repeats a seed says how."""
+    status, found, _ = crash_run("--seeds", "8", "--jobs", "2", "--work", SIX, "--check", ALL_SIX)
+    check("some fail", status == 1 and len(found) > 4, found)
+    for failure in found[:-1]:
+        is_even = failure["seed"] % 2 == 0
+        wanted = ("1", "15") if is_even else (None, "18")
+        said = (option(failure, "--after-acknowledgement"), option(failure, "--stop-after"))
+        check(f"seed {failure['seed']}", said == wanted and acknowledged(failure) >= is_even, (said, acknowledged(failure)))
+    failure = found[0]
+    with open(f"{failure['kept']}/run.script", encoding="utf-8") as file:
+        before = file.read()
+    again = subprocess.run(["sh", "-c", f"{failure['again']} --json"], cwd=TOP, stdout=subprocess.PIPE, stderr=subprocess.PIPE, text=True)
+    with open(f"{failure['kept']}/run.script", encoding="utf-8") as file:
+        check("it repeats", again.returncode == 1 and file.read() == before, again)
+
+
+def test_record():
+    """The record has each acknowledgement between the calls of its file and those of the next one."""
+    _, found, _ = crash_run("--seeds", "1", "--from-call", "15", "--stop-after", "1", "--work", SIX, "--check", ALL_SIX)
+    with open(f"{found[0]['kept']}/run.script", encoding="utf-8") as file:
+        lines = [line.split() for line in file]
+    short = [" ".join(words[1:]) if words[0] == "#" else words[0] for words in lines
+             if words[0] in ("fsync", "write") or words[:2] == ["#", "acknowledged"]]
+    check("the record", short == [line for i in range(1, 6) for line in ("write", "fsync", f"acknowledged {i}")], short)
+
+
+if __name__ == "__main__":
+    os.environ["BLOBCRASH_TOLD"] = "1"
+    run_tests([test_without_a_crash, test_untested, test_points, test_halves, test_record])
