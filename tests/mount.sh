@@ -62,6 +62,12 @@ if [ "$(id -u)" -eq 0 ] && unshare -m true 2>/dev/null && has setpriv; then
     sed -i '/^fusermount3: /d' "$work/err"
     expect 'no right to mount' 3 '' "mount: no right to mount: CAP_SYS_ADMIN is missing, or a rule of the system forbids it. In a \
 container: docker run --device /dev/fuse --cap-add SYS_ADMIN"
+    # The daemon, as tools/crash_run starts it.
+    run unshare -m sh -c 'mount -t tmpfs none /dev && exec "$0" "$1" --control "$1.socket"' "$program" "$at"
+    expect 'the daemon without /dev/fuse' 3 '' "mount: there is no /dev/fuse: load the kernel's module fuse; $docker"
+    run unshare -m sh -c 'mount -t tmpfs none /dev && mknod -m 600 /dev/fuse c 10 229 && cd / &&
+        exec setpriv --reuid=65534 --clear-groups /proc/self/fd/3 / --control /tmp/none' 3<"$program"
+    expect 'the daemon without a right' 3 '' "mount: no right to open /dev/fuse; $docker"
     # As another user, by fusermount3.
     home=$(mktemp -d /tmp/blobcrash-user.XXXXXX)
     mkdir "$home/m"
@@ -279,6 +285,7 @@ else
 fi
 add python3 "$top/tests/mount.py" "$program" ${sanitized:+"$sanitized"}
 add python3 "$top/tests/mount_acknowledged.py" "${sanitized:-$program}"
+add python3 "$top/tests/mount_extra.py" "${sanitized:-$program}"
 add python3 "$top/tests/mount_clients.py" "${sanitized:-$program}"
 add python3 "$top/tests/mount_limits.py" "${sanitized:-$program}"
 add python3 "$top/tests/mount_records.py" "${sanitized:-$program}" "$files"
