@@ -1,8 +1,9 @@
 """
-Tests of tools/crash_run: mount_runs.py. The run without a crash, what counts as tested, and after which call the power goes off. The last line is
-`N passed, M failed`.
+Tests of tools/crash_run: mount_runs.py [TEST ..]. The run without a crash, what counts as tested, after which call the power goes off, what a
+failure says, and what is drawn. The last line is `N passed, M failed`.
 """
 
+import argparse
 import json
 import os
 import subprocess
@@ -11,6 +12,9 @@ import tempfile
 
 sys.dont_write_bytecode = True
 from mount_calls import TOP, check, run_tests  # noqa: E402
+
+import crash_swarm  # noqa: E402
+import losses  # noqa: E402
 
 FOLDER = tempfile.TemporaryDirectory()  # removed at the end
 # Six files. Each has three changing calls, create, write and fsync, and is acknowledged after them: 18 calls.
@@ -100,6 +104,80 @@ def test_record():
     check("the record", short == [line for i in range(1, 6) for line in ("write", "fsync", f"acknowledged {i}")], short)
 
 
+LOG = ["--work", "examples/mount_log.py append --forget-sync", "--check", "examples/mount_log.py check"]
+
+
+def test_words():
+    """A failure says what was lost, with the calls before it by their paths, before the commands that repeat it."""
+    # The first record has 12 bytes: "0", two spaces, eight digits and the end of the line. It is acknowledged, and all is lost.
+    options = ["--seeds", "1", "--keep", "0/1", "--profile", "btrfs", "--after-acknowledgement", "1", "--stop-after", "0"]
+    _, found, said = crash_run(*options, *LOG)
+    check("the calls", found[0]["calls"] == ["settle", "create /log", "fsyncdir /", "write /log 0..12", "acknowledged 0"], (found, said))
+    check("what was lost", found[0]["lost"][0] == "/log: size 12 before, 0 after" and "write 0..12: lost" in found[0]["lost"][-1], found)
+    command = ["tools/crash_run", "--out", f"{FOLDER.name}/out", *options, *LOG]
+    ran = subprocess.run(command, cwd=TOP, stdin=subprocess.DEVNULL, stdout=subprocess.PIPE, stderr=subprocess.DEVNULL, text=True)
+    places = [ran.stdout.find(text) for text in ("what the crash lost:", "write 0..12: lost", "the last calls", "acknowledged 0", "replay:", "again:")]
+    check("in order", -1 not in places and places == sorted(places), ran.stdout)
+
+
+def test_calls():
+    """Paths of calls follow directories that move."""
+    script = ["seed 1", "mkdir_at 1 d", "mkdir_at 2 e", "create_at 3 f", "# descriptor 0 is /d/e/f", "write 0 0 6162", "rename_at 1 d 1 g",
+              "fsyncdir_at 3", "link_at 4 3 h", "unlink_at 3 f", "truncate 0 1", "fsync 0", "close 0", "crash"]
+    said = ["inode 2", "inode 3", "opened 0", "ok", "# a remark", "ok", "ok", "ok", "ok", "error injected", "ok", "ok", "crashed - 1:2"]
+    wanted = ["write /d/e/f 0..2", "rename /d -> /g", "fsyncdir /g/e", "link /g/e/h", "unlink /g/e/f", "truncate /d/e/f 1: error injected",
+              "fsync /d/e/f"]
+    found = losses._Calls(script, said).last()
+    check("calls by path", found[-7:] == wanted and len(found) == 8, found)
+    said = ["ok", "crashed 01", "# unsettled edits:", "#   line 1: create /a: kept", "#   line 2: create /b: lost", "# /a: size 3 before, 3 after",
+            "#   line 3: write 0..3: kept", "# /b: removed, since no name of it was kept", "ok"]
+    wanted = ["unsettled edits:", "  line 2: create /b: lost", "/a: size 3 before, 3 after", "/b: removed, since no name of it was kept"]
+    check("what is lost", losses._lost(said) == wanted, losses._lost(said))
+    check("no record", losses.described("/none", f"{FOLDER.name}/none") == ([], []))
+
+
+def test_swarm():
+    """What is drawn depends on the seed alone; what is given isn't drawn. A seed repeats without --swarm."""
+    options = argparse.Namespace(profile=None, tear=None, keep=None, fault=[])
+    all_words = [crash_swarm.drawn(options, seed) for seed in range(400)]
+    check("each seed once more", all_words == [crash_swarm.drawn(options, seed) for seed in range(400)])
+    texts = {word for words in all_words for word in words}
+    check("all kinds", {"ext4", "xfs", "btrfs", "posix", "prefix", "subset", "0/1", "1/1", "failed_sync drops", "failed_write prefix"} <= texts, texts)
+    check("no lies", not any(text.startswith(("syncs", "edits")) for text in texts), texts)
+    given = argparse.Namespace(profile="xfs", tear="prefix", keep="1/2", fault=["config sync 1 2"])
+    check("what is given", crash_swarm.drawn(given, 1) == [])
+    status, found, said = crash_run("--swarm", "--seeds", "3", "--work", SIX, "--check", ALL_SIX)
+    check("a row", found[-1]["profile"] == "swarm" and found[-1]["seeds"] == 3, (status, found, said))
+    for failure in found[:-1]:
+        drawn = crash_swarm.drawn(options, failure["seed"])
+        shown = failure["again"]
+        check("it says what was drawn", failure["drawn"] == drawn and "--swarm" not in shown and f"--profile {drawn[1]}" in shown, failure)
+
+
+def test_profiles():
+    """A row for each profile, whose failures are kept apart."""
+    status, found, said = crash_run("--profiles", "all", "--seeds", "1", "--stop-after", "5", "--work", SIX, "--check", ALL_SIX)
+    rows = [row["profile"] for row in found if "seeds" in row]
+    kept = [os.path.relpath(row["kept"], FOLDER.name) for row in found if "kept" in row]
+    check("rows", rows == ["ext4", "xfs", "btrfs", "posix"], (status, found, said))
+    check("folders", kept == [f"out/{profile}/seed-1" for profile in rows], kept)
+    for words in (["--profiles", "zfs"], ["--profiles", "ext4", "--profile", "xfs"], ["--profiles", "all", "--swarm"]):
+        check(f"bad: {words}", crash_run(*words, "--work", "true", "--check", "true")[0] == 2)
+
+
+def test_folder():
+    """The folder of the mount needs no quotes, also if TMPDIR does."""
+    os.mkdir(f"{FOLDER.name}/a folder")
+    os.environ["TMPDIR"] = f"{FOLDER.name}/a folder"
+    work = "mkdir $MOUNT/d; sync $MOUNT/d; echo 1 >>$ACKNOWLEDGED"
+    status, _, said = crash_run("--seeds", "1", "--from-acknowledged", "--work", work, "--check", "ls $MOUNT $ACKNOWLEDGED")
+    del os.environ["TMPDIR"]
+    check("no quotes", status == 0, said)
+    check("nothing is left", os.listdir(f"{FOLDER.name}/a folder") == [])
+
+
 if __name__ == "__main__":
     os.environ["BLOBCRASH_TOLD"] = "1"
-    run_tests([test_without_a_crash, test_untested, test_points, test_halves, test_record])
+    all_tests = [test_without_a_crash, test_untested, test_points, test_halves, test_record, test_words, test_calls, test_swarm, test_profiles,
+                 test_folder]
+    run_tests([test for test in all_tests if not sys.argv[1:] or test.__name__ in sys.argv[1:]])

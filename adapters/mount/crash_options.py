@@ -20,6 +20,8 @@ started again and checked. In a third of the seeds the power goes off in that re
   --from-call N      the power goes off after changing call N or a later one
   --stop-after N     it goes off after one of the first N changing calls, counted from the acknowledgement or from that call, if one is
                      named (as many as the run without a crash makes)
+  --profiles LIST    a row for each of these profiles, with commas between them, or for `all`
+  --swarm            draws for each seed a profile, --tear, --keep, faults and switches, and prints them; what is given isn't drawn
   --timeout SECONDS  how long a command may take (60)
   --out FOLDER       where failures are kept (out/crash_run)
   --no-record        doesn't record the runs
@@ -40,6 +42,7 @@ import argparse
 import os
 
 from crash_runs import MOUNT_OPTIONS
+from crash_swarm import PROFILES
 
 TOP = os.path.dirname(os.path.dirname(os.path.dirname(os.path.realpath(__file__))))
 # Where failures are kept: an installed tool keeps them in the current folder.
@@ -47,7 +50,7 @@ KEPT = os.path.join(TOP if os.path.isdir(os.path.join(TOP, "crates")) else os.ge
 # The options that say after which call the power goes off.
 POINTS = ("--stop-after", "--from-call", "--after-acknowledgement", "--from-acknowledged")
 # Those that take no word after them.
-_FLAGS = ("--from-acknowledged",)
+_FLAGS = ("--from-acknowledged", "--swarm")
 
 
 def parse(words):
@@ -68,6 +71,9 @@ def parse(words):
     parser.add_argument("--fault", action="append", default=[])
     parser.add_argument("--no-record", action="store_true")
     parser.add_argument("--json", action="store_true")
+    profiles = parser.add_mutually_exclusive_group()
+    profiles.add_argument("--swarm", action="store_true")
+    profiles.add_argument("--profiles", type=lambda text: list(PROFILES) if text == "all" else text.split(","))
     for name in ("prepare", "start", *MOUNT_OPTIONS):
         parser.add_argument("--" + name)
     for name in ("work", "check"):
@@ -78,19 +84,22 @@ def parse(words):
         parser.error("--seeds and --jobs are at least 1, and --first at least 0")
     if min(options.from_call or 1, 1 if options.after_acknowledgement is None else options.after_acknowledgement) < 1 or options.from_call == 0:
         parser.error("--from-call and --after-acknowledgement are at least 1")
+    unknown = [name for name in options.profiles or () if name not in PROFILES]
+    if unknown or (options.profiles and options.profile):
+        parser.error(f"--profiles: no profile {unknown[0]}" if unknown else "--profile is one of --profiles")
     if options.stop_after is not None and options.stop_after < (0 if options.after_acknowledgement else 1):
         parser.error("--stop-after is at least 1")
     return options
 
 
 def of_seed(words, seed, points):
-    """Returns the words of a command line for one seed, with these options of crash points."""
+    """Returns the words of a command line for one seed, with these options: its crash point, and what was drawn for it."""
     kept, skips = [], False
     for word in words:
         name = word.split("=")[0]
         if skips:
             skips = False
-        elif name in ("--seeds", "--first", "--jobs", *POINTS):
+        elif name in ("--seeds", "--first", "--jobs", "--profiles", "--swarm", *POINTS):
             skips = "=" not in word and name not in _FLAGS
         else:
             kept.append(word)

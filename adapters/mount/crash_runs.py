@@ -6,12 +6,11 @@ import random
 import shutil
 import signal
 import subprocess
-import tempfile
 import time
 
 import crash_points
 from interrupts import interruptible
-from mounting import Broken, Failed, Mount
+from mounting import Broken, Failed, Mount, plain_folder
 
 MOUNT_OPTIONS = ("profile", "tear", "keep", "size")
 VERDICTS = ("held", "lost", "damaged", "not started", "too slow", "untested")
@@ -75,7 +74,7 @@ class Run:
         self.crashes = 0
         other = ["--allow-other"] if options.allow_other else []
         words = [word for name in MOUNT_OPTIONS if getattr(options, name) for word in ("--" + name, getattr(options, name))]
-        self.folder = tempfile.mkdtemp(prefix="blobcrash-run-")
+        self.folder = plain_folder("blobcrash-run-")
         acknowledged = os.path.join(self.folder, "acknowledged")
         with open(acknowledged, "wb"):
             pass
@@ -125,6 +124,7 @@ class Run:
         calm = {"config write": f"config write 0 1 {kept}", "config resize": "config resize 0 1 0 1",
                 "failed_sync": "failed_sync keeps", "syncs": "syncs honest", "failed_write": "failed_write mode",
                 "edits": f"profile {self.options.profile or 'ext4'}"}
+        calm["fail"] = "fail none"
         for fault in self.options.fault:
             words = fault.split()
             kind = " ".join(words[:2]) if words[0] == "config" else words[0]

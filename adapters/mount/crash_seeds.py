@@ -1,5 +1,6 @@
 """tools/crash_run: takes a program through the seeds, each in a process of its own. crash_options.py has the options."""
 
+import argparse
 import ctypes
 import itertools
 import json
@@ -15,10 +16,12 @@ import interrupts
 from crash_options import TOP, of_seed, parse
 from crash_points import Points
 from crash_runs import FINE, VERDICTS, judge, measure
+from crash_swarm import drawn
+from losses import described
 from mounting import Broken, Failed
 
 TOOL = os.path.join(TOP, "tools", "crash_run")
-PROGRAM = shlex.quote(os.path.join(TOP, "blobcrash")) if os.path.isdir(os.path.join(TOP, "crates")) else "blobcrash"
+PROGRAM = os.path.join(TOP, "blobcrash") if os.path.isdir(os.path.join(TOP, "crates")) else "blobcrash"
 SET_CHILD_SUBREAPER = 36
 
 
@@ -100,85 +103,122 @@ def result_of(task):
     return result
 
 
-def judge_all(executor, words, seeds, points, at_once):
+def judge_all(executor, words_of, seeds, at_once):
     """Yields each seed with its result, in order. At most so many are under way or wait for their turn."""
     waiting, tasks = iter(seeds), {}
     for seed in seeds:
         for next_one in itertools.islice(waiting, max(0, at_once - len(tasks))):
-            tasks[next_one] = start(executor, of_seed(words, next_one, points.words(next_one)), "judge")
+            tasks[next_one] = start(executor, words_of(next_one), "judge")
         yield seed, result_of(tasks.pop(seed))
 
 
 class Totals:
-    """What the seeds so far came to."""
+    """What the seeds of a row of the table so far came to."""
 
-    def __init__(self, options, words, progress):
-        self.options, self.words, self.progress = options, words, progress
+    def __init__(self, options, words, progress, points=None):
+        self.options, self.words, self.progress, self.points = options, words, progress, points
         self.counts = dict.fromkeys(VERDICTS, 0)
         self.crashes = self.acknowledged = 0
-        self.points = None
 
     def __str__(self):
-        return f"{sum(self.counts.values())} of {self.options.seeds} seeds, {self.failed} failed"
+        return f"{sum(self.counts.values())} of {self.options.seeds} seeds{self.where}, {self.failed} failed"
+
+    @property
+    def where(self):
+        """The profile, if there are several."""
+        return f" on {self.options.profile}" if self.options.profiles else ""
 
     @property
     def failed(self):
         """How many failed."""
         return sum(count for verdict, count in self.counts.items() if verdict not in FINE)
 
-    def run(self, executor, at_once):
-        """Runs without a crash, and then the seeds."""
+    def measure(self, executor):
+        """Runs without a crash."""
         options = self.options
         points = [word for name in ("stop_after", "from_call", "after_acknowledgement") if getattr(options, name) is not None
                   for word in ("--" + name.replace("_", "-"), str(getattr(options, name)))]
         self.points = Points(options, result_of(start(executor, of_seed(self.words, options.first, points), "measure")))
+
+    def drawn(self, seed):
+        """Returns the words that --swarm draws."""
+        return drawn(self.options, seed) if self.options.swarm else []
+
+    def words_of(self, seed):
+        """Returns the words that run one seed."""
+        return of_seed(self.words, seed, [*self.points.words(seed), *self.drawn(seed)])
+
+    def run(self, executor, at_once):
+        """Runs the seeds."""
+        options = self.options
+        if not self.points:
+            self.measure(executor)
         seeds = range(options.first, options.first + options.seeds)
-        for seed, result in judge_all(executor, self.words, seeds, self.points, at_once):
+        for seed, result in judge_all(executor, self.words_of, seeds, at_once):
             self.counts[result["verdict"]] += 1
             self.crashes += result["crashes"]
             self.acknowledged += result["acknowledged"]
-            if result["kept"]:
+            if result["kept"] or (options.swarm and not options.json):
                 self.progress.clear()
-                (self.print_json if options.json else self.print_failure)(seed, result)
+                (self.print_json if options.json else self.print_seed)(seed, result)
             self.progress.show(self.__str__)
 
     def again(self, seed):
         """Returns the command that runs a seed again."""
         tool = os.path.relpath(TOOL) if os.path.samefile(TOP, ".") else TOOL
-        return shlex.join([tool, *of_seed(self.words, seed, self.points.words(seed))])
+        return shlex.join([tool, *self.words_of(seed)])
 
     def status(self):
         """Returns the exit status. If no acknowledgement was tested, says so."""
         if self.counts["untested"] == self.options.seeds:
             why = "a seed" if self.points.acknowledges else "--work, which writes nothing to $ACKNOWLEDGED"
-            print(f"crash_run: no acknowledgement was tested by {why}", file=sys.stderr)
+            print(f"crash_run: no acknowledgement was tested by {why}{self.where}", file=sys.stderr)
             return 2 if self.points.acknowledges else 0
         return int(self.failed > 0)
 
-    def print_failure(self, seed, result):
-        """Prints a failure, with the commands that replay and repeat it."""
-        print(f"seed {seed}: {result['verdict']}{result['tail']}", flush=True)
-        if os.path.exists(os.path.join(result["kept"], "tree")):
-            print(f"  the durable tree: {result['kept']}/tree", flush=True)
-        script = os.path.join(result["kept"], "run.script")
-        if os.path.exists(script):
-            print(f"  replay: (cat {shlex.quote(script)}; echo tree) | {PROGRAM} files | tail -n 1", flush=True)
-        print(f"  again: {self.again(seed)}", flush=True)
+    def print_seed(self, seed, result):
+        """Prints a failure, with what it lost and the commands that replay and repeat it. Of other seeds only what was drawn."""
+        words = f" ({shlex.join(self.drawn(seed))})" if self.options.swarm else ""
+        lines = [f"seed {seed}{self.where}: {result['verdict']}{words}{result['tail']}"]
+        if result["kept"]:
+            script = os.path.join(result["kept"], "run.script")
+            for title, found in zip(("what the crash lost:", "the last calls before it:"), described(PROGRAM, script)):
+                lines += [f"  {title}", *(f"    {line}" for line in found)] if found else []
+            if os.path.exists(os.path.join(result["kept"], "tree")):
+                lines.append(f"  the durable tree: {result['kept']}/tree")
+            if os.path.exists(script):
+                lines.append(f"  replay: (cat {shlex.quote(script)}; echo tree) | {shlex.quote(PROGRAM)} files | tail -n 1")
+            lines.append(f"  again: {self.again(seed)}")
+        print("\n".join(lines), flush=True)
 
     def print_json(self, seed, result):
         """Prints a failure as an object."""
-        print(json.dumps({"seed": seed, "verdict": result["verdict"], "kept": result["kept"], "again": self.again(seed)}), flush=True)
+        lost, calls = described(PROGRAM, os.path.join(result["kept"], "run.script"))
+        about = {"profile": self.options.profile} if self.options.profiles else {"drawn": self.drawn(seed)} if self.options.swarm else {}
+        print(json.dumps({"seed": seed, "verdict": result["verdict"], "kept": result["kept"], "again": self.again(seed), "lost": lost,
+                          "calls": calls, **about}), flush=True)
 
-    def print_totals(self):
-        """Prints the table of all seeds, or an object."""
+    def print_row(self, is_first):
+        """Prints the row of the table of all seeds, the first one with the names above it, or an object."""
         options = self.options
-        row = {"profile": options.profile or "ext4", "seeds": options.seeds, "calls": options.stop_after or self.points.calls, "crashes": self.crashes,
+        profile = "swarm" if options.swarm else options.profile or "ext4"
+        row = {"profile": profile, "seeds": options.seeds, "calls": options.stop_after or self.points.calls, "crashes": self.crashes,
                "acknowledged": self.acknowledged, **self.counts}
         if options.json:
-            print(json.dumps(row))
+            print(json.dumps(row), flush=True)
             return
-        print(f"| {' | '.join(row)} |\n|---|{'---|' * (len(row) - 1)}")
-        print("| " + " | ".join(map(str, row.values())) + " |")
+        if is_first:
+            print(f"| {' | '.join(row)} |\n|---|{'---|' * (len(row) - 1)}")
+        print("| " + " | ".join(map(str, row.values())) + " |", flush=True)
+
+
+def rows_of(options, words):
+    """Returns the options and the words of each row: one, or one for each profile, whose failures are kept below --out."""
+    rows = []
+    for profile in options.profiles or []:
+        more = ["--profile", profile, "--out", os.path.join(options.out, profile)]
+        rows.append((argparse.Namespace(**{**vars(options), "profile": profile}), [*words, *more]))
+    return rows or [(options, words)]
 
 
 def progress_line():
@@ -200,22 +240,29 @@ def main(words, executor=None):
         return run_one(options)
     own = Workers(options.jobs) if executor is None else None
     at_once = options.jobs if own else 2 * (getattr(executor, "_max_workers", None) or 64)
-    totals = Totals(options, words, progress_line())
+    progress, points, status = progress_line(), None, 0
+    totals = Totals(options, words, progress)
     try:
         program()
-        with interrupts.interruptible():
-            totals.run(own or executor, at_once)
+        for number, (of_row, words_of_row) in enumerate(rows_of(options, words)):
+            totals = Totals(of_row, words_of_row, progress, points)
+            with interrupts.interruptible():
+                totals.run(own or executor, at_once)
+            points = totals.points
+            progress.clear()
+            totals.print_row(number == 0)
+            status = max(status, totals.status())
     except (Broken, Failed) as error:
         print(f"crash_run: {error}", file=sys.stderr)
         return 3 if "docker run" in str(error) or "fusermount3" in str(error) else 2
     except KeyboardInterrupt:
         done = sum(totals.counts.values())
-        totals.progress.tell(f"interrupted after {totals}. To go on: --first {options.first + done} --seeds {options.seeds - done}")
+        where = f" --profile {totals.options.profile}" if options.profiles else ""
+        progress.tell(f"interrupted after {totals}. To go on: --first {options.first + done} --seeds {options.seeds - done}{where}")
         return 130
     finally:
-        totals.progress.clear()
+        progress.clear()
         if own:
             own.end()
             own.shutdown()
-    totals.print_totals()
-    return totals.status()
+    return status
