@@ -29,7 +29,7 @@ run "$top/tools/mount" "$work/none"
 expect 'no folder' 1 '' "mount: $work/none: no such folder"
 run "$top/tools/mount"
 ok 'no words' [ "$status" -eq 2 ]
-for tool in mount mountctl crash_run; do
+for tool in mount mountctl crash_run check_program; do
     run "$top/tools/$tool" --help
     ok "$tool --help" [ "$status" -eq 0 -a -s "$work/out" -a ! -s "$work/err" ]
 done
@@ -209,6 +209,10 @@ ok 'syncs that lie' [ "$status" -eq 1 ]
 # shellcheck disable=SC2016
 run tools/crash_run --seeds 1 --stop-after 1000 --work 'mkdir $MOUNT/d' --check 'test -d $MOUNT'
 ok 'the folder has no space' [ "$status" -eq 0 ]
+# The workflow of a user runs a program on the mount.
+step=$(sed -n 's/^ *- run: $RUNNER_TEMP.$RELEASE.bin.\(blobcrash crash-run .*\)/\1/p' examples/ci_use.yml)
+run sh -c "cd examples && ../$step --seeds 1"
+ok 'the step of the workflow' [ "$status" -eq 0 -a "$(grep -c '^| [a-z0-9]* | 1 |' "$work/out")" -eq 4 ]
 # A third of the seeds fail before their second crash: these have the tree and the record of the first one.
 # shellcheck disable=SC2016
 run tools/crash_run --seeds 12 --jobs 2 --stop-after 2 --out "$work/all" --work 'echo 1 >$MOUNT/a; sync $MOUNT/a; echo 1 >>$ACKNOWLEDGED' \

@@ -165,6 +165,25 @@ def test_profiles():
         check(f"bad: {words}", crash_run(*words, "--work", "true", "--check", "true")[0] == 2)
 
 
+def test_every_state():
+    """One run is recorded, and its check runs on every state: the file that isn't synced is missing from one."""
+    work = "echo 1 >$MOUNT/a; sync $MOUNT/a; echo 1 >>$ACKNOWLEDGED; echo 2 >$MOUNT/b; echo 2 >>$ACKNOWLEDGED"
+    check_it = "test $(cat $MOUNT/a $MOUNT/b 2>&1 | grep -c ^[12]$) -ge $(wc -l <$ACKNOWLEDGED)"
+    out = f"{FOLDER.name}/checked"
+    status, _, said = crash_run("--record-only", "--out", out, "--work", "false", "--check", "true")
+    check("a workload that fails", status == 2 and "--work without a crash: 1" in said, said)
+    for start in ([], ["--start", "sleep 100 & test -d $MOUNT"]):
+        command = ["tools/check_program", "--profile", "posix", "--out", out, "--whole", "--work", work, "--check", check_it, *start]
+        ran = subprocess.run(command, cwd=TOP, stdin=subprocess.DEVNULL, stdout=subprocess.PIPE, stderr=subprocess.PIPE, text=True)
+        wanted = ["/run.script, 5 changing calls, 2 acknowledgements\n", "the check exits with 1: ", "what the crash lost:", "acknowledged 1\n",
+                  "  shorter: tools/shrink --files ", "states, all of them; "]
+        check(f"what it prints: {start}", ran.returncode == 1 and all(text in ran.stdout for text in wanted), ran)
+    command = ["tools/check_program", "--out", out, "--work", f"{SIX}; sync $MOUNT", "--check", "true", "--limit", "2"]
+    ran = subprocess.run(command, cwd=TOP, stdin=subprocess.DEVNULL, stdout=subprocess.PIPE, stderr=subprocess.PIPE, text=True)
+    check("a limit", ran.returncode == 0 and "not all of them: at most 2 outcomes of a crash were tried; 0 fail" in ran.stdout, ran)
+    check("bad words", subprocess.run(["tools/check_program", "--limit", "0"], cwd=TOP, stderr=subprocess.DEVNULL).returncode == 2)
+
+
 def test_folder():
     """The folder of the mount needs no quotes, also if TMPDIR does."""
     os.mkdir(f"{FOLDER.name}/a folder")
@@ -179,5 +198,5 @@ def test_folder():
 if __name__ == "__main__":
     os.environ["BLOBCRASH_TOLD"] = "1"
     all_tests = [test_without_a_crash, test_untested, test_points, test_halves, test_record, test_words, test_calls, test_swarm, test_profiles,
-                 test_folder]
+                 test_every_state, test_folder]
     run_tests([test for test in all_tests if not sys.argv[1:] or test.__name__ in sys.argv[1:]])

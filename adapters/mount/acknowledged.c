@@ -25,7 +25,7 @@ static size_t line_len;
 static uint64_t count;
 /* For each line how many changing calls came before it. */
 static uint64_t *calls_before;
-static size_t room;
+static size_t capacity;
 
 int acknowledged_begin(const char *path) {
     struct stat there;
@@ -36,14 +36,14 @@ int acknowledged_begin(const char *path) {
     return 0;
 }
 
-/* Makes room for one more line. Without memory its place isn't known. */
-static bool has_room(void) {
-    if (count < room) return true;
-    size_t larger = room ? 2 * room : 256;
+/* Makes space for one more line. Without memory its place isn't known. */
+static bool has_space(void) {
+    if (count < capacity) return true;
+    size_t larger = capacity ? 2 * capacity : 256;
     uint64_t *grown = larger > COUNT_MOST ? NULL : realloc(calls_before, larger * sizeof *grown);
     if (!grown) return false;
     calls_before = grown;
-    room = larger;
+    capacity = larger;
     return true;
 }
 
@@ -53,7 +53,7 @@ static void note_line(void) {
     memcpy(note, word, sizeof word);
     escape_unless_plain(line, line_len, note + sizeof word - 1);
     record_note(note);
-    if (has_room()) calls_before[count] = power.changing_calls;
+    if (has_space()) calls_before[count] = power.changing_calls;
     count++;
     line_len = 0;
     power_acknowledged(count);
@@ -76,7 +76,7 @@ void acknowledged_look(void) {
 uint64_t acknowledged_count(void) { return count; }
 
 bool acknowledged_after(uint64_t number, uint64_t *calls) {
-    if (number == 0 || number > count || number > room) return false;
+    if (number == 0 || number > count || number > capacity) return false;
     *calls = calls_before[number - 1];
     return true;
 }

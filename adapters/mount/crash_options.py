@@ -25,6 +25,7 @@ started again and checked. In a third of the seeds the power goes off in that re
   --timeout SECONDS  how long a command may take (60)
   --out FOLDER       where failures are kept (out/crash_run)
   --no-record        doesn't record the runs
+  --record-only      runs it without a crash alone, and keeps the record as run.script in --out, for tools/states
   --json             prints JSON, an object a line: one for each failure, and one at the end
   --profile, --tear, --keep, --size, --allow-other   as for tools/mount
 
@@ -50,7 +51,7 @@ KEPT = os.path.join(TOP if os.path.isdir(os.path.join(TOP, "crates")) else os.ge
 # The options that say after which call the power goes off.
 POINTS = ("--stop-after", "--from-call", "--after-acknowledgement", "--from-acknowledged")
 # Those that take no word after them.
-_FLAGS = ("--from-acknowledged", "--swarm")
+_FLAGS = ("--from-acknowledged", "--swarm", "--record-only")
 
 
 def parse(words):
@@ -70,6 +71,7 @@ def parse(words):
     parser.add_argument("--allow-other", action="store_true")
     parser.add_argument("--fault", action="append", default=[])
     parser.add_argument("--no-record", action="store_true")
+    parser.add_argument("--record-only", action="store_true")
     parser.add_argument("--json", action="store_true")
     profiles = parser.add_mutually_exclusive_group()
     profiles.add_argument("--swarm", action="store_true")
@@ -78,7 +80,7 @@ def parse(words):
         parser.add_argument("--" + name)
     for name in ("work", "check"):
         parser.add_argument("--" + name, required=True)
-    parser.add_argument("--one", choices=("measure", "judge"), help=argparse.SUPPRESS)  # by a worker: one seed, with a line of JSON
+    parser.add_argument("--one", choices=("measure", "judge", "record"), help=argparse.SUPPRESS)  # by a worker: one seed, with a line of JSON
     options = parser.parse_args(words)
     if options.seeds < 1 or options.first < 0 or options.jobs < 1:
         parser.error("--seeds and --jobs are at least 1, and --first at least 0")
@@ -87,6 +89,8 @@ def parse(words):
     unknown = [name for name in options.profiles or () if name not in PROFILES]
     if unknown or (options.profiles and options.profile):
         parser.error(f"--profiles: no profile {unknown[0]}" if unknown else "--profile is one of --profiles")
+    if options.record_only and (options.no_record or options.profiles or options.swarm):
+        parser.error("--record-only makes one record")
     if options.stop_after is not None and options.stop_after < (0 if options.after_acknowledgement else 1):
         parser.error("--stop-after is at least 1")
     return options
@@ -99,7 +103,7 @@ def of_seed(words, seed, points):
         name = word.split("=")[0]
         if skips:
             skips = False
-        elif name in ("--seeds", "--first", "--jobs", "--profiles", "--swarm", *POINTS):
+        elif name in ("--seeds", "--first", "--jobs", "--profiles", "--swarm", "--record-only", *POINTS):
             skips = "=" not in word and name not in _FLAGS
         else:
             kept.append(word)

@@ -168,6 +168,22 @@ class Run:
             place = max(int(self.mount.ask(f"acknowledgement {line}")) - before, 0)
         return {"calls": calls, "acknowledged": self.acknowledged(), "before": place}
 
+    def record(self):
+        """Runs without a crash, recorded, into the folder of --out. Returns the counts."""
+        os.makedirs(self.options.out, exist_ok=True)
+        record = os.path.join(self.folder, "record")
+        self.mount.ask(f"record {record}")
+        self.prepare()
+        before = self.changing_calls()
+        for name in ("start", "work"):
+            self.succeed(name)
+        calls = self.changing_calls() - before
+        self.mount.ask("record stop")
+        self.succeed("check")
+        path = os.path.join(self.options.out, "run.script")
+        shutil.copyfile(record, path)
+        return {"record": path, "calls": calls, "acknowledged": self.acknowledged()}
+
     def succeed(self, name):
         """Runs a command that has to succeed, since there was no crash."""
         status = self.command(name)
@@ -238,12 +254,12 @@ class Run:
             shutil.rmtree(self.folder, ignore_errors=True)
 
 
-def measure(options, program):
-    """Runs the first seed without a crash. Returns its counts."""
+def without_a_crash(options, program):
+    """Runs the first seed without a crash, to measure or to record it. Returns its counts."""
     run = Run(options, program, options.first)
     try:
         with interruptible():
-            return run.measure()
+            return run.record() if options.one == "record" else run.measure()
     finally:
         run.close()
 

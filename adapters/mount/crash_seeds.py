@@ -15,7 +15,7 @@ import crash_options
 import interrupts
 from crash_options import TOP, of_seed, parse
 from crash_points import Points
-from crash_runs import FINE, VERDICTS, judge, measure
+from crash_runs import FINE, VERDICTS, judge, without_a_crash
 from crash_swarm import drawn
 from losses import described
 from mounting import Broken, Failed
@@ -30,7 +30,7 @@ def run_one(options):
     ctypes.CDLL(None).prctl(SET_CHILD_SUBREAPER, 1, 0, 0, 0)  # the parent of all orphans that come from it
     try:
         built = program()
-        result = (measure if options.one == "measure" else judge)(options, built)
+        result = (judge if options.one == "judge" else without_a_crash)(options, built)
     except (Broken, Failed) as error:
         result = {"error": str(error)}
     except KeyboardInterrupt:
@@ -229,6 +229,12 @@ def progress_line():
     return Progress("crash_run")
 
 
+def print_record(made):
+    """Says where a record is. Returns the status."""
+    print(f"the record: {made['record']}, {made['calls']} changing calls, {made['acknowledged']} acknowledgements", flush=True)
+    return 0
+
+
 def main(words, executor=None):
     """Runs all. Returns the exit status."""
     if words in (["--help"], ["-h"]):
@@ -244,6 +250,9 @@ def main(words, executor=None):
     totals = Totals(options, words, progress)
     try:
         program()
+        if options.record_only:
+            with interrupts.interruptible():
+                return print_record(result_of(start(own or executor, of_seed(words, options.first, []), "record")))
         for number, (of_row, words_of_row) in enumerate(rows_of(options, words)):
             totals = Totals(of_row, words_of_row, progress, points)
             with interrupts.interruptible():

@@ -16,7 +16,7 @@ once, CHECK is run: it exits with 0 if all is well. `docs/GUIDE.md` has an examp
   --json         prints JSON, an object a line
 
 CHECK finds in its environment: STATE, a folder with the state as plain files (of a store PARTITION/NAME, the name in hex, each with its
-header), which it may change; SCRIPT, the script up to the crash; ACKNOWLEDGED, a file with the texts of the comments `# acknowledged ..`
+header), which it may change; with --files MOUNT too, the same folder, for the check of a crash run; SCRIPT, the script up to the crash; ACKNOWLEDGED, a file with the texts of the comments `# acknowledged ..`
 before it, a line each.
 
 Exit statuses: 0 if every check does; 1 if one fails; 2 if the script or the command line is bad, as when LINE is none after which a crash
@@ -44,8 +44,8 @@ from .states import CrashState, CrashStates
 _IN_MEMORY = "/dev/shm"
 
 
-def check_state(state: CrashState, command: List[str], folder: str) -> int:
-    """Writes a state below a folder and runs the command. Returns its status."""
+def check_state(state: CrashState, command: List[str], folder: str, quiet: bool = False) -> int:
+    """Writes a state below a folder and runs the command. Returns its status. With `quiet` what it prints isn't shown."""
     places = {name: os.path.join(folder, name.lower()) for name in ("STATE", "SCRIPT", "ACKNOWLEDGED")}
     os.makedirs(places["STATE"])
     state.write_to(places["STATE"])
@@ -53,7 +53,10 @@ def check_state(state: CrashState, command: List[str], folder: str) -> int:
         file.write(state.script)
     with open(places["ACKNOWLEDGED"], "w", encoding="utf-8") as file:
         file.write("".join(f"{text}\n" for text in state.acknowledged))
-    return subprocess.run(command, env={**os.environ, **places}, stdin=subprocess.DEVNULL, check=False).returncode
+    if state.is_files:
+        places["MOUNT"] = places["STATE"]
+    out = subprocess.DEVNULL if quiet else None
+    return subprocess.run(command, env={**os.environ, **places}, stdin=subprocess.DEVNULL, stdout=out, stderr=out, check=False).returncode
 
 
 class _Checks:
