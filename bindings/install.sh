@@ -29,7 +29,7 @@ done
 sh "$top/bindings/build.sh"
 work=$(mktemp -d)
 tools='door.sh commands.txt check diagnose judge shrink states crash_page watch'
-mount_tools='mount mountctl crash_run'
+mount_tools='mount mountctl crash_run check_program'
 if ! daemon=$(BLOBCRASH_ARCHIVE=$top/out/libblobcrash.a sh "$top/adapters/mount/build.sh" 2>"$work/said"); then
     echo "install.sh: without the mount: $(tail -n 1 "$work/said")" >&2
     mount_tools=

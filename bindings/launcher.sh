@@ -31,7 +31,7 @@ find_program() { program=$prefix/libexec/blobcrash/$1; }
 find_tool() {
     program=$tools/$1
     case $1 in
-    mount | mountctl | crash_run)
+    mount | mountctl | crash_run | check_program)
         if [ ! -x "$program" ]; then
             echo "blobcrash: the mount isn't installed (the package blobcrash-mount of a release)" >&2
             exit 127

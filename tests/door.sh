@@ -21,7 +21,7 @@ in_table() {
 in_help() {
     {
         sed -n 's/^  *\(--[a-z-]*\)[ ,].*/\1/p; s/^  \([a-z][a-z_-]*\)  *[A-Za-z].*/\1/p' "$1"
-        grep -e ' as for tools/mount' "$1" | grep -o -e '--[a-z-]*'
+        grep -e ' as for tools/' "$1" | grep -o -e '--[a-z-]*'
         grep -e '`profile NAME' -e '`syncs honest' "$1" | grep -o '`[a-z_][a-z_]* ' | tr -d '` '
     } | grep -vx -e '--json' -e '--help' -e blobcrash | LC_ALL=C sort -u
 }
@@ -42,10 +42,11 @@ same 'files explore' 'files explore' "$top/blobcrash" files
 same mount mount "$top/blobcrash" mount
 same mountctl mountctl "$top/blobcrash" mountctl
 same crash-run crash-run "$top/blobcrash" crash-run
+same check-program check-program "$top/blobcrash" check-program
 ok 'no line of the help is longer than 120 columns' sh -c '! "$1/blobcrash" help | grep ".\{121\}"' sh "$top"
 
 # Commands that are tools, by both of their names.
-for row in 'check:check' 'judge:judge' 'shrink:shrink' 'page:crash_page' 'diagnose:diagnose' 'mountctl:mountctl' 'mount:mount' 'crash-run:crash_run' 'crash_run:crash_run'; do
+for row in 'check:check' 'judge:judge' 'shrink:shrink' 'page:crash_page' 'diagnose:diagnose' 'mountctl:mountctl' 'mount:mount' 'crash-run:crash_run' 'crash_run:crash_run' 'check-program:check_program'; do
     "$top/tools/${row#*:}" --help >"$work/wanted"
     for word in --help -h; do
         run "$top/blobcrash" "${row%:*}" "$word" </dev/null

@@ -68,6 +68,7 @@ if has pkg-config && pkg-config --atleast-version=3.10 fuse3; then
     cat >>"$work/files" <<'FILES'
 libexec/blobcrash/blobcrash_mount
 share/blobcrash/adapters/mount/build.sh
+share/blobcrash/tools/check_program
 share/blobcrash/tools/crash_run
 share/blobcrash/tools/mount
 share/blobcrash/tools/mountctl

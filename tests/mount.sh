@@ -29,7 +29,7 @@ run "$top/tools/mount" "$work/none"
 expect 'no folder' 1 '' "mount: $work/none: no such folder"
 run "$top/tools/mount"
 ok 'no words' [ "$status" -eq 2 ]
-for tool in mount mountctl crash_run; do
+for tool in mount mountctl crash_run check_program; do
     run "$top/tools/$tool" --help
     ok "$tool --help" [ "$status" -eq 0 -a -s "$work/out" -a ! -s "$work/err" ]
 done
@@ -62,6 +62,12 @@ if [ "$(id -u)" -eq 0 ] && unshare -m true 2>/dev/null && has setpriv; then
     sed -i '/^fusermount3: /d' "$work/err"
     expect 'no right to mount' 3 '' "mount: no right to mount: CAP_SYS_ADMIN is missing, or a rule of the system forbids it. In a \
 container: docker run --device /dev/fuse --cap-add SYS_ADMIN"
+    # The daemon, as tools/crash_run starts it.
+    run unshare -m sh -c 'mount -t tmpfs none /dev && exec "$0" "$1" --control "$1.socket"' "$program" "$at"
+    expect 'the daemon without /dev/fuse' 3 '' "mount: there is no /dev/fuse: load the kernel's module fuse; $docker"
+    run unshare -m sh -c 'mount -t tmpfs none /dev && mknod -m 600 /dev/fuse c 10 229 && cd / &&
+        exec setpriv --reuid=65534 --clear-groups /proc/self/fd/3 / --control /tmp/none' 3<"$program"
+    expect 'the daemon without a right' 3 '' "mount: no right to open /dev/fuse; $docker"
     # As another user, by fusermount3.
     home=$(mktemp -d /tmp/blobcrash-user.XXXXXX)
     mkdir "$home/m"
@@ -190,8 +196,10 @@ ok 'the command that replays its record' [ -n "$replay" ]
 [ "$(cat "$work/out")" = "tree /log=$(od -An -v -tx1 "$work/tree/log" | tr -d ' \n')" ]
 tell $? 'a record replays to the same tree'
 # Seeds by an executor, as of a cluster.
-run examples/mount_cluster.py --seeds 3 --work "$log append" --check 'exit 2' --out "$work/failed" --stop-after 9
-ok 'an executor' grep -q '^| ext4 | 3 | 9 | [0-9]* | [0-9]* | 0 | 0 | 3 | 0 | 0 |$' "$work/out"
+# shellcheck disable=SC2016
+run examples/mount_cluster.py --seeds 3 --work "$log append" --check 'test "$(wc -l <"$ACKNOWLEDGED")" -eq 12 || exit 2' --out "$work/failed" \
+    --stop-after 9
+ok 'an executor' grep -q '^| ext4 | 3 | 9 | [0-9]* | [0-9]* | 0 | 0 | 3 | 0 | 0 | 0 |$' "$work/out"
 # After a write that fails the log acknowledges nothing.
 run tools/crash_run --seeds 4 --fault 'failed_write prefix' --fault 'config write 1 4 1 2 subset' --work "$log append" --check "$log check"
 ok 'writes that fail' [ "$status" -eq 0 ]
@@ -201,8 +209,14 @@ ok 'syncs that lie' [ "$status" -eq 1 ]
 # shellcheck disable=SC2016
 run tools/crash_run --seeds 1 --stop-after 1000 --work 'mkdir $MOUNT/d' --check 'test -d $MOUNT'
 ok 'the folder has no space' [ "$status" -eq 0 ]
+# The workflow of a user runs a program on the mount.
+step=$(sed -n 's/^ *- run: $RUNNER_TEMP.$RELEASE.bin.\(blobcrash crash-run .*\)/\1/p' examples/ci_use.yml)
+run sh -c "cd examples && ../$step --seeds 1"
+ok 'the step of the workflow' [ "$status" -eq 0 -a "$(grep -c '^| [a-z0-9]* | 1 |' "$work/out")" -eq 4 ]
 # A third of the seeds fail before their second crash: these have the tree and the record of the first one.
-run tools/crash_run --seeds 12 --jobs 2 --stop-after 2 --out "$work/all" --work "echo 1 >\$MOUNT/a" --check 'exit 1'
+# shellcheck disable=SC2016
+run tools/crash_run --seeds 12 --jobs 2 --stop-after 2 --out "$work/all" --work 'echo 1 >$MOUNT/a; sync $MOUNT/a; echo 1 >>$ACKNOWLEDGED' \
+    --check 'test -s $ACKNOWLEDGED'
 ok 'each failure has what it names' [ "$(ls -d "$work"/all/seed-*/tree "$work"/all/seed-*/run.script | wc -l)" -eq 24 ]
 run tools/crash_run --seeds 1 --work true --check false
 ok 'a check that fails without a crash' [ "$status" -eq 2 ]
@@ -221,6 +235,7 @@ for kept in "$work/recovery"/seed-*; do
     ok "the tree of ${kept##*/} is that of its record" [ "$replayed" = "tree$tree" ]
 done
 
+add python3 "$top/tests/mount_runs.py"
 add python3 "$top/tests/mount_signals.py"
 
 # SQLite deletes its journal after a commit, and syncs the folder only at EXTRA.
@@ -237,20 +252,20 @@ else
     skip 'SQLite: there is no sqlite3'
 fi
 # Real programs. PostgreSQL may refuse to start after a crash in its start, which is no loss (docs/MOUNT.md).
-# program NAME PROFILE SEEDS PATTERN: whether what programs.sh prints of held, lost, damaged and not started matches.
+# program NAME PROFILE SEEDS PATTERN: whether what programs.sh prints of held, lost, damaged and not started matches. A seed may be untested.
 program() {
     run sh adapters/mount/programs.sh --profiles "$2" --seeds "$3" --jobs 1 "$1"
     if grep -q '^programs.sh: skipped' "$work/err"; then
         leave_out "$(tail -n 1 "$work/err")"
         return
     fi
-    ok "$1 on $2: $(tail -n 1 "$work/out")" grep -Eq "^\\| $1 \\| $2 \\| $3 \\| [0-9]+ \\| [0-9]+ \\| $4 \\| 0 \\|\$" "$work/out"
+    ok "$1 on $2: $(tail -n 1 "$work/out")" grep -Eq "^\\| $1 \\| $2 \\| $3 \\| [0-9]+ \\| [0-9]+ \\| $4 \\| 0 \\| [0-9]+ \\|\$" "$work/out"
 }
 program postgres ext4 3 '[0-3] \| 0 \| 0 \| [0-3]'
 program postgres posix 2 '[0-2] \| 0 \| 0 \| [0-2]'
-program redis ext4 4 '4 \| 0 \| 0 \| 0'
-program sqlite-wal posix 2 '2 \| 0 \| 0 \| 0'
-program git-fsync ext4 3 '3 \| 0 \| 0 \| 0'
+program redis ext4 4 '[0-4] \| 0 \| 0 \| 0'
+program sqlite-wal posix 2 '[12] \| 0 \| 0 \| 0'
+program git-fsync ext4 3 '[0-3] \| 0 \| 0 \| 0'
 program git ext4 4 '[0-3] \| [0-9] \| [0-9] \| 0'
 if has redis-server redis-cli; then
     run sh examples/mount_redis.sh
@@ -273,6 +288,8 @@ else
     skip 'the daemon under the address sanitizer, and random bytes for it'
 fi
 add python3 "$top/tests/mount.py" "$program" ${sanitized:+"$sanitized"}
+add python3 "$top/tests/mount_acknowledged.py" "${sanitized:-$program}"
+add python3 "$top/tests/mount_extra.py" "${sanitized:-$program}"
 add python3 "$top/tests/mount_clients.py" "${sanitized:-$program}"
 add python3 "$top/tests/mount_limits.py" "${sanitized:-$program}"
 add python3 "$top/tests/mount_records.py" "${sanitized:-$program}" "$files"

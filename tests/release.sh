@@ -111,7 +111,7 @@ for file in share/doc/blobcrash/NOTICE copyright; do
     ok "credit in $file" grep -q 'crates.io/crates/commonware-runtime' "$work/parts/$file"
 done
 ok 'that of the mount has the mount' grep -q '/blobcrash_mount$' "$work/parts/blobcrash-mount.files"
-ok 'that of the programs has none of it' sh -c '! grep -q "_mount$\|/mount$\|/mountctl$\|/crash_run$\|adapters" "$1"' sh "$work/parts/blobcrash.files"
+ok 'that of the programs has none of it' sh -c '! grep -q "_mount$\|/mount$\|/mountctl$\|/crash_run$\|/check_program$\|adapters" "$1"' sh "$work/parts/blobcrash.files"
 ok 'it has the tools in Python' sh -c 'grep -q "/tools/watch$" "$1" && grep -q "/blobcrash/states\.py$" "$1"' sh "$work/parts/blobcrash.files"
 ok 'and needs the library and Python' grep -qx 'Depends: libblobcrash0.3 (= .*), libc6 (>= 2\.[0-9]*), python3:any (>= 3\.8)' "$work/parts/blobcrash.control"
 dpkg-deb -x "$released"/blobcrash_*.deb "$work/only"

@@ -219,4 +219,5 @@ BLOBCRASH_LIBRARY=$work/none "$top/tools/shrink" "$work/script" sh "$work/check"
 ok 'without the library' sh -c 'grep -q "^seed 2" "$1" && grep -q "only lines are left out" "$2"' sh "$work/short" "$work/err"
 
 add python3 "$top/tests/shrunk.py"
+add python3 "$top/tests/files_shrunk.py"
 finish

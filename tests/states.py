@@ -335,6 +335,23 @@ def test_a_crash_in_the_record_keeps_what_it_kept():
     assert later == [] or all(b"a" not in state.content[0][2][8:] for state in later), later
 
 
+def test_files_after_the_last_settle():
+    """Of files the command tries crashes from the last `settle` on, unless a line is named."""
+    with tempfile.TemporaryDirectory() as work:
+        script = os.path.join(work, "run.script")
+        with open(script, "w", encoding="utf-8") as file:
+            file.write("seed 1\nprofile ext4\nmkdir /a\nsettle\n# a comment\nmkdir /b\nsettle\nmkdir /c\nmkdir /d\n")
+        check = ["--", "sh", "-c", 'echo "$(ls "$STATE" | tr -d "\\n")"']
+
+        def seen(*options):
+            return sorted(command("--files", *options, script, *check).stdout.splitlines()[:-1])
+
+        assert seen() == ["ab", "abc", "abc", "abcd"] or seen() == ["ab", "abc", "abcd"], seen()
+        assert "" in seen("--from", "0") and seen("--from", "0") == seen("--since", "0"), seen("--from", "0")
+        assert seen("--from", "3") == sorted({"a", "ab", *seen()}), seen("--from", "3")
+        assert seen("--at", "0") == [""], seen("--at", "0")
+
+
 def command(*words):
     words = [sys.executable, f"{TOP}/tools/states", *words]
     return subprocess.run(words, stdout=subprocess.PIPE, stderr=subprocess.PIPE, text=True, check=False)

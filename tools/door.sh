@@ -226,7 +226,8 @@ door() {
         ;;
     page) run_tool crash_page "$@" ;;
     crash-run) run_tool crash_run "$@" ;;
-    diagnose | mount | mountctl | crash_run | judge | shrink | check) run_tool "$command" "$@" ;;
+    check-program) run_tool check_program "$@" ;;
+    diagnose | mount | mountctl | crash_run | check_program | judge | shrink | check) run_tool "$command" "$@" ;;
     build) door_of_build "$@" ;;
     completion)
         case $#:${1:-} in 1:bash | 1:zsh | 1:fish) completion "$1" && exit ;; *) refuse '`completion` needs the name of a shell' 'completion bash|zsh|fish' ;; esac

@@ -26,8 +26,10 @@ mkdir -p "$out" "$top/out"
 lock mount
 if ! is_current; then
     : >"$out/began"
+    # A compiler that is stopped may leave its files, which go with this folder.
+    work=$(mktemp -d)
     # shellcheck disable=SC2046,SC2086
-    run "$compiler" -std=c11 -D_XOPEN_SOURCE=700 -O2 -g -Wall -Wextra -Werror "-I$top/bindings/c" "-I$here/../common" ${CFLAGS:-} \
+    run env "TMPDIR=$work" "$compiler" -std=c11 -D_XOPEN_SOURCE=700 -O2 -g -Wall -Wextra -Werror "-I$top/bindings/c" "-I$here/../common" ${CFLAGS:-} \
         $(pkg-config --cflags fuse3) -o "$program.new" "$here"/*.c "$here/../common/disk.c" "$here/../common/record.c" "$archive" ${FUSE_LIBS:-$(pkg-config --libs fuse3)} >&2 9>&-
     touch -r "$out/began" "$program.new" # a source may have changed since
     mv -f "$program.new" "$program"

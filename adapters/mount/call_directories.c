@@ -1,5 +1,6 @@
 /* Calls on open directories. */
 #include "calls.h"
+#include "failing.h"
 #include "layer.h"
 #include "power.h"
 
@@ -119,7 +120,7 @@ void call_fsyncdir(fuse_req_t req, fuse_ino_t id, int only_data, struct fuse_fil
     (void)only_data;
     struct node *node = call_begin(req, id, CALL_CHANGES);
     if (!node) return;
-    int error = EIO;
-    if (directory_of(info)->life == power.life) error = node->links > 0 ? layer_sync_directory(node->inode) : 0;
+    int error = directory_of(info)->life == power.life ? failing_error(node, FAILING_SYNC) : EIO;
+    if (!error) error = node->links > 0 ? layer_sync_directory(node->inode) : 0;
     fuse_reply_err(req, error);
 }

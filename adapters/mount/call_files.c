@@ -1,12 +1,15 @@
 /* Calls on open files. */
 #define _GNU_SOURCE
 #include "calls.h"
+#include "failing.h"
 #include "layer.h"
 #include "power.h"
 
 #include <errno.h>
 #include <fcntl.h>
 #include <stdlib.h>
+
+enum { COPIED_MOST = 1 << 20 }; /* by one write of the layer */
 
 int call_truncate(struct node *node, uint64_t length) {
     if (!is_file(node)) return EINVAL;
@@ -51,7 +54,8 @@ void call_open(fuse_req_t req, fuse_ino_t id, struct fuse_file_info *info) {
     bool truncates = info->flags & O_TRUNC;
     struct node *node = call_begin(req, id, truncates ? CALL_CHANGES : CALL_READS);
     if (!node) return;
-    int error = truncates ? open_truncated(node) : node_open(node);
+    int error = failing_error(node, FAILING_OPEN);
+    if (!error) error = truncates ? open_truncated(node) : node_open(node);
     if (error) {
         fuse_reply_err(req, error);
         return;
@@ -108,17 +112,49 @@ void call_write(fuse_req_t req, fuse_ino_t id, const char *bytes, size_t size, o
     (void)info;
     struct node *node = call_begin(req, id, CALL_CHANGES);
     if (!node) return;
-    int error = write_at(node, (uint64_t)offset, bytes, size);
+    int error = failing_error(node, FAILING_WRITE);
+    if (!error) error = write_at(node, (uint64_t)offset, bytes, size);
     if (error)
         fuse_reply_err(req, error);
     else
         fuse_reply_write(req, size);
 }
 
+/* Copies bytes, each part as a read and a write. Returns in `done` how many. */
+static int copy(struct node *from, uint64_t offset, struct node *to, uint64_t to_offset, size_t len, size_t *done) {
+    char *bytes = malloc(COPIED_MOST);
+    int error = bytes ? node_open(from) : ENOMEM;
+    size_t got = 1;
+    for (*done = 0; !error && *done < len && got > 0; *done += got) {
+        size_t left = len - *done;
+        error = layer_read(from->descriptor, offset + *done, bytes, left < COPIED_MOST ? left : COPIED_MOST, &got);
+        if (!error && got > 0) error = write_at(to, to_offset + *done, bytes, got);
+        if (error) got = 0;
+    }
+    free(bytes);
+    return *done > 0 ? 0 : error;
+}
+
+void call_copy(fuse_req_t req, fuse_ino_t id, off_t offset, struct fuse_file_info *info, fuse_ino_t to_id, off_t to_offset,
+               struct fuse_file_info *to_info, size_t len, int flags) {
+    (void)info, (void)to_info, (void)flags;
+    struct node *to = call_begin(req, to_id, CALL_CHANGES), *from = to ? call_node(id) : NULL;
+    size_t done = 0;
+    if (!to) return;
+    int error = from ? failing_error(to, FAILING_WRITE) : EIO;
+    if (!error) error = copy(from, (uint64_t)offset, to, (uint64_t)to_offset, len, &done);
+    if (error)
+        fuse_reply_err(req, error);
+    else
+        fuse_reply_write(req, done);
+}
+
 void call_fsync(fuse_req_t req, fuse_ino_t id, int only_data, struct fuse_file_info *info) {
     (void)info;
     struct node *node = call_begin(req, id, CALL_CHANGES);
-    if (node) fuse_reply_err(req, node_sync(node, only_data));
+    if (!node) return;
+    int error = failing_error(node, FAILING_SYNC);
+    fuse_reply_err(req, error ? error : node_sync(node, only_data));
 }
 
 /* Writes zeros, up to the end of the file. */

@@ -1,6 +1,8 @@
 /* Calls on names. */
 #include "calls.h"
+#include "failing.h"
 #include "layer.h"
+#include "notes.h"
 
 #include <errno.h>
 #include <stdlib.h>
@@ -47,6 +49,7 @@ static struct node *make(fuse_req_t req, struct node *directory, const char *nam
     node->is_open = !S_ISDIR(mode);
     node_add(node, inode);
     node_name(node, directory->inode, name);
+    if (node->is_open) note_descriptor(node, node->descriptor);
     node_written(directory);
     if (S_ISDIR(mode)) directory->links++;
     return node;
@@ -78,6 +81,11 @@ void call_symlink(fuse_req_t req, const char *target, fuse_ino_t parent, const c
 
 void call_create(fuse_req_t req, fuse_ino_t parent, const char *name, mode_t mode, struct fuse_file_info *info) {
     struct node *directory = call_begin(req, parent, CALL_CHANGES_NAMES);
+    int error = directory ? failing_create_error(directory, name) : 0;
+    if (error) {
+        fuse_reply_err(req, error);
+        return;
+    }
     struct node *node = directory ? make(req, directory, name, S_IFREG | (mode & 07777), NULL) : NULL;
     if (!node) return;
     struct fuse_entry_param entry = call_entry(node);

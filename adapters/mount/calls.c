@@ -158,30 +158,17 @@ static void get_counts(fuse_req_t req, fuse_ino_t id) {
     fuse_reply_statfs(req, &found);
 }
 
-const struct fuse_lowlevel_ops calls = {
-    .init = begin,
-    .forget = forget,
-    .getattr = get_attributes,
-    .setattr = set_attributes,
-    .readlink = read_link,
-    .statfs = get_counts,
-    .lookup = call_lookup,
-    .mknod = call_mknod,
-    .mkdir = call_mkdir,
-    .symlink = call_symlink,
-    .create = call_create,
-    .link = call_link,
-    .unlink = call_unlink,
-    .rmdir = call_rmdir,
-    .rename = call_rename,
-    .opendir = call_opendir,
-    .readdir = call_readdir,
-    .releasedir = call_releasedir,
-    .fsyncdir = call_fsyncdir,
-    .open = call_open,
-    .release = call_release,
-    .read = call_read,
-    .write = call_write,
-    .fsync = call_fsync,
-    .fallocate = call_fallocate,
-};
+#define CALLS \
+    .init = begin, .forget = forget, .getattr = get_attributes, .setattr = set_attributes, .readlink = read_link, \
+    .statfs = get_counts, .lookup = call_lookup, .mknod = call_mknod, .mkdir = call_mkdir, \
+    .symlink = call_symlink, .create = call_create, .link = call_link, .unlink = call_unlink, .rmdir = call_rmdir, \
+    .rename = call_rename, .opendir = call_opendir, .readdir = call_readdir, .releasedir = call_releasedir, \
+    .fsyncdir = call_fsyncdir, .open = call_open, .release = call_release, .read = call_read, .write = call_write, \
+    .fsync = call_fsync, .fallocate = call_fallocate, .copy_file_range = call_copy
+
+const struct fuse_lowlevel_ops calls_without_attributes = {CALLS};
+const struct fuse_lowlevel_ops calls = {CALLS,
+                                        .setxattr = call_set_attribute,
+                                        .getxattr = call_get_attribute,
+                                        .listxattr = call_list_attributes,
+                                        .removexattr = call_remove_attribute};

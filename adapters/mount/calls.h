@@ -7,8 +7,8 @@
 
 #include <fuse_lowlevel.h>
 
-/* All of them. */
-extern const struct fuse_lowlevel_ops calls;
+/* All of them, and all but those on extended attributes: with these the kernel asks for one before each write. */
+extern const struct fuse_lowlevel_ops calls, calls_without_attributes;
 
 /* What a call does to the disk. A change counts for the power. A change of names is in the layer until the next crash. */
 enum call_kind { CALL_READS, CALL_CHANGES, CALL_CHANGES_NAMES };
@@ -31,6 +31,12 @@ void call_reply_no_entry(fuse_req_t req);
 void call_reply_attributes(fuse_req_t req, const struct node *node);
 /* Returns an entry for the kernel. From then on the kernel knows the node. */
 struct fuse_entry_param call_entry(struct node *node);
+
+/* Extended attributes: call_attributes.c. */
+void call_set_attribute(fuse_req_t req, fuse_ino_t id, const char *name, const char *value, size_t size, int flags);
+void call_get_attribute(fuse_req_t req, fuse_ino_t id, const char *name, size_t size);
+void call_list_attributes(fuse_req_t req, fuse_ino_t id, size_t size);
+void call_remove_attribute(fuse_req_t req, fuse_ino_t id, const char *name);
 
 /* Names: call_names.c. */
 void call_lookup(fuse_req_t req, fuse_ino_t parent, const char *name);
@@ -58,6 +64,8 @@ void call_read(fuse_req_t req, fuse_ino_t id, size_t size, off_t offset, struct 
 void call_write(fuse_req_t req, fuse_ino_t id, const char *bytes, size_t size, off_t offset, struct fuse_file_info *info);
 void call_fsync(fuse_req_t req, fuse_ino_t id, int only_data, struct fuse_file_info *info);
 void call_fallocate(fuse_req_t req, fuse_ino_t id, int mode, off_t offset, off_t len, struct fuse_file_info *info);
+void call_copy(fuse_req_t req, fuse_ino_t id, off_t offset, struct fuse_file_info *info, fuse_ino_t to_id, off_t to_offset,
+               struct fuse_file_info *to_info, size_t len, int flags);
 /* Changes the length of a file, unsynced. */
 int call_truncate(struct node *node, uint64_t length);
 /* Fills what the kernel gets of an open. */

@@ -1,5 +1,7 @@
 #include "commands.h"
 
+#include "acknowledged.h"
+#include "failing.h"
 #include "layer.h"
 #include "nodes.h"
 #include "outside.h"
@@ -22,10 +24,10 @@ static void print_status(char *reply, size_t capacity) {
     snprintf(reply, capacity,
              "ok power %s life %" PRIu64 " calls %" PRIu64 " changing %" PRIu64 " bytes %" PRIu64 "/%" PRIu64 " files %" PRIu64
              "/%" PRIu64 " unsynced %" PRIu64 " names-changed %" PRIu64 "/%" PRIu64 " commits %" PRIu64 " write-backs %" PRIu64 " stale %" PRIu64
-             " record %s",
+             " acknowledged %" PRIu64 " record %s",
              power.is_off ? "off" : "on", power.life, power.calls, power.changing_calls, node_counts.bytes, node_limits.bytes,
              node_counts.files, node_limits.files, node_counts.unsynced, node_counts.changes, node_limits.changes,
-             power.commits, power.write_backs, power.stale_calls, record_state());
+             power.commits, power.write_backs, power.stale_calls, acknowledged_count(), record_state());
 }
 
 static int crash(char *reply, size_t capacity, pid_t *child) {
@@ -39,15 +41,34 @@ static int crash(char *reply, size_t capacity, pid_t *child) {
     return 0;
 }
 
-/* Lets the power go off after some changing calls. */
-static int crash_after(const char *text) {
+/* Reads a number, and the space after it if something follows. */
+static int read_number(const char **text, uint64_t *number) {
     char *end;
     errno = 0;
-    unsigned long long count = strtoull(text, &end, 10);
-    if (*text < '0' || *text > '9' || *end || errno) return EINVAL;
-    power.calls_left = count;
-    power.is_counting = count > 0;
-    if (count == 0) power.is_off = true;
+    if (**text < '0' || **text > '9') return EINVAL;
+    *number = strtoull(*text, &end, 10);
+    if (errno || (*end && (*end != ' ' || !end[1]))) return EINVAL;
+    *text = *end ? end + 1 : end;
+    return 0;
+}
+
+/* Lets the power go off after some changing calls, which may count from an acknowledgement on. */
+static int crash_after(const char *text) {
+    uint64_t calls, acknowledgement = 0;
+    int error = read_number(&text, &calls);
+    if (!error && *text) error = read_number(&text, &acknowledgement);
+    if (!error && *text) error = EINVAL;
+    if (!error) power_off_after(calls, acknowledgement);
+    return error;
+}
+
+/* Says how many changing calls came before an acknowledgement. */
+static int acknowledgement(const char *text, char *reply, size_t capacity) {
+    uint64_t number, calls;
+    int error = read_number(&text, &number);
+    if (error || *text) return EINVAL;
+    if (!acknowledged_after(number, &calls)) return ENOENT;
+    snprintf(reply, capacity, "ok %" PRIu64, calls);
     return 0;
 }
 
@@ -73,6 +94,7 @@ pid_t command_run(const char *line, char *reply, size_t capacity) {
     int error = 0;
     pid_t child = 0;
     snprintf(reply, capacity, "ok");
+    acknowledged_look();
     if (!strcmp(line, "status")) print_status(reply, capacity);
     else if (!strcmp(line, "settle")) error = nodes_settle();
     else if (!strcmp(line, "off")) power.is_off = true;
@@ -83,11 +105,14 @@ pid_t command_run(const char *line, char *reply, size_t capacity) {
     else if (begins(line, "record /")) error = begin_record(line + strlen("record "));
     else if (begins(line, "note ")) error = note(line + strlen("note "));
     else if (begins(line, "crash-after ")) error = crash_after(line + strlen("crash-after "));
+    else if (begins(line, "acknowledgement ")) error = acknowledgement(line + strlen("acknowledgement "), reply, capacity);
+    else if (begins(line, "fail ")) error = failing_set(line + strlen("fail "));
     else if (is_setting(line)) error = layer_set(line);
     else error = ENOSYS;
     if (error == ENOSYS) snprintf(reply, capacity, "error: no such command");
     else if (error == EALREADY) snprintf(reply, capacity, "error: too late: a record begins before the first change, as with --record");
     else if (error == EILSEQ) snprintf(reply, capacity, "error: a note is UTF-8 without control characters");
+    else if (error == ENOENT) snprintf(reply, capacity, "error: there is no such acknowledgement");
     else if (error) snprintf(reply, capacity, "error: %s", strerror(error));
     return error ? 0 : child;
 }

@@ -6,20 +6,18 @@ import random
 import shutil
 import signal
 import subprocess
-import tempfile
 import time
 
+import crash_points
 from interrupts import interruptible
-from mounting import Failed, Mount
+from mounting import Broken, Failed, Mount, plain_folder
 
 MOUNT_OPTIONS = ("profile", "tear", "keep", "size")
-VERDICTS = ("held", "lost", "damaged", "not started", "too slow")
+VERDICTS = ("held", "lost", "damaged", "not started", "too slow", "untested")
+# Those that are no failure.
+FINE = ("held", "untested")
 # The status of a check that finds damage.
 DAMAGED = 2
-
-
-class Broken(Exception):
-    """The commands fail without a crash, or there is no mount."""
 
 
 def processes():
@@ -76,17 +74,19 @@ class Run:
         self.crashes = 0
         other = ["--allow-other"] if options.allow_other else []
         words = [word for name in MOUNT_OPTIONS if getattr(options, name) for word in ("--" + name, getattr(options, name))]
-        self.mount = Mount(program, "--seed", str(seed), *other, *words)
-        self.folder = tempfile.mkdtemp(prefix="blobcrash-run-")
+        self.folder = plain_folder("blobcrash-run-")
+        acknowledged = os.path.join(self.folder, "acknowledged")
+        with open(acknowledged, "wb"):
+            pass
+        try:
+            self.mount = Mount(program, "--seed", str(seed), "--acknowledged", acknowledged, *other, *words)
+        except Failed:
+            shutil.rmtree(self.folder)
+            raise
         self.log = open(os.path.join(self.folder, "log"), "wb")
         if options.allow_other:
             os.chmod(self.mount.folder, 0o711)
-        self.environment = {**os.environ, "MOUNT": self.mount.at, "SEED": str(seed),
-                            "ACKNOWLEDGED": os.path.join(self.folder, "acknowledged")}
-        with open(self.environment["ACKNOWLEDGED"], "wb"):
-            pass
-        # How many bytes of that file the record has, as comments.
-        self.noted = 0
+        self.environment = {**os.environ, "MOUNT": self.mount.at, "SEED": str(seed), "ACKNOWLEDGED": acknowledged}
 
     def command(self, name):
         """Runs a command, until it ends or the power goes off. Returns its status, or None: the power is off, or `too slow`."""
@@ -100,28 +100,12 @@ class Run:
         until = time.monotonic() + self.options.timeout
         while True:
             try:
-                status = process.wait(0.004)
-                self.note_acknowledged()
-                return status
+                return process.wait(0.004)
             except subprocess.TimeoutExpired:
-                self.note_acknowledged()
                 if self.mount.control.is_off():
                     return None
                 if time.monotonic() > until:
                     return "too slow"
-
-    def note_acknowledged(self):
-        """Adds what was acknowledged meanwhile to the record, for `blobcrash diagnose`. It may come after calls that followed it."""
-        if self.options.no_record or self.crashes:
-            return
-        with open(self.environment["ACKNOWLEDGED"], "rb") as file:
-            file.seek(self.noted)
-            lines = file.read().splitlines(keepends=True)
-        for line in lines:
-            if line.endswith(b"\n"):
-                self.noted += len(line)
-                with contextlib.suppress(Failed, UnicodeDecodeError):
-                    self.mount.ask(f"note acknowledged {line[:-1].decode()}")
 
     def prepare(self):
         """Makes what is durable before the program starts."""
@@ -140,6 +124,7 @@ class Run:
         calm = {"config write": f"config write 0 1 {kept}", "config resize": "config resize 0 1 0 1",
                 "failed_sync": "failed_sync keeps", "syncs": "syncs honest", "failed_write": "failed_write mode",
                 "edits": f"profile {self.options.profile or 'ext4'}"}
+        calm["fail"] = "fail none"
         for fault in self.options.fault:
             words = fault.split()
             kind = " ".join(words[:2]) if words[0] == "config" else words[0]
@@ -149,7 +134,6 @@ class Run:
         """Kills what runs, and crashes."""
         self.mount.ask("off")
         kill_started(self.mount.daemon.pid, 0.2)
-        self.note_acknowledged()
         self.mount.ask("crash")
         if not kill_started(self.mount.daemon.pid, 20):
             raise Broken("a process can't be killed")
@@ -170,27 +154,48 @@ class Run:
         return int(self.mount.control.status()["changing"])
 
     def measure(self):
-        """Runs without a crash. Returns how many changing calls the start and the workload make."""
+        """Runs without a crash. Returns the counts from which the crash points are drawn (crash_points.py)."""
         self.prepare()
         before = self.changing_calls()
         for name in ("start", "work"):
-            status = self.command(name)
-            if status != 0:
-                raise Broken(f"--{name} without a crash: {status}{self.tail()}")
+            self.succeed(name)
         calls = self.changing_calls() - before
-        status = self.command("check")
-        if status != 0:
-            raise Broken(f"--check without a crash: {status}{self.tail()}")
+        self.succeed("check")
         if not calls:
             raise Broken("--start and --work change nothing, so that there is no call after which the power could go off")
-        return calls
+        line, place = self.options.after_acknowledgement or 1, None
+        with contextlib.suppress(Failed):
+            place = max(int(self.mount.ask(f"acknowledgement {line}")) - before, 0)
+        return {"calls": calls, "acknowledged": self.acknowledged(), "before": place}
 
-    def judge(self, calls):
+    def record(self):
+        """Runs without a crash, recorded, into the folder of --out. Returns the counts."""
+        os.makedirs(self.options.out, exist_ok=True)
+        record = os.path.join(self.folder, "record")
+        self.mount.ask(f"record {record}")
+        self.prepare()
+        before = self.changing_calls()
+        for name in ("start", "work"):
+            self.succeed(name)
+        calls = self.changing_calls() - before
+        self.mount.ask("record stop")
+        self.succeed("check")
+        path = os.path.join(self.options.out, "run.script")
+        shutil.copyfile(record, path)
+        return {"record": path, "calls": calls, "acknowledged": self.acknowledged()}
+
+    def succeed(self, name):
+        """Runs a command that has to succeed, since there was no crash."""
+        status = self.command(name)
+        if status != 0:
+            raise Broken(f"--{name} without a crash: {status}{self.tail()}")
+
+    def judge(self):
         """Crashes, recovers and checks. Returns the verdict."""
         if not self.options.no_record:
             self.mount.ask(f"record {self.folder}/record")
         self.prepare()
-        self.mount.ask(f"crash-after {self.random.randint(1, calls)}")
+        self.mount.ask(crash_points.command(self.options, self.random))
         for fault in self.options.fault:
             self.mount.ask(fault)
         if self.command("start") == 0:
@@ -199,7 +204,7 @@ class Run:
         self.end_faults()
         self.keep()
         if self.random.random() < 1 / 3:
-            self.mount.ask(f"crash-after {self.random.randint(1, max(calls // 4, 4))}")
+            self.mount.ask(f"crash-after {self.random.randint(1, max(self.options.stop_after // 4, 4))}")
             verdict = self.recover()
             if verdict is not None and verdict != "held":
                 return verdict
@@ -249,17 +254,17 @@ class Run:
             shutil.rmtree(self.folder, ignore_errors=True)
 
 
-def measure(options, program):
-    """Runs the first seed without a crash. Returns how many changing calls it makes."""
+def without_a_crash(options, program):
+    """Runs the first seed without a crash, to measure or to record it. Returns its counts."""
     run = Run(options, program, options.first)
     try:
         with interruptible():
-            return run.measure()
+            return run.record() if options.one == "record" else run.measure()
     finally:
         run.close()
 
 
-def judge(options, program, calls):
+def judge(options, program):
     """
     Runs the first seed. Returns its verdict, its crashes, its acknowledged operations, the end of its log, and the folder that has
     what is kept of a failure.
@@ -267,8 +272,10 @@ def judge(options, program, calls):
     run, kept, tail = Run(options, program, options.first), None, ""
     try:
         with interruptible():
-            verdict, acknowledged = run.judge(calls), run.acknowledged()
-        if verdict != "held":
+            verdict, acknowledged = run.judge(), run.acknowledged()
+        if verdict == "held" and not acknowledged:
+            verdict = "untested"
+        if verdict not in FINE:
             os.makedirs(options.out, exist_ok=True)
             kept, tail = os.path.join(options.out, f"seed-{options.first}"), run.tail()
     finally:

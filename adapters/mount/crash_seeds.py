@@ -1,35 +1,4 @@
-"""
-tools/crash_run --work CMD --check CMD [options]: crashes a program on a mount, once or twice for each seed, and checks what is left.
-
-For each seed: a new mount; CMD of --prepare, after which everything is durable; CMD of --start, then CMD of --work, until the power
-goes off after a call that the seed draws. What runs is killed, the layer crashes, and the program is started again and checked. In
-a third of the seeds the power goes off in that recovery too.
-
-  --seeds N          how many seeds (20)
-  --first N          the first of them (1)
-  --jobs N           how many of them run at once (1)
-  --prepare CMD      makes what is durable before the program starts
-  --from FOLDER      copies a folder in before that
-  --start CMD        starts the program, and returns when it serves; not needed if the other commands do that
-  --work CMD         the workload. It acknowledges by lines in the file $ACKNOWLEDGED, which is outside the mount
-  --check CMD        exits with 0 if all that was acknowledged is found, 2 if what is found is damaged, otherwise with 1
-  --fault SETTING    faults from the start of the program until the first crash, such as 'config sync 1 12', one sync of 12 fails;
-                     any setting of tools/mountctl. May be repeated
-  --stop-after N     the power goes off after one of the first N changing calls (as many as a run without a crash makes)
-  --timeout SECONDS  how long a command may take (60)
-  --out FOLDER       where failures are kept (out/crash_run)
-  --no-record        doesn't record the runs
-  --diagnose         names the sync that the first failing seed lacks, by `blobcrash diagnose`; not with --start
-  --json             prints JSON, an object a line: one for each failure, and one at the end
-  --profile, --tear, --keep, --size, --allow-other   as for tools/mount
-
-A command is run by sh in this folder, with MOUNT, the folder of the mount, ACKNOWLEDGED and SEED in the environment.
-Exit statuses: 0 if nothing failed; 1 if a seed failed; 2 for bad options, if the check fails without a crash, or if the start and the
-workload change nothing; 3 without FUSE; 130 after Ctrl-C, with the counts so far. A terminal shows how far it is.
-
-From Python: `main(words, executor)` of this module with the words of a command line and an executor of `concurrent.futures`, which may
-be that of a cluster: each seed is a process of its own on one of its workers. The repository has the same path on each of them.
-"""
+"""tools/crash_run: takes a program through the seeds, each in a process of its own. crash_options.py has the options."""
 
 import argparse
 import ctypes
@@ -42,59 +11,19 @@ import sys
 import threading
 from concurrent.futures import ThreadPoolExecutor
 
+import crash_options
 import interrupts
-from crash_runs import MOUNT_OPTIONS, VERDICTS, Broken, judge, measure
-from mounting import Failed
+from crash_options import TOP, of_seed, parse
+from crash_points import Points
+from crash_runs import FINE, VERDICTS, judge, without_a_crash
+from crash_swarm import drawn
+from losses import described
+from mounting import Broken, Failed
 
-TOP = os.path.dirname(os.path.dirname(os.path.dirname(os.path.realpath(__file__))))
-# Where failures are kept: an installed tool keeps them in the current folder.
-KEPT = os.path.join(TOP if os.path.isdir(os.path.join(TOP, "crates")) else os.getcwd(), "out", "crash_run")
 DIAGNOSE = os.path.join(TOP, "tools", "diagnose")
 TOOL = os.path.join(TOP, "tools", "crash_run")
-PROGRAM = shlex.quote(os.path.join(TOP, "blobcrash")) if os.path.isdir(os.path.join(TOP, "crates")) else "blobcrash"
+PROGRAM = os.path.join(TOP, "blobcrash") if os.path.isdir(os.path.join(TOP, "crates")) else "blobcrash"
 SET_CHILD_SUBREAPER = 36
-
-
-def parse(words):
-    """Returns the options."""
-    parser = argparse.ArgumentParser(prog="crash_run", usage=__doc__.strip(), add_help=False, allow_abbrev=False)
-    parser.add_argument("--seeds", type=int, default=20)
-    parser.add_argument("--first", type=int, default=1)
-    parser.add_argument("--from", dest="from_folder")
-    parser.add_argument("--jobs", type=int, default=1)
-    parser.add_argument("--stop-after", type=int)
-    parser.add_argument("--timeout", type=float, default=60)
-    parser.add_argument("--out", default=KEPT)
-    parser.add_argument("--allow-other", action="store_true")
-    parser.add_argument("--fault", action="append", default=[])
-    parser.add_argument("--no-record", action="store_true")
-    parser.add_argument("--json", action="store_true")
-    parser.add_argument("--diagnose", action="store_true")
-    for name in ("prepare", "start", *MOUNT_OPTIONS):
-        parser.add_argument("--" + name)
-    for name in ("work", "check"):
-        parser.add_argument("--" + name, required=True)
-    parser.add_argument("--one", choices=("measure", "judge"), help=argparse.SUPPRESS)  # by a worker: one seed, with a line of JSON
-    options = parser.parse_args(words)
-    if options.seeds < 1 or options.first < 0 or options.jobs < 1 or (options.stop_after is not None and options.stop_after < 1):
-        parser.error("--seeds, --jobs and --stop-after are at least 1, and --first at least 0")
-    if options.diagnose and (options.start or options.no_record):
-        parser.error("--diagnose needs a record, and a check without --start")
-    return options
-
-
-def of_seed(words, seed, calls):
-    """Returns the words of a command line for one seed."""
-    kept, skips = [], False
-    for word in words:
-        name = word.split("=")[0]
-        if word == "--diagnose":
-            continue
-        if skips or name in ("--seeds", "--first", "--stop-after", "--jobs"):
-            skips = not skips and "=" not in word
-        else:
-            kept.append(word)
-    return ["--first", str(seed), "--seeds", "1", *([] if calls is None else ["--stop-after", str(calls)]), *kept]
 
 
 def run_one(options):
@@ -102,7 +31,7 @@ def run_one(options):
     ctypes.CDLL(None).prctl(SET_CHILD_SUBREAPER, 1, 0, 0, 0)  # the parent of all orphans that come from it
     try:
         built = program()
-        result = {"calls": measure(options, built)} if options.one == "measure" else judge(options, built, options.stop_after)
+        result = (judge if options.one == "judge" else without_a_crash)(options, built)
     except (Broken, Failed) as error:
         result = {"error": str(error)}
     except KeyboardInterrupt:
@@ -175,43 +104,66 @@ def result_of(task):
     return result
 
 
-def judge_all(executor, words, seeds, calls, at_once):
+def judge_all(executor, words_of, seeds, at_once):
     """Yields each seed with its result, in order. At most so many are under way or wait for their turn."""
     waiting, tasks = iter(seeds), {}
     for seed in seeds:
         for next_one in itertools.islice(waiting, max(0, at_once - len(tasks))):
-            tasks[next_one] = start(executor, of_seed(words, next_one, calls), "judge")
+            tasks[next_one] = start(executor, words_of(next_one), "judge")
         yield seed, result_of(tasks.pop(seed))
 
 
 class Totals:
-    """What the seeds so far came to."""
+    """What the seeds of a row of the table so far came to."""
 
-    def __init__(self, options, words, progress):
-        self.options, self.words, self.progress = options, words, progress
+    def __init__(self, options, words, progress, points=None):
+        self.options, self.words, self.progress, self.points = options, words, progress, points
         self.counts = dict.fromkeys(VERDICTS, 0)
         self.crashes = self.acknowledged = 0
-        self.calls = options.stop_after
         self.is_diagnosed = not options.diagnose
 
     def __str__(self):
-        number = sum(self.counts.values())
-        return f"{number} of {self.options.seeds} seeds, {number - self.counts['held']} failed"
+        return f"{sum(self.counts.values())} of {self.options.seeds} seeds{self.where}, {self.failed} failed"
+
+    @property
+    def where(self):
+        """The profile, if there are several."""
+        return f" on {self.options.profile}" if self.options.profiles else ""
+
+    @property
+    def failed(self):
+        """How many failed."""
+        return sum(count for verdict, count in self.counts.items() if verdict not in FINE)
+
+    def measure(self, executor):
+        """Runs without a crash."""
+        options = self.options
+        points = [word for name in ("stop_after", "from_call", "after_acknowledgement") if getattr(options, name) is not None
+                  for word in ("--" + name.replace("_", "-"), str(getattr(options, name)))]
+        self.points = Points(options, result_of(start(executor, of_seed(self.words, options.first, points), "measure")))
+
+    def drawn(self, seed):
+        """Returns the words that --swarm draws."""
+        return drawn(self.options, seed) if self.options.swarm else []
+
+    def words_of(self, seed):
+        """Returns the words that run one seed."""
+        return of_seed(self.words, seed, [*self.points.words(seed), *self.drawn(seed)])
 
     def run(self, executor, at_once):
         """Runs the seeds."""
         options = self.options
-        if self.calls is None:
-            self.calls = result_of(start(executor, of_seed(self.words, options.first, None), "measure"))["calls"]
+        if not self.points:
+            self.measure(executor)
         seeds = range(options.first, options.first + options.seeds)
-        for seed, result in judge_all(executor, self.words, seeds, self.calls, at_once):
+        for seed, result in judge_all(executor, self.words_of, seeds, at_once):
             self.counts[result["verdict"]] += 1
             self.crashes += result["crashes"]
             self.acknowledged += result["acknowledged"]
-            if result["kept"]:
+            if result["kept"] or (options.swarm and not options.json):
                 self.progress.clear()
-                (self.print_json if options.json else self.print_failure)(seed, result)
-                if not self.is_diagnosed:
+                (self.print_json if options.json else self.print_seed)(seed, result)
+                if result["kept"] and not self.is_diagnosed:
                     self.is_diagnosed = True
                     json_too = ["--json"] if options.json else []
                     subprocess.run([DIAGNOSE, *json_too, *self.diagnosed(seed, result)], stdin=subprocess.DEVNULL, check=False)
@@ -220,7 +172,7 @@ class Totals:
     def again(self, seed):
         """Returns the command that runs a seed again."""
         tool = os.path.relpath(TOOL) if os.path.samefile(TOP, ".") else TOOL
-        return shlex.join([tool, *of_seed(self.words, seed, self.calls)])
+        return shlex.join([tool, *self.words_of(seed)])
 
     def diagnosed(self, seed, result):
         """Returns the words by which `blobcrash diagnose` checks what is in STATE as on the mount."""
@@ -228,32 +180,59 @@ class Totals:
         out = os.path.join(result["kept"], "diagnosis")
         return ["--out", out, os.path.join(result["kept"], "run.script"), "--", "sh", "-c", check]
 
-    def print_failure(self, seed, result):
-        """Prints a failure, with the commands that replay, diagnose and repeat it."""
-        print(f"seed {seed}: {result['verdict']}{result['tail']}", flush=True)
-        if os.path.exists(os.path.join(result["kept"], "tree")):
-            print(f"  the durable tree: {result['kept']}/tree", flush=True)
-        script = os.path.join(result["kept"], "run.script")
-        if os.path.exists(script):
-            print(f"  replay: (cat {shlex.quote(script)}; echo tree) | {PROGRAM} files | tail -n 1", flush=True)
-            if not self.options.start:
-                print(f"  diagnose: {PROGRAM} diagnose {shlex.join(self.diagnosed(seed, result))}", flush=True)
-        print(f"  again: {self.again(seed)}", flush=True)
+    def status(self):
+        """Returns the exit status. If no acknowledgement was tested, says so."""
+        if self.counts["untested"] == self.options.seeds:
+            why = "a seed" if self.points.acknowledges else "--work, which writes nothing to $ACKNOWLEDGED"
+            print(f"crash_run: no acknowledgement was tested by {why}{self.where}", file=sys.stderr)
+            return 2 if self.points.acknowledges else 0
+        return int(self.failed > 0)
+
+    def print_seed(self, seed, result):
+        """Prints a failure, with what it lost and the commands that replay and repeat it. Of other seeds only what was drawn."""
+        words = f" ({shlex.join(self.drawn(seed))})" if self.options.swarm else ""
+        lines = [f"seed {seed}{self.where}: {result['verdict']}{words}{result['tail']}"]
+        if result["kept"]:
+            script = os.path.join(result["kept"], "run.script")
+            for title, found in zip(("what the crash lost:", "the last calls before it:"), described(PROGRAM, script)):
+                lines += [f"  {title}", *(f"    {line}" for line in found)] if found else []
+            if os.path.exists(os.path.join(result["kept"], "tree")):
+                lines.append(f"  the durable tree: {result['kept']}/tree")
+            if os.path.exists(script):
+                lines.append(f"  replay: (cat {shlex.quote(script)}; echo tree) | {shlex.quote(PROGRAM)} files | tail -n 1")
+                if not self.options.start:
+                    lines.append(f"  diagnose: {shlex.quote(PROGRAM)} diagnose {shlex.join(self.diagnosed(seed, result))}")
+            lines.append(f"  again: {self.again(seed)}")
+        print("\n".join(lines), flush=True)
 
     def print_json(self, seed, result):
         """Prints a failure as an object."""
-        print(json.dumps({"seed": seed, "verdict": result["verdict"], "kept": result["kept"], "again": self.again(seed)}), flush=True)
+        lost, calls = described(PROGRAM, os.path.join(result["kept"], "run.script"))
+        about = {"profile": self.options.profile} if self.options.profiles else {"drawn": self.drawn(seed)} if self.options.swarm else {}
+        print(json.dumps({"seed": seed, "verdict": result["verdict"], "kept": result["kept"], "again": self.again(seed), "lost": lost,
+                          "calls": calls, **about}), flush=True)
 
-    def print_totals(self):
-        """Prints the table of all seeds, or an object."""
+    def print_row(self, is_first):
+        """Prints the row of the table of all seeds, the first one with the names above it, or an object."""
         options = self.options
-        row = {"profile": options.profile or "ext4", "seeds": options.seeds, "calls": self.calls, "crashes": self.crashes,
+        profile = "swarm" if options.swarm else options.profile or "ext4"
+        row = {"profile": profile, "seeds": options.seeds, "calls": options.stop_after or self.points.calls, "crashes": self.crashes,
                "acknowledged": self.acknowledged, **self.counts}
         if options.json:
-            print(json.dumps(row))
+            print(json.dumps(row), flush=True)
             return
-        print(f"| {' | '.join(row)} |\n|---|{'---|' * (len(row) - 1)}")
-        print("| " + " | ".join(map(str, row.values())) + " |")
+        if is_first:
+            print(f"| {' | '.join(row)} |\n|---|{'---|' * (len(row) - 1)}")
+        print("| " + " | ".join(map(str, row.values())) + " |", flush=True)
+
+
+def rows_of(options, words):
+    """Returns the options and the words of each row: one, or one for each profile, whose failures are kept below --out."""
+    rows = []
+    for profile in options.profiles or []:
+        more = ["--profile", profile, "--out", os.path.join(options.out, profile)]
+        rows.append((argparse.Namespace(**{**vars(options), "profile": profile}), [*words, *more]))
+    return rows or [(options, words)]
 
 
 def progress_line():
@@ -264,10 +243,16 @@ def progress_line():
     return Progress("crash_run")
 
 
+def print_record(made):
+    """Says where a record is. Returns the status."""
+    print(f"the record: {made['record']}, {made['calls']} changing calls, {made['acknowledged']} acknowledgements", flush=True)
+    return 0
+
+
 def main(words, executor=None):
     """Runs all. Returns the exit status."""
     if words in (["--help"], ["-h"]):
-        print(__doc__.strip())
+        print(crash_options.__doc__.strip())
         return 0
     options = parse(words)
     interrupts.install()
@@ -275,22 +260,32 @@ def main(words, executor=None):
         return run_one(options)
     own = Workers(options.jobs) if executor is None else None
     at_once = options.jobs if own else 2 * (getattr(executor, "_max_workers", None) or 64)
-    totals = Totals(options, words, progress_line())
+    progress, points, status = progress_line(), None, 0
+    totals = Totals(options, words, progress)
     try:
         program()
-        with interrupts.interruptible():
-            totals.run(own or executor, at_once)
+        if options.record_only:
+            with interrupts.interruptible():
+                return print_record(result_of(start(own or executor, of_seed(words, options.first, []), "record")))
+        for number, (of_row, words_of_row) in enumerate(rows_of(options, words)):
+            totals = Totals(of_row, words_of_row, progress, points)
+            with interrupts.interruptible():
+                totals.run(own or executor, at_once)
+            points = totals.points
+            progress.clear()
+            totals.print_row(number == 0)
+            status = max(status, totals.status())
     except (Broken, Failed) as error:
         print(f"crash_run: {error}", file=sys.stderr)
         return 3 if "docker run" in str(error) or "fusermount3" in str(error) else 2
     except KeyboardInterrupt:
         done = sum(totals.counts.values())
-        totals.progress.tell(f"interrupted after {totals}. To go on: --first {options.first + done} --seeds {options.seeds - done}")
+        where = f" --profile {totals.options.profile}" if options.profiles else ""
+        progress.tell(f"interrupted after {totals}. To go on: --first {options.first + done} --seeds {options.seeds - done}{where}")
         return 130
     finally:
-        totals.progress.clear()
+        progress.clear()
         if own:
             own.end()
             own.shutdown()
-    totals.print_totals()
-    return int(totals.counts["held"] != options.seeds)
+    return status

@@ -3,6 +3,7 @@
  * it. Options: usage_text. Exit statuses: 0; 1 if the mount fails; 2 for a bad option; 3 if FUSE or the right to mount is missing.
  */
 #define _GNU_SOURCE
+#include "acknowledged.h"
 #include "calls.h"
 #include "commands.h"
 #include "control.h"
@@ -29,13 +30,13 @@ enum { FAILED = 1, BAD_OPTION = 2, NO_FUSE = 3 };
 
 static const char usage_text[] =
     "usage: blobcrash_mount DIR --control SOCKET [--seed N] [--profile ext4|xfs|btrfs|posix] [--tear prefix|subset|sectorsN]\n"
-    "                       [--keep N/D] [--size BYTES] [--changes N] [--record FILE] [--fifo FIFO] [--fifo-completed FIFO] [--log FILE]\n"
-    "                       [--allow-other] [--foreground]";
+    "                       [--keep N/D] [--size BYTES] [--changes N] [--record FILE] [--acknowledged FILE] [--fifo FIFO]\n"
+    "                       [--fifo-completed FIFO] [--log FILE] [--attributes] [--allow-other] [--foreground]";
 
 static struct {
-    const char *directory, *control, *seed, *profile, *tear, *keep, *record, *fifo, *completed, *log;
+    const char *directory, *control, *seed, *profile, *tear, *keep, *record, *acknowledged, *fifo, *completed, *log;
     uint64_t size, changes;
-    bool allows_other, stays;
+    bool has_attributes, allows_other, stays;
 } options = {.seed = "1", .profile = "ext4", .tear = "sectors512", .keep = "1/2"};
 
 static void end(int status, const char *format, ...) {
@@ -78,7 +79,8 @@ static void read_options(int count, char **words) {
         {"keep", required_argument, NULL, 'k'},    {"size", required_argument, NULL, 'z'},
         {"fifo", required_argument, NULL, 'F'},    {"fifo-completed", required_argument, NULL, 'C'},
         {"log", required_argument, NULL, 'l'},     {"record", required_argument, NULL, 'r'},
-        {"changes", required_argument, NULL, 'n'}, {"allow-other", no_argument, NULL, 'o'},
+        {"changes", required_argument, NULL, 'n'}, {"acknowledged", required_argument, NULL, 'a'},
+        {"attributes", no_argument, NULL, 'x'},    {"allow-other", no_argument, NULL, 'o'},
         {"foreground", no_argument, NULL, 'f'},    {NULL, 0, NULL, 0}};
     for (int option; (option = getopt_long(count, words, "", names, NULL)) != -1;) {
         switch (option) {
@@ -93,6 +95,8 @@ static void read_options(int count, char **words) {
         case 'C': options.completed = optarg; break;
         case 'l': options.log = optarg; break;
         case 'r': options.record = optarg; break;
+        case 'a': options.acknowledged = optarg; break;
+        case 'x': options.has_attributes = true; break;
         case 'o': options.allows_other = true; break;
         case 'f': options.stays = true; break;
         default: end(BAD_OPTION, "%s", usage_text);
@@ -134,13 +138,18 @@ static void begin_layer(void) {
     if (nodes_begin(getuid(), getgid())) end(FAILED, "no memory");
     error = options.record ? record_begin(options.record) : 0;
     if (error) end(FAILED, "--record %s: %s", options.record, strerror(error));
+    error = options.acknowledged ? acknowledged_begin(options.acknowledged) : 0;
+    if (error) end(FAILED, "--acknowledged %s: %s", options.acknowledged, strerror(error));
 }
 
 /* Says what is missing for a mount, in one line. */
 static void need_fuse(void) {
+    static const char help[] = "in a container: docker run --device /dev/fuse --cap-add SYS_ADMIN";
     int fd = open("/dev/fuse", O_RDWR | O_CLOEXEC);
-    if (fd < 0)
-        end(NO_FUSE, "/dev/fuse: %s. In a container: docker run --device /dev/fuse --cap-add SYS_ADMIN", strerror(errno));
+    if (fd < 0 && (errno == EACCES || errno == EPERM)) end(NO_FUSE, "no right to open /dev/fuse; %s", help);
+    if (fd < 0 && (errno == ENOENT || errno == ENODEV || errno == ENXIO))
+        end(NO_FUSE, "there is no /dev/fuse: load the kernel's module fuse; %s", help);
+    if (fd < 0) end(NO_FUSE, "/dev/fuse: %s; %s", strerror(errno), help);
     close(fd);
 }
 
@@ -154,7 +163,8 @@ static struct fuse_session *mount_it(char *name) {
     char *words[] = {name, "-o", options.allows_other ? "default_permissions,fsname=blobcrash,subtype=blobcrash,allow_other"
                                                       : "default_permissions,fsname=blobcrash,subtype=blobcrash", NULL};
     struct fuse_args arguments = FUSE_ARGS_INIT(3, words);
-    struct fuse_session *session = fuse_session_new(&arguments, &calls, sizeof calls, NULL);
+    const struct fuse_lowlevel_ops *table = options.has_attributes ? &calls : &calls_without_attributes;
+    struct fuse_session *session = fuse_session_new(&arguments, table, sizeof *table, NULL);
     if (!session || fuse_set_signal_handlers(session)) end(FAILED, "no session");
     if (fuse_session_mount(session, options.directory)) {
         end_paths();
@@ -190,6 +200,7 @@ int main(int count, char **words) {
     if (options.stays && prctl(PR_SET_PDEATHSIG, SIGTERM)) end(FAILED, "the foreground: %s", strerror(errno));
     if (!options.stays && daemon(0, 0)) end(FAILED, "the background: %s", strerror(errno));
     error = serve(session);
+    acknowledged_look();
     record_end();
     fuse_session_unmount(session);
     end_paths();

@@ -3,6 +3,7 @@
 import contextlib
 import hashlib
 import os
+import re
 import shutil
 import socket
 import stat
@@ -41,6 +42,18 @@ def socket_of(directory):
     """Returns the path of the control socket of a mount, unless --control names another."""
     name = hashlib.sha256(os.fsencode(whole_path(directory))).hexdigest()[:16]
     return os.path.join(socket_folder(), name + ".socket")
+
+
+class Broken(Exception):
+    """The commands fail without a crash, or there is no mount."""
+
+
+def plain_folder(prefix):
+    """Makes a temporary folder. Its path has no character for which a shell would need quotes, whatever TMPDIR is."""
+    for place in (tempfile.gettempdir(), "/tmp", "/var/tmp"):
+        if re.fullmatch("[A-Za-z0-9_./+-]+", place) and os.access(place, os.W_OK | os.X_OK):
+            return tempfile.mkdtemp(prefix=prefix, dir=place)
+    raise Failed("no folder for temporary files has a path without spaces: set TMPDIR")
 
 
 class Control:
@@ -106,7 +119,7 @@ class Mount:
     """A mount on a new folder, with a daemon in the foreground that ends with it."""
 
     def __init__(self, program, *options):
-        self.folder = tempfile.mkdtemp(prefix="blobcrash-mount-")
+        self.folder = plain_folder("blobcrash-mount-")
         self.at = os.path.join(self.folder, "mount")
         os.mkdir(self.at)
         self.control = None

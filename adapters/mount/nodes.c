@@ -1,6 +1,7 @@
 #include "nodes.h"
 
 #include "layer.h"
+#include "notes.h"
 #include "power.h"
 
 #include <errno.h>
@@ -70,7 +71,16 @@ void node_add(struct node *node, uint64_t inode) {
     node_counts.files++;
 }
 
+void attribute_free(struct attribute *attribute) {
+    if (attribute) free(attribute->name);
+    free(attribute);
+}
+
 void node_free(struct node *node) {
+    for (struct attribute *at = node->attributes, *next; at; at = next) {
+        next = at->next;
+        attribute_free(at);
+    }
     free(node->target);
     free(node->name);
     free(node);
@@ -123,12 +133,14 @@ int node_open(struct node *node) {
     if (node->is_open) return 0;
     int error = layer_open(node->inode, &node->descriptor);
     node->is_open = error == 0;
+    if (!error) note_descriptor(node, node->descriptor);
     return error;
 }
 
 int node_open_truncated(struct node *node) {
     int error = layer_open_truncated(node->inode, &node->truncated);
     node->is_truncated = error == 0;
+    if (!error) note_descriptor(node, node->truncated);
     return error;
 }
 

@@ -13,6 +13,14 @@
 #include <sys/types.h>
 #include <time.h>
 
+/* An extended attribute. */
+struct attribute {
+    struct attribute *next;
+    char *name;
+    size_t size;
+    char value[];
+};
+
 struct node {
     uint64_t inode;
     mode_t mode; /* with the kind */
@@ -21,6 +29,7 @@ struct node {
     dev_t device;
     struct timespec read_at, written_at, changed_at;
     char *target;
+    struct attribute *attributes;
     uint64_t links;   /* names of a file; 2 and the directories in it of a directory */
     uint64_t opens;   /* by programs */
     uint64_t lookups; /* how often the kernel got its number in this life, less what it forgot */
@@ -70,6 +79,8 @@ struct node *nodes_find(uint64_t inode);
 struct node *node_new(mode_t mode, uid_t owner, gid_t group);
 void node_add(struct node *node, uint64_t inode);
 void node_free(struct node *node);
+/* Frees one that is in no list, or nothing. */
+void attribute_free(struct attribute *attribute);
 /* Closes a file that has no name and isn't open in a program. It doesn't count against the limits any more. */
 void node_rest(struct node *node);
 /* Notes that the kernel has forgotten this number of lookups. */

@@ -133,13 +133,13 @@ row() {
     tools/crash_run --seeds "$seeds" --first "$first" --jobs "$jobs" --timeout 300 --profile "$1" \
         --out "out/mount/programs/$name-$1" $options $passed ${prepare:+--prepare "$prepare"} ${start:+--start "$start"} \
         --work "$work" --check "$check" >"$log" 2>"$log.err" </dev/null || status=$?
-    if [ "$status" -gt 1 ]; then
+    if [ "$status" -gt 1 ] && ! tail -n 1 "$log" | grep -q '^| '; then
         tail -n 3 "$log.err" >&2
         [ "$status" -ne 3 ] || exit 3
         echo "| $name | $1 | did not run |"
         return
     fi
-    # | profile | seeds | calls | crashes | acknowledged | held | lost | damaged | not started | too slow |
+    # | profile | seeds | calls | crashes | acknowledged | held | lost | damaged | not started | too slow | untested |
     tail -n 1 "$log" | while IFS='|' read -r _ profile count calls rest; do
         echo "| $name |$profile|$count|$rest"
     done
@@ -175,7 +175,7 @@ export PYTHONDONTWRITEBYTECODE=1
 # The program itself: on some machines python3 is a script that looks for it.
 python=$(python3 -c 'import shlex, sys; print(shlex.quote(sys.executable))')
 mkdir -p out/mount/programs
-echo '| program | profile | seeds | crashes | acknowledged | held | lost | damaged | not started | too slow |'
+echo '| program | profile | seeds | crashes | acknowledged | held | lost | damaged | not started | too slow | untested |'
 echo '|---|---|---|---|---|---|---|---|---|---|'
 for name; do
     if choose "$name"; then

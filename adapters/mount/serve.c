@@ -1,5 +1,6 @@
 #include "serve.h"
 
+#include "acknowledged.h"
 #include "cached.h"
 #include "calls.h"
 #include "power.h"
@@ -58,9 +59,12 @@ static void take_call(void) {
     if (fuse_session_receive_buf(session, &buffer) > 0) fuse_session_process_buf(session, &buffer);
 }
 
+/* An acknowledgement before the call may switch the power off: then the call waits. */
 static void take_call_of(int fd) {
     (void)fd;
-    take_call();
+    bool was_off = power.is_off;
+    acknowledged_look();
+    if (was_off || !power.is_off) take_call();
 }
 
 /* While the power is off no call is taken. An unmount is reported all the same. */

@@ -1,6 +1,7 @@
 #include "text.h"
 
 #include <stdint.h>
+#include <string.h>
 
 /* Reads a character of two to four bytes. Returns 0 if it isn't one in its shortest form. */
 static uint32_t read_long(const unsigned char **at) {
@@ -23,3 +24,29 @@ bool is_plain_text(const char *text) {
     }
     return true;
 }
+
+/* Copies bytes, with those as `\xNN` that aren't printable ASCII or are one of `also`. */
+static void escape(const char *text, size_t len, const char *also, char *into) {
+    static const char digits[] = "0123456789abcdef";
+    for (size_t at = 0; at < len; at++) {
+        unsigned char byte = (unsigned char)text[at];
+        if (byte >= ' ' && byte < 0x7f && !strchr(also, byte)) {
+            *into++ = (char)byte;
+            continue;
+        }
+        *into++ = '\\';
+        *into++ = 'x';
+        *into++ = digits[byte >> 4];
+        *into++ = digits[byte & 15];
+    }
+    *into = 0;
+}
+
+void escape_unless_plain(const char *text, size_t len, char *into) {
+    if (strlen(text) == len && is_plain_text(text))
+        memcpy(into, text, len + 1);
+    else
+        escape(text, len, "\\", into);
+}
+
+void escape_path(const char *path, char *into) { escape(path, strlen(path), " #\\", into); }

@@ -134,7 +134,7 @@ def mount_package(kit, tree, version, folder):
     for path in ("mount", "licenses/libfuse3"):
         if (tree / "share/doc/blobcrash" / path).exists():
             shutil.move(tree / "share/doc/blobcrash" / path, documents / path)
-    tools = [f"share/blobcrash/tools/{tool}" for tool in ("mount", "mountctl", "crash_run")]
+    tools = [f"share/blobcrash/tools/{tool}" for tool in ("mount", "mountctl", "crash_run", "check_program")]
     package.put(tree, daemon, *tools, "share/blobcrash/adapters", f"share/doc/{name}")
     return package
 

@@ -2,6 +2,7 @@
 
 from __future__ import annotations
 
+import argparse
 import os
 import subprocess
 import sys
@@ -11,7 +12,10 @@ from typing import Callable, List
 from .checking import check
 from .cutting import cut, cut_lines, loses
 from .errors import BadLine, LibraryMissing
+from .file_cutting import FileCutter
 from .judging import verdict
+from .states import CrashState
+from .states_command import check_state
 
 
 class OutputFailed(Exception):
@@ -94,8 +98,10 @@ def read(arguments: List[str]) -> bytes:
 def shrink_command(arguments: List[str]) -> int:
     """Prints a short script that still fails. Status 1 if the whole one doesn't, 2 if it can't be read or judged."""
     if not arguments:
-        print("usage: shrink SCRIPT [COMMAND [ARGUMENT ..]]", file=sys.stderr)
+        print("usage: shrink SCRIPT [COMMAND [ARGUMENT ..]], or shrink --files SCRIPT -- CHECK [ARGUMENT ..]", file=sys.stderr)
         return 2
+    if arguments[0] == "--files":
+        return shrink_files_command(arguments[1:])
     with tempfile.TemporaryDirectory() as folder:
         try:
             with open(arguments[0], "rb") as file:
@@ -114,6 +120,38 @@ def shrink_command(arguments: List[str]) -> int:
         except OutputFailed:
             print("output failed", file=sys.stderr)
             return 2
+    return 0
+
+
+def shrink_files_command(arguments: List[str]) -> int:
+    """The same of a record of files, with a check of what a crash leaves: `[--limit N] SCRIPT -- CHECK [ARGUMENT ..]`."""
+    parser = argparse.ArgumentParser(prog="shrink --files", usage="shrink --files [--limit N] SCRIPT -- CHECK [ARGUMENT ..]", add_help=False)
+    parser.add_argument("--limit", type=int, default=16)
+    parser.add_argument("script")
+    at = arguments.index("--") if "--" in arguments else len(arguments)
+    options, check = parser.parse_args(arguments[:at]), arguments[at + 1 :]
+    if not check or options.limit < 1:
+        parser.error("wants a CHECK after --, and a limit from 1 on")
+    try:
+        with open(options.script, encoding="utf-8") as file:
+            script = file.read()
+        with tempfile.TemporaryDirectory() as work:
+
+            def status_of(state: CrashState) -> int:
+                with tempfile.TemporaryDirectory(dir=work) as folder:
+                    return check_state(state, check, folder, quiet=True)
+
+            short = FileCutter(script, status_of, options.limit).run()
+        if short is None:
+            print("shrink: the whole record doesn't fail, or it fails without a crash too", file=sys.stderr)
+            return 1
+        write(short.encode())
+    except (LibraryMissing, OSError, ValueError, MemoryError) as error:
+        print(f"shrink: {error or 'no memory'}", file=sys.stderr)
+        return 2
+    except OutputFailed:
+        print("output failed", file=sys.stderr)
+        return 2
     return 0
 
 

@@ -6,7 +6,8 @@ once, CHECK is run: it exits with 0 if all is well. `docs/GUIDE.md` has an examp
 
   --files        SCRIPT is a script of files
   --at LINE      only a crash after this line, of those that aren't empty, `words` or `seed`
-  --since LINE   only crashes after this line and later ones, to go on after an interruption
+  --from LINE    only crashes after this line and later ones. Of files without it: from the last `settle` on; --from 0 is all of them
+  --since LINE   the same, to go on after an interruption
   --limit N      at most N outcomes of each crash: first none lost, each single loss, all lost, each single draw kept
   --whole        each write is kept or lost as a whole
   --proved       the states are those that `blobcrash states` prints: of a store, and without --limit
@@ -15,7 +16,7 @@ once, CHECK is run: it exits with 0 if all is well. `docs/GUIDE.md` has an examp
   --json         prints JSON, an object a line
 
 CHECK finds in its environment: STATE, a folder with the state as plain files (of a store PARTITION/NAME, the name in hex, each with its
-header), which it may change; SCRIPT, the script up to the crash; ACKNOWLEDGED, a file with the texts of the comments `# acknowledged ..`
+header), which it may change; with --files MOUNT too, the same folder, for the check of a crash run; SCRIPT, the script up to the crash; ACKNOWLEDGED, a file with the texts of the comments `# acknowledged ..`
 before it, a line each.
 
 Exit statuses: 0 if every check does; 1 if one fails; 2 if the script or the command line is bad, as when LINE is none after which a crash
@@ -36,6 +37,7 @@ from typing import Dict, List, Set
 from .as_json import line_of_json
 from .errors import LibraryMissing
 from .progress import Progress
+from .recorded import split_script
 from .states import CrashState, CrashStates
 
 # A folder in memory, if there is one.
@@ -51,12 +53,15 @@ def written(state: CrashState, folder: str) -> Dict[str, str]:
         file.write(state.script)
     with open(places["ACKNOWLEDGED"], "w", encoding="utf-8") as file:
         file.write("".join(f"{text}\n" for text in state.acknowledged))
+    if state.is_files:
+        places["MOUNT"] = places["STATE"]
     return {**os.environ, **places}
 
 
-def check_state(state: CrashState, command: List[str], folder: str) -> int:
-    """Writes a state below a folder and runs the command. Returns its status."""
-    return subprocess.run(command, env=written(state, folder), stdin=subprocess.DEVNULL, check=False).returncode
+def check_state(state: CrashState, command: List[str], folder: str, quiet: bool = False) -> int:
+    """Writes a state below a folder and runs the command. Returns its status. With `quiet` what it prints isn't shown."""
+    out = subprocess.DEVNULL if quiet else None
+    return subprocess.run(command, env=written(state, folder), stdin=subprocess.DEVNULL, stdout=out, stderr=out, check=False).returncode
 
 
 class _Checks:
@@ -125,8 +130,9 @@ def states_command(arguments: List[str]) -> int:
     own, command = arguments[:at], arguments[at + 1 :]
     for name in ("--files", "--whole", "--proved", "--json"):
         parser.add_argument(name, action="store_true", help=argparse.SUPPRESS)
-    for name, default in (("--at", None), ("--since", 0), ("--limit", None), ("--jobs", 1)):
+    for name, default in (("--at", None), ("--limit", None), ("--jobs", 1)):
         parser.add_argument(name, type=int, default=default, help=argparse.SUPPRESS)
+    parser.add_argument("--from", "--since", dest="since", type=int, help=argparse.SUPPRESS)
     parser.add_argument("--out", default=os.path.join("out", "states"), help=argparse.SUPPRESS)
     parser.add_argument("script", help=argparse.SUPPRESS)
     options = parser.parse_args(own)
@@ -146,9 +152,17 @@ def states_command(arguments: List[str]) -> int:
         return 3
 
 
+def first_place(script: str, options: argparse.Namespace) -> int:
+    """The line from which on crashes are tried if none is named: of files that of the last `settle`, since all before it is durable."""
+    if not options.files or options.at is not None:
+        return 0
+    return max((number for number, line in enumerate(split_script(script).rest, 1) if line == "settle"), default=0)
+
+
 def _run(script: str, options: argparse.Namespace, command: List[str]) -> int:
     of = {"files": options.files, "at": options.at, "limit": options.limit, "whole": options.whole, "proved": options.proved}
-    states, progress = CrashStates(script, since=options.since, **of), Progress("states")
+    since = first_place(script, options) if options.since is None else options.since
+    states, progress = CrashStates(script, since=since, **of), Progress("states")
     with tempfile.TemporaryDirectory(dir=IN_MEMORY if os.path.isdir(IN_MEMORY) else None) as work:
         checks = _Checks(command, options, work, progress)
 
