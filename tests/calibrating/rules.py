@@ -40,7 +40,7 @@ def word_of(line):
 
 
 class Program(NamedTuple):
-    """The lines of a program from the place on where all is durable, and what they do to files."""
+    """The lines of a program, from which of them on they aren't durable, and what they do to files."""
 
     profile: str
     unit: int
@@ -141,7 +141,7 @@ def end_of(line):
 
 
 def beyond(program, number):
-    """Where the letters of a write begin that are beyond the end of its file."""
+    """The place of the first letter of a write beyond the end of its file."""
     return max(program.grows[number], int(program.lines[number].split()[2]))
 
 
