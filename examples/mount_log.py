@@ -6,6 +6,7 @@ A log of records in a file, for tools/crash_run. An ordinary program: it knows n
   mount_log.py check                                       exits with 1 if an acknowledged record is missing
 
     tools/crash_run --profile posix --work 'examples/mount_log.py append --forget-directory' --check 'examples/mount_log.py check'
+    tools/check_program --profile posix --work 'examples/mount_log.py append --forget-directory' --check 'examples/mount_log.py check'
 """
 
 import os

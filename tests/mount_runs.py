@@ -130,8 +130,10 @@ def test_calls():
     found = losses._Calls(script, said).last()
     check("calls by path", found[-7:] == wanted and len(found) == 8, found)
     said = ["ok", "crashed 01", "# unsettled edits:", "#   line 1: create /a: kept", "#   line 2: create /b: lost", "# /a: size 3 before, 3 after",
-            "#   line 3: write 0..3: kept", "# /b: removed, since no name of it was kept", "ok"]
-    wanted = ["unsettled edits:", "  line 2: create /b: lost", "/a: size 3 before, 3 after", "/b: removed, since no name of it was kept"]
+            "#   line 3: write 0..3: kept", "# /b: removed, since no name of it was kept", "# /c: size 3 before, 3 after",
+            "#   line 4: write 0..3: lost", "# /d: size 3 before, 2 after", "#   line 5: write 0..2: kept", "ok"]
+    wanted = ["unsettled edits:", "  line 2: create /b: lost", "/b: removed, since no name of it was kept", "/c: size 3 before, 3 after",
+              "  line 4: write 0..3: lost", "/d: size 3 before, 2 after"]
     check("what is lost", losses._lost(said) == wanted, losses._lost(said))
     check("no record", losses.described("/none", f"{FOLDER.name}/none") == ([], []))
 
@@ -166,19 +168,19 @@ def test_profiles():
 
 
 def test_every_state():
-    """One run is recorded, and its check runs on every state: the file that isn't synced is missing from one."""
+    """One run is recorded, and its check runs on every state. A crash that keeps nothing loses the second file after its acknowledgement."""
     work = "echo 1 >$MOUNT/a; sync $MOUNT/a; echo 1 >>$ACKNOWLEDGED; echo 2 >$MOUNT/b; echo 2 >>$ACKNOWLEDGED"
     check_it = "test $(cat $MOUNT/a $MOUNT/b 2>&1 | grep -c ^[12]$) -ge $(wc -l <$ACKNOWLEDGED)"
     out = f"{FOLDER.name}/checked"
     status, _, said = crash_run("--record-only", "--out", out, "--work", "false", "--check", "true")
     check("a workload that fails", status == 2 and "--work without a crash: 1" in said, said)
     for start in ([], ["--start", "sleep 100 & test -d $MOUNT"]):
-        command = ["tools/check_program", "--profile", "posix", "--out", out, "--whole", "--work", work, "--check", check_it, *start]
+        command = ["tools/check_program", "--profile", "btrfs", "--keep", "0/1", "--out", out, "--whole", "--work", work, "--check", check_it, *start]
         ran = subprocess.run(command, cwd=TOP, stdin=subprocess.DEVNULL, stdout=subprocess.PIPE, stderr=subprocess.PIPE, text=True)
-        wanted = ["/run.script, 5 changing calls, 2 acknowledgements\n", "the check exits with 1: ", "what the crash lost:", "acknowledged 1\n",
-                  "  shorter: tools/shrink --files ", "states, all of them; "]
+        wanted = ["/run.script, 5 changing calls, 2 acknowledgements\n", "the check exits with 1: ", "what the crash lost:", "acknowledged 2\n",
+                  "  shorter: tools/shrink --files ", " states, all of them; 1 fail\n"]
         check(f"what it prints: {start}", ran.returncode == 1 and all(text in ran.stdout for text in wanted), ran)
-    command = ["tools/check_program", "--out", out, "--work", f"{SIX}; sync $MOUNT", "--check", "true", "--limit", "2"]
+    command = ["tools/check_program", "--out", out, "--work", "echo 1 >$MOUNT/a", "--check", "true", "--limit", "2"]
     ran = subprocess.run(command, cwd=TOP, stdin=subprocess.DEVNULL, stdout=subprocess.PIPE, stderr=subprocess.PIPE, text=True)
     check("a limit", ran.returncode == 0 and "not all of them: at most 2 outcomes of a crash were tried; 0 fail" in ran.stdout, ran)
     check("bad words", subprocess.run(["tools/check_program", "--limit", "0"], cwd=TOP, stderr=subprocess.DEVNULL).returncode == 2)

@@ -1,6 +1,7 @@
 """What a failure lost, in words: the remarks of `blobcrash files explain` on its record, and the last calls before the crash by their paths."""
 
 import os
+import re
 import subprocess
 
 CALLS_MOST, REMARKS_MOST = 8, 12
@@ -38,11 +39,17 @@ def _lost(said):
         text = line[2:]
         if not text.startswith(" "):
             header = text
-            if "removed" in text or (" before, " in text):
+            if _is_loss(text):
                 found, header = [*found, text], None
         elif not text.endswith(": kept"):
             found, header = [*found, *([header] if header else []), text], None
     return found if len(found) <= REMARKS_MOST else [*found[:REMARKS_MOST], f".. {len(found) - REMARKS_MOST} more lines"]
+
+
+def _is_loss(header):
+    """Whether the remark on a file says itself that something changed: that it was removed, or its size."""
+    sizes = re.search(r": size (\d+) before, (\d+) after$", header)
+    return sizes[1] != sizes[2] if sizes else ": removed, " in header
 
 
 class _Calls:

@@ -141,7 +141,8 @@ class FileCutter:
 
     def _read(self, texts: List[str]) -> None:
         """Makes the calls of the whole record."""
-        run, inodes = _Run(self._words), {}
+        run = _Run(self._words)
+        inodes: Dict[int, int] = {}
         for text in texts:
             if text.startswith("# descriptor "):
                 self._paths[len(self._lines) - 1] = text.split(" is ", 1)[1]
@@ -161,7 +162,7 @@ class FileCutter:
             elif isinstance(reply, Found) and call.word in ("mkdir", "mkdir_at"):
                 made = {"inode": reply.number}
             changes, syncs = _reach(call, made, inodes)
-            used = {inodes[call.number]} if call.word in _ON_FILE and call.number in inodes and not call.is_by_path else set()
+            used: Set[int] = {inodes[call.number]} if call.word in _ON_FILE and call.number in inodes and not call.is_by_path else set()
             used |= {call.number} if call.word.startswith("open_inode") else set()
             self._add(_Line(text, call, refused, changes, syncs, changes | syncs | used), made)
         run.close()
