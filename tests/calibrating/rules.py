@@ -40,7 +40,7 @@ def word_of(line):
 
 
 class Program(NamedTuple):
-    """The lines of a program, from which of them on they aren't durable, and what they do to files."""
+    """The lines of a program, how many of them are durable, and what they do to files."""
 
     profile: str
     unit: int
