@@ -1,6 +1,6 @@
 #!/bin/sh
-# Tests of `blobcrash diagnose` (tests/diagnose.py), and of the records of programs on the mount (tests/diagnose_mount.py): it names the
-# syncs that docs/MOUNT.md, docs/SQLITE.md and docs/LEVELDB.md say are missing. The last line is `N passed, M failed`.
+# Tests of `blobcrash diagnose` (tests/diagnose.py), and of the records of programs on the mount (tests/diagnose_mount.py): of SQLite it
+# names the sync that docs/MOUNT.md says is missing. The last line is `N passed, M failed`.
 top=$(CDPATH='' cd -- "$(dirname -- "$0")/.." && pwd -P)
 # shellcheck source=tests/counting.sh
 . "$top/tests/counting.sh"
@@ -18,12 +18,10 @@ if [ ! -w /dev/fuse ] || ! has fusermount3 || ! sh "$top/adapters/mount/build.sh
     leave_out 'programs on the mount: a C compiler, libfuse 3 or FUSE is missing'
     finish
 fi
-for tool in sqlite3 git; do
-    if has "$tool"; then
-        add python3 "$top/tests/diagnose_mount.py" "test_$tool"
-    else
-        skip "there is no $tool"
-    fi
-done
+if has sqlite3; then
+    add python3 "$top/tests/diagnose_mount.py" test_sqlite3
+else
+    skip 'SQLite: there is no sqlite3'
+fi
 add python3 "$top/tests/diagnose_mount.py" test_processes test_crash_run
 finish

@@ -1,5 +1,5 @@
-"""`blobcrash diagnose` of programs on the mount: it names the syncs that docs/MOUNT.md and docs/SQLITE.md say are missing, and who made
-the calls. diagnose.sh runs it. The last line is `N passed, M failed`. With the name of a test only that one is run."""
+"""`blobcrash diagnose` of programs on the mount: it names the sync that docs/MOUNT.md says is missing, and who made the
+calls. diagnose.sh runs it. The last line is `N passed, M failed`. With the name of a test only that one is run."""
 
 import os
 import re
@@ -14,37 +14,11 @@ sys.path.insert(0, os.path.join(TOP, "adapters", "mount"))
 from mounting import Mount
 
 PROGRAM = os.path.join(TOP, "out", "mount", "blobcrash_mount")
-GIT = """
-cd "$STATE/r" 2>/dev/null && [ -s "$ACKNOWLEDGED" ] || exit 0
-git -c safe.directory='*' fsck --full >/dev/null 2>&1 || exit 1
-[ "$(git -c safe.directory='*' rev-parse HEAD 2>/dev/null)" = "$(cat "$ACKNOWLEDGED")" ]
-"""
-ENVIRONMENT = {
-    **os.environ,
-    **{f"GIT_{who}_{what}": "n@localhost" for who in ("AUTHOR", "COMMITTER") for what in ("NAME", "EMAIL")},
-    "GIT_CONFIG_NOSYSTEM": "1",
-    "HOME": "/nonexistent",
-}
 
 
 def shell(command, at):
     """Runs a command in a folder. Returns what it printed."""
-    return subprocess.run(["sh", "-ec", command], cwd=at, env=ENVIRONMENT, stdout=subprocess.PIPE, text=True, check=True).stdout.strip()
-
-
-def diagnosed(profile, before, work, check, *options):
-    """Records commands on a mount, and returns what is printed of the record. What the last one prints is acknowledged."""
-    with tempfile.TemporaryDirectory() as folder:
-        record = f"{folder}/record"
-        with Mount(PROGRAM, "--profile", profile, "--record", record) as mount:
-            shell(before, mount.at)
-            mount.ask("settle")
-            mount.ask(f"note acknowledged {shell(work, mount.at) or 1}")
-            mount.ask("record stop")
-        command = [sys.executable, "-m", "blobcrash", "diagnose", "--out", f"{folder}/out", *options, record, "--", "sh", "-c", check]
-        ran = subprocess.run(command, env=ENVIRONMENT, stdout=subprocess.PIPE, stderr=subprocess.PIPE, text=True)
-        assert ran.stderr == "" and ran.returncode in (0, 1), ran
-        return ran.stdout
+    return subprocess.run(["sh", "-ec", command], cwd=at, stdout=subprocess.PIPE, text=True, check=True).stdout.strip()
 
 
 def missing(text):
@@ -66,16 +40,6 @@ def test_sqlite3():
     assert re.search(found, full), full
     status, extra = example("extra")
     assert status == 0 and extra.splitlines()[0].endswith("; 0 fail"), extra
-
-
-def test_git():
-    begin = "git init -q --template= r; cd r; git config core.fsync all; git config core.fsyncMethod fsync; echo a >a; git add a; git commit -qm one"
-    text = diagnosed("btrfs", begin, "cd r; echo b >b; git add b; git commit -qm two; git rev-parse HEAD", GIT, "--whole", "--limit", "30")
-    # It syncs files before it renames them, and never a folder.
-    found = missing(text)
-    assert found and all(re.fullmatch(r"fsyncdir /r/\.git(/.*)?", sync) for sync in found), text
-    assert "fsyncdir /r/.git/refs/heads" in found, text
-    assert ", by git[" in text, text
 
 
 def test_processes():
