@@ -66,7 +66,7 @@ def sizes(tree):
 def check_edits(script, reply, remarks, profile):
     """Compares the edits of a crash with its digits and with the lines of their calls."""
     told = [re.fullmatch(r"  line (\d+): (\w+) .*: (kept|lost|discarded.*)", remark) for remark in remarks]
-    told = [match.groups() for match in told if match and match[2] != "write"]
+    told = [match.groups() for match in told if match and match[2] not in ("write", "zeros")]
     digits = reply.split()[1].replace("-", "")
     assert digits == "".join("1" if fate == "kept" else "0" for _, _, fate in told), (reply, remarks)
     for number, word, _ in told:
@@ -81,15 +81,18 @@ def check_edits(script, reply, remarks, profile):
 
 
 def check_writes(script, reply, remarks):
-    """Compares each write of a crash with a row of the reply, and with the line of its call."""
+    """Compares each write of a crash, and the zeros of a write or a truncation, with a row of the reply, and with the line of the call."""
     rows = [tuple(row.split(":")[1:]) for row in reply.split()[2:]]
     for remark in remarks:
-        match = re.fullmatch(r"  line (\d+): write ((\d+)\.\.(\d+)): (.*)", remark)
+        match = re.fullmatch(r"  line (\d+): (?:write|zeros) ((\d+)\.\.(\d+)): (.*)", remark)
         if not match:
             continue
         fates = {part.split()[0]: part.split()[1:] or [match[2]] for part in match[5].split("; ")}
         line = script[int(match[1]) - 1].split()
-        assert line[0] == "write" and line[2] == match[3] and len(line[3]) // 2 == int(match[4]) - int(match[3]), (remark, line)
+        if ": zeros " in remark:
+            assert line[0] in ("write", "truncate"), (remark, line)
+        else:
+            assert line[0] == "write" and line[2] == match[3] and len(line[3]) // 2 == int(match[4]) - int(match[3]), (remark, line)
         kept = fates["kept"][0] if "kept" in fates else "-"
         fits = [row for row in rows if row[0] == match[2] and ("covered" in fates or row[1] == kept)]
         assert fits, (remark, rows)

@@ -77,6 +77,12 @@ def test_points():
         check(f"bad: {words}", crash_run(*words, "--work", SIX, "--check", "true")[0] == 2)
 
 
+def calls(failure):
+    """Returns the record of a failure without the numbers of its processes."""
+    with open(f"{failure['kept']}/run.script", encoding="utf-8") as file:
+        return [line for line in file if not line.startswith("# process ")]
+
+
 def test_halves():
     """Without an option seeds with an even number stop after the first acknowledgement. The command that repeats a seed says how."""
     status, found, _ = crash_run("--seeds", "8", "--jobs", "2", "--work", SIX, "--check", ALL_SIX)
@@ -87,11 +93,9 @@ def test_halves():
         said = (option(failure, "--after-acknowledgement"), option(failure, "--stop-after"))
         check(f"seed {failure['seed']}", said == wanted and acknowledged(failure) >= is_even, (said, acknowledged(failure)))
     failure = found[0]
-    with open(f"{failure['kept']}/run.script", encoding="utf-8") as file:
-        before = file.read()
+    before = calls(failure)
     again = subprocess.run(["sh", "-c", f"{failure['again']} --json"], cwd=TOP, stdout=subprocess.PIPE, stderr=subprocess.PIPE, text=True)
-    with open(f"{failure['kept']}/run.script", encoding="utf-8") as file:
-        check("it repeats", again.returncode == 1 and file.read() == before, again)
+    check("it repeats", again.returncode == 1 and calls(failure) == before, again)
 
 
 def test_record():
@@ -101,7 +105,9 @@ def test_record():
         lines = [line.split() for line in file]
     short = [" ".join(words[1:]) if words[0] == "#" else words[0] for words in lines
              if words[0] in ("fsync", "write") or words[:2] == ["#", "acknowledged"]]
-    check("the record", short == [line for i in range(1, 6) for line in ("write", "fsync", f"acknowledged {i}")], short)
+    wanted = [line for i in range(1, 6) for line in ("write", "fsync", f"acknowledged {i}")]
+    # The program may be killed after the last call before it writes the line.
+    check("the record", short in (wanted, wanted[:-1]), short)
 
 
 LOG = ["--work", "examples/mount_log.py append --forget-sync", "--check", "examples/mount_log.py check"]
