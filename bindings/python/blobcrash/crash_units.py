@@ -53,10 +53,10 @@ class Unit(NamedTuple):
 def rows_of(reply: Any) -> List[Row]:
     """The rows of the reply to a crash."""
     if isinstance(reply, Kept):
-        pairs = zip(reply.writes, reply.places)
-        return [Row(write, kept, inode, None if inode is None else at) for (write, kept), (inode, at) in pairs]
-    pairs = [row.split(":") for row in reply.decode().split(" ")[1:]]
-    return [Row(int(write), kept, None, None) for write, kept in pairs]
+        placed = zip(reply.writes, reply.places)
+        return [Row(write, kept, inode, None if inode is None else at) for (write, kept), (inode, at) in placed]
+    rows = (row.split(":") for row in reply.decode().split(" ")[1:])
+    return [Row(int(write), kept, None, None) for write, kept in rows]
 
 
 def unit_of(row: Row, key: Key, is_files: bool, mode: Sequence[str], text: str) -> Unit:
