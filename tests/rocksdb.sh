@@ -19,7 +19,7 @@ count=$(echo "$held" | wc -w)
 expect 'with syncs nothing is lost' 0 "$crash" --jobs 2 "${SEEDS:-3}" $held
 expect 'and each mode says so' 0 [ "$(grep -c '| held  *|$' "$work/table")" -eq "$count" ]
 expect 'and acknowledges batches' 0 [ "$(awk -F'|' '/held/ && $4 > 0 && $6 > 0' "$work/table" | wc -l)" -eq "$count" ]
-expect 'without syncs the last batches are lost' 0 "$crash" --jobs 2 5 nosync
+expect 'without syncs the last batches are lost' 0 "$crash" --jobs 2 5 nosync-manual
 expect 'and no others' 0 grep -q '| lost, as allowed  *|$' "$work/table"
 expect 'a lying sync' 0 "$crash" --jobs 2 5 sync-lie
 expect 'is found' 0 grep -q '| damaged, as allowed  *|$' "$work/table"
@@ -35,6 +35,7 @@ if [ "$version" = '7 8 3' ]; then
 20 sync-queues-transactions ended by signal 6
 35 sync-posix No such file or directory: /d/MANIFEST
 5 nosync-families the rows are those of no batch
+1 nosync the rows are those of no batch
 1 nosync-transactions SST file is ahead of WALs
 1 sync-checkpoints-posix checkpoint[0-9]* is lost
 2 sync-backups-posix backup [0-9]* is lost

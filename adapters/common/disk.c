@@ -66,7 +66,7 @@ void disk_note(struct disk *disk, const char *text) {
 void disk_power_off_after(struct disk *disk, int64_t calls) {
     if (calls >= 0)
         blobcrash_files_power_off_after(&disk->files, (uint64_t)calls);
-    else if (!blobcrash_files_power(&disk->files).is_off)
+    else if (disk->is_on)
         blobcrash_files_power_on(&disk->files);
 }
 

@@ -57,7 +57,8 @@ void disk_note(struct disk *disk, const char *text);
 /* Returns how many calls have changed what a crash leaves, since disk_start. */
 uint64_t disk_changes(struct disk *disk);
 
-/* Lets `calls` more calls change what a crash leaves. After them every call fails until the crash. A negative number cancels this. */
+/* Lets `calls` more calls change what a crash leaves. After them every call fails until the crash. A negative number cancels this if no
+ * call has failed so. */
 void disk_power_off_after(struct disk *disk, int64_t calls);
 
 /*
