@@ -67,7 +67,7 @@ static int acknowledgement(const char *text, char *reply, size_t capacity) {
     uint64_t number, calls;
     int error = read_number(&text, &number);
     if (error || *text) return EINVAL;
-    if (!acknowledged_after(number, &calls)) return ENOENT;
+    if (!acknowledged_after(number, &calls)) return ENODATA;
     snprintf(reply, capacity, "ok %" PRIu64, calls);
     return 0;
 }
@@ -112,7 +112,7 @@ pid_t command_run(const char *line, char *reply, size_t capacity) {
     if (error == ENOSYS) snprintf(reply, capacity, "error: no such command");
     else if (error == EALREADY) snprintf(reply, capacity, "error: too late: a record begins before the first change, as with --record");
     else if (error == EILSEQ) snprintf(reply, capacity, "error: a note is UTF-8 without control characters");
-    else if (error == ENOENT) snprintf(reply, capacity, "error: there is no such acknowledgement");
+    else if (error == ENODATA) snprintf(reply, capacity, "error: there is no such acknowledgement");
     else if (error) snprintf(reply, capacity, "error: %s", strerror(error));
     return error ? 0 : child;
 }

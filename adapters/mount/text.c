@@ -1,5 +1,8 @@
 #include "text.h"
 
+#include "blobcrash_files.h"
+
+#include <limits.h>
 #include <stdint.h>
 #include <string.h>
 
@@ -25,28 +28,33 @@ bool is_plain_text(const char *text) {
     return true;
 }
 
-/* Copies bytes, with those as `\xNN` that aren't printable ASCII or are one of `also`. */
-static void escape(const char *text, size_t len, const char *also, char *into) {
-    static const char digits[] = "0123456789abcdef";
-    for (size_t at = 0; at < len; at++) {
-        unsigned char byte = (unsigned char)text[at];
-        if (byte >= ' ' && byte < 0x7f && !strchr(also, byte)) {
-            *into++ = (char)byte;
-            continue;
-        }
-        *into++ = '\\';
-        *into++ = 'x';
-        *into++ = digits[byte >> 4];
-        *into++ = digits[byte & 15];
-    }
-    *into = 0;
+/* Adds the name of a path as the library writes it in a script. Returns where it ends. */
+static char *put_name(const char *name, size_t len, char *into) {
+    static const char word[] = "unlink ";
+    static uint8_t line[sizeof word + 4 * PATH_MAX];
+    struct blobcrash_file_call call = {.kind = BLOBCRASH_F_UNLINK};
+    const uint8_t *bytes = (const uint8_t *)name;
+    size_t all = blobcrash_files_line_of(&call, bytes, len, bytes, 0, line, sizeof line).len;
+    size_t written = all < sizeof line ? all - (sizeof word - 1) : 0;
+    memcpy(into, line + sizeof word - 1, written);
+    into[written] = 0;
+    return into + written;
 }
 
 void escape_unless_plain(const char *text, size_t len, char *into) {
-    if (strlen(text) == len && is_plain_text(text))
+    if (strlen(text) == len && is_plain_text(text)) {
         memcpy(into, text, len + 1);
-    else
-        escape(text, len, "\\", into);
+        return;
+    }
+    *into = 0;
+    for (size_t at = 0; at < len;) {
+        size_t part = at;
+        while (part < len && text[part] != ' ' && text[part] != '#') part++;
+        if (part > at) into = put_name(text + at, part - at, into);
+        if (part < len) *into++ = text[part++];
+        *into = 0;
+        at = part;
+    }
 }
 
-void escape_path(const char *path, char *into) { escape(path, strlen(path), " #\\", into); }
+void escape_path(const char *path, char *into) { put_name(path, strlen(path), into); }

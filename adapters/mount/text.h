@@ -9,10 +9,10 @@
 bool is_plain_text(const char *text);
 /*
  * Copies a text of so many bytes, and ends it with a zero. If it isn't plain, each byte that isn't printable ASCII, and each `\`, is
- * `\xNN`: so there is room for four times as many bytes, and the zero.
+ * `\xNN`: so four times as many bytes are needed, and the zero.
  */
 void escape_unless_plain(const char *text, size_t len, char *into);
-/* Copies a path as a script has it: the space and `#` are `\xNN` too. The same room is needed. */
+/* Copies a path as a script has it: the space and `#` are `\xNN` too. It needs the same space. */
 void escape_path(const char *path, char *into);
 
 #endif
