@@ -194,15 +194,15 @@ def _visit_with(executor: Any, runs: _Runs, every: List[int], until: float, prog
     """Makes the runs by workers."""
     from .spread import Spread
 
-    spread, waiting = Spread(executor), list(every)
+    # The next seed is the last one.
+    spread, waiting = Spread(executor), every[::-1]
     chunk = min(_CHUNK, max(1, len(every) // (4 * spread.workers)))
 
     def take(total: Part) -> Any:
         left = until - time.monotonic()
         if left <= 0:
             return None
-        before, part = len(every) - len(waiting), waiting[:chunk]
-        del waiting[:chunk]
+        before, part = len(every) - len(waiting), waiting[: -chunk - 1 : -1]
         return part, _visit_for, runs, part, before, left
 
     try:

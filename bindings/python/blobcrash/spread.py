@@ -83,7 +83,7 @@ class Spread:
             self._lose(part, error)
 
     def run(self, waiting: List[Any], take: Callable[[Part], Any], progress: Progress, text: Callable[[Part], str]) -> Part:
-        """Does tasks until nothing waits. `take` removes a part from what waits, and returns it with its task, or nothing if no more tasks
+        """Does tasks until nothing waits. `take` returns a part, which is last in what waits, with its task, or nothing if no more tasks
         begin. What a task has left waits again."""
         total = Part(0, [])
         try:
@@ -93,6 +93,8 @@ class Spread:
                     if taken is None:
                         break
                     self.submit(*taken)
+                    # Only now it waits no more: an interrupt before that leaves it.
+                    del waiting[len(waiting) - len(taken[0]):]
                 if not self._under_way:
                     break
                 for done in self.done():
@@ -100,7 +102,9 @@ class Spread:
                     waiting += done.rest
                 progress.show(lambda: text(total))
         except KeyboardInterrupt as error:
-            error.part = total._replace(rest=[*self.under_way(), *waiting])  # type: ignore[attr-defined]
+            given = dict.fromkeys(self.under_way())
+            rest = [*given, *(piece for piece in waiting if piece not in given)]
+            error.part = total._replace(rest=rest)  # type: ignore[attr-defined]
             raise
         self.check(waiting)
         return total._replace(rest=waiting)
@@ -184,7 +188,7 @@ def visit_with(executor: Any, tree: Tree, subtrees: List[str], most: int, until:
             return None
         # The shallowest subtrees, which tend to be the largest, are given away first.
         waiting.sort(key=len, reverse=True)
-        part = [waiting.pop() for _ in range(max(1, len(waiting) // (_WAITING * spread.workers)))]
+        part = waiting[: -max(1, len(waiting) // (_WAITING * spread.workers)) - 1 : -1]
         quota = left if left < spread.workers else left // spread.workers
         length = _SLICE if total.runs else _FIRST_SLICE
         return part, visit_for, tree, part, quota, min(length, until - now), until - now
