@@ -72,7 +72,7 @@ def test_texts():
 
 
 def test_power():
-    """The power goes off some calls after a line: at once, or at the line after it; and at once if the line is there."""
+    """The power goes off some calls after a line: immediately, or at the next line; and immediately if the line exists already."""
     for calls, wanted in ((0, 5), (1, 5), (2, 6), (3, 6)):
         _, acknowledged = files()
         with Mount(PROGRAM, "--acknowledged", acknowledged) as mount:

@@ -144,7 +144,7 @@ def test_failing():
 
 
 def test_descriptors():
-    """Beside each open of the record stands the path, after a crash too."""
+    """Each open of the record has a comment with its path, after a crash too."""
     record = f"{FOLDER.name}/paths"
     with Mount(PROGRAM, "--record", record) as mount:
         put(f"{mount.at}/f", b"")

@@ -54,11 +54,11 @@ void call_set_attribute(fuse_req_t req, fuse_ino_t id, const char *name, const c
     if (node) fuse_reply_err(req, set(node, name, value, size, flags));
 }
 
-/* Replies with bytes, or if the kernel has no room yet with their number. */
-static void reply(fuse_req_t req, const char *bytes, size_t len, size_t room) {
-    if (room == 0)
+/* Replies with bytes, or if the kernel has no space for them yet with their number. */
+static void reply(fuse_req_t req, const char *bytes, size_t len, size_t capacity) {
+    if (capacity == 0)
         fuse_reply_xattr(req, len);
-    else if (room < len)
+    else if (capacity < len)
         fuse_reply_err(req, ERANGE);
     else
         fuse_reply_buf(req, bytes, len);

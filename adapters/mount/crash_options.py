@@ -101,7 +101,7 @@ def parse(words):
 
 
 def of_seed(words, seed, points):
-    """Returns the words of a command line for one seed, with these options: its crash point, and what was drawn for it."""
+    """Returns the words of a command line for one seed, with these options: its crash point, and its drawn settings."""
     kept, skips = [], False
     for word in words:
         name = word.split("=")[0]
