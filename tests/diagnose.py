@@ -306,5 +306,18 @@ def test_bad_arguments():
         assert ran.returncode == 2 and "bad call" in ran.stderr, ran
 
 
+def test_calls_after_a_crash():
+    """Calls after the first crash of a record aren't tried, and this is said."""
+    lines = ["profile xfs", "create /a", "crash", "create /b", "# acknowledged b"]
+    for count, until in ((5, 3), (3, None)):
+        with tempfile.NamedTemporaryFile("w", suffix=".script") as file:
+            file.write("".join(f"{line}\n" for line in lines[:count]))
+            file.flush()
+            text, told = (subprocess.run([sys.executable, "-m", "blobcrash", "diagnose", *words, file.name, "--", "true"],
+                                         capture_output=True, text=True).stdout for words in ([], ["--json"]))
+        assert ("Calls after the crash of line 3 weren't tried.\n" in text) == (until is not None), text
+        assert json.loads(told).get("until") == until, told
+
+
 if __name__ == "__main__":
     sys.exit(run_tests(globals(), sys.argv[1:]))

@@ -4,6 +4,7 @@ fallocate, syncfs, calls that are to fail, and paths in the record. The last lin
 """
 
 import ctypes
+import functools
 import mmap
 import os
 import subprocess
@@ -143,6 +144,21 @@ def test_failing():
     check("paths of descriptors", "# descriptor 0 is /a\\x20d/f" in lines, [line for line in lines if "descriptor" in line])
 
 
+def test_failing_and_a_long_name():
+    """A longer name than a file can have is refused below a long path too, while a call is to fail."""
+    with Mount(PROGRAM) as mount:
+        mount.ask("fail /x open 1 EIO")
+        folder = os.open(mount.at, os.O_RDONLY)
+        for _ in range(15):
+            os.mkdir("d" * 250, dir_fd=folder)
+            below = os.open("d" * 250, os.O_RDONLY, dir_fd=folder)
+            os.close(folder)
+            folder = below
+        found = refusal(functools.partial(os.open, dir_fd=folder), "n" * 1000, os.O_CREAT | os.O_WRONLY)
+        os.close(folder)
+        check("a long name", found == "ENAMETOOLONG" and "power on" in mount.ask("status"), found)
+
+
 def test_descriptors():
     """Each open of the record has a comment with its path, after a crash too."""
     record = f"{FOLDER.name}/paths"
@@ -160,4 +176,4 @@ def test_descriptors():
 
 
 if __name__ == "__main__":
-    run_tests([test_attributes, test_copies, test_holes, test_syncs, test_failing, test_descriptors])
+    run_tests([test_attributes, test_copies, test_holes, test_syncs, test_failing, test_failing_and_a_long_name, test_descriptors])

@@ -350,6 +350,10 @@ def test_files_after_the_last_settle():
         assert "" in seen("--from", "0") and seen("--from", "0") == seen("--since", "0"), seen("--from", "0")
         assert seen("--from", "3") == sorted({"a", "ab", *seen()}), seen("--from", "3")
         assert seen("--at", "0") == [""], seen("--at", "0")
+        with open(script, "a", encoding="utf-8") as file:
+            file.write("settle\n# the end\n")
+        ran = command("--files", script, "--", "true")
+        assert (ran.returncode, ran.stdout) == (2, "") and "nothing after line 9 changes" in ran.stderr, ran
 
 
 def command(*words):

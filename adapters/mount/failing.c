@@ -91,7 +91,8 @@ int failing_error(const struct node *node, enum failing_call call) {
 
 int failing_create_error(const struct node *directory, const char *name) {
     char path[PATH_MAX + NAME_MOST + 2];
-    if (count == 0 || !node_path(directory, path, PATH_MAX)) return 0;
+    /* The kernel passes longer names, which the call refuses. */
+    if (count == 0 || strlen(name) > NAME_MOST || !node_path(directory, path, PATH_MAX)) return 0;
     strcat(strcat(path, "/"), name);
     return error_of(path, FAILING_OPEN);
 }

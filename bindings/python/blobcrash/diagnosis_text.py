@@ -52,6 +52,8 @@ def summary(diagnosis: Diagnosis, wrong: Optional[CrashState], options: argparse
         lines += _superfluous(diagnosis)
     if not diagnosis.is_complete:
         lines.append(f"Of a crash at most {options.limit} outcomes were tried: --limit tries more.")
+    if diagnosis.run.until is not None:
+        lines.append(f"Calls after the crash of line {diagnosis.run.until} weren't tried.")
     return lines
 
 
@@ -72,6 +74,8 @@ def counts_of(diagnosis: Diagnosis, wrong: Optional[CrashState], superfluous: bo
     """The last object."""
     counts: Dict[str, Any] = {"crashes": diagnosis.crashes, "states": len(diagnosis.states), "complete": diagnosis.is_complete}
     counts["fail"] = len(diagnosis.failing)
+    if diagnosis.run.until is not None:
+        counts["until"] = diagnosis.run.until
     if wrong is None:
         counts.update(syncs=_syncs(diagnosis, diagnosis.added), states_with=len(diagnosis.states_after), unfixed=len(diagnosis.unfixed))
         if superfluous:

@@ -63,7 +63,10 @@ class RecordedRun:
         self.lines = parts.rest[:end]
         self.way: Any = ReplayedFiles if self.is_files else ReplayedStore
         # The place of each line in the file, from 1 on.
-        self.shown = _places_in(script)[:end]
+        places = _places_in(script)
+        self.shown = places[:end]
+        # That of the first crash, if calls follow it, which aren't tried.
+        self.until = places[end] if any(not line.startswith("#") for line in parts.rest[end + 1 :]) else None
         self._modes: List[str] = []
         self.settings = self._settings(whole)
         self.made = self._run(parts.words, parts.seed)

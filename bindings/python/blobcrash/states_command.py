@@ -179,6 +179,8 @@ def _run(script: str, options: argparse.Namespace, command: List[str]) -> int:
             progress.tell(f"interrupted after {progress.seconds} s: {so_far()}. To go on: {again}")
             return 130
     progress.clear()
+    if states.crashes == 0:
+        raise ValueError(f"nothing after line {since} changes what a crash leaves: --from 0 tries all crashes")
     if options.json:
         counts = {"crashes": states.crashes, "outcomes": states.outcomes, "states": states.states, "complete": states.complete}
         print(line_of_json({**counts, "fail": checks.failures}), end="")
