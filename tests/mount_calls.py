@@ -30,7 +30,10 @@ def check(name, holds, shown=""):
 
 
 def run_tests(tests):
-    """Runs tests, and prints the last line. A test that breaks is one failure, and the others run. Ends with the status."""
+    """Runs tests, and prints the last line. A test that breaks is one failure, and the others run; so is none at all. Ends with the
+    status."""
+    if not tests:
+        check("no test has this name", False)
     for test in tests:
         name, began = getattr(test, "__name__", "test"), time.time()
         try:
