@@ -35,23 +35,16 @@ told() {
     if [ $? -eq 1 ] && grep -q '^OUTSIDE' "$work/out"; then pass; else tell 1 "$1 isn't told from $2"; fi
 }
 
-# covered: counts whether --coverage prints what was worked out by hand for two states of an append on ext4.
+# covered FS PROGRAM CALLS STATE ..: counts whether --coverage prints what was worked out by hand for these states of a program.
 covered() {
-    program='f = AA -- append BB to f'
-    for state in AA AAB; do printf 'ext4\t1\t%s\t1\t0\tf=%s\n' "$program" "$state"; done >"$work/state"
-    cat >"$work/wanted" <<END
-never | $program | f=AA0 | 1 sectors, 8 zeros
-never | $program | f=AA00 | 8 zeros
-never | $program | f=AA0B | 1 sectors, 8 holes
-never | $program | f=AAB0 | 1 sectors, 8 zeros
-never | $program | f=AABB | none
-# 1 programs: 2 of 7 states were left
-# rule 1 sectors: 1 of 4 states that need it
-# rule 8 holes: 0 of 1 states that need it
-# rule 8 zeros: 0 of 3 states that need it
-END
-    "$top/tools/calibrate" ext4 --compare "$work/state" --coverage 2>"$work/err" | sed 1d >"$work/out"
-    ok 'the coverage of an append' diff "$work/wanted" "$work/out"
+    type=$1
+    program=$2
+    calls=$3
+    shift 3
+    cat >"$work/wanted"
+    for state in "$@"; do printf '%s\t1\t%s\t%s\t0\t%s\n' "$type" "$program" "$calls" "$state"; done >"$work/state"
+    "$top/tools/calibrate" "$type" --compare "$work/state" --coverage 2>"$work/err" | sed 1d >"$work/out"
+    ok "the coverage of $program" diff "$work/wanted" "$work/out"
 }
 
 if [ "$(id -u)" -ne 0 ]; then
@@ -75,10 +68,31 @@ for kind in $kinds; do
     case $kind in
     ext4)
         told ext4 xfs 'f = A -- t = BB, rename t f, ~commit' 2 'f=00'
-        covered
+        covered ext4 'f = AA -- append BB to f' 1 f=AA f=AAB <<'END'
+never | f = AA -- append BB to f | f=AA0 | 1 sectors, 8 zeros
+never | f = AA -- append BB to f | f=AA00 | 8 zeros
+never | f = AA -- append BB to f | f=AA0B | 1 sectors, 8 holes
+never | f = AA -- append BB to f | f=AAB0 | 1 sectors, 8 zeros
+never | f = AA -- append BB to f | f=AABB | none
+# 1 programs: 2 of 7 states were left
+# rule 1 sectors: 1 of 4 states that need it
+# rule 8 holes: 0 of 1 states that need it
+# rule 8 zeros: 0 of 3 states that need it
+END
         ;;
     xfs) told xfs ext4 'f = A -- t = BB, rename t f, ~commit' 2 'f=' ;;
-    btrfs) told btrfs xfs 'mkdir e -- rename e d, create d/a, fsync d/a' 3 'e/ e/a=' ;;
+    btrfs)
+        told btrfs xfs 'mkdir e -- rename e d, create d/a, fsync d/a' 3 'e/ e/a='
+        covered btrfs '-- create a, create b, create c, fsync c' 4 'b= c=' <<'END'
+never |  -- create a, create b, create c, fsync c | a= b= c= | none
+never |  -- create a, create b, create c, fsync c | a= c= | 5 edits, 7 sync
+never |  -- create a, create b, create c, fsync c | c= | 7 sync
+# 1 programs: 1 of 4 states were left
+# rule 5 edits: 1 of 2 states that need it
+# rule 5 logged: 1 of 1 states that need it
+# rule 7 sync: 1 of 3 states that need it
+END
+        ;;
     esac
 done
 finish

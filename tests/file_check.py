@@ -33,6 +33,7 @@ REASONS = [
     ("keep 2 1", "a rate is a fraction from 0 to 1"),
     ("profile zfs", "`zfs`: a profile is ext4, xfs, btrfs or posix"),
     ("syncs lies", "`syncs` is honest or lie"),
+    ("edits log", "`edits` is prefix, any or logged"),
     ("config write 1 2", "a token is missing: `config write FN FD RN RD MODE`"),
     ("sync\nseed 1", "`seed`: a preamble line precedes all calls"),
     ("seed 1\nseed 2", "`seed`: a script has one seed"),

@@ -77,7 +77,8 @@ def check_edits(script, reply, remarks, profile):
         assert "discarded" not in fates, remarks
     elif "lost" in fates:
         first = fates.index("lost")
-        assert "discarded" not in fates[:first] and "kept" not in fates[first:], remarks
+        # On btrfs one that gives a name may be kept after a lost one, if the last sync left it unsettled.
+        assert "discarded" not in fates[:first] and (profile == "btrfs" or "kept" not in fates[first:]), remarks
 
 
 def check_writes(script, reply, remarks):

@@ -40,6 +40,7 @@ words 0 max =>
 profile posix => ok
 edits prefix => ok
 edits any => ok
+edits logged => ok
 keep 1 2 => ok
 space 4096 10 => ok
 config write 0 1 1 2 sectors 1 => ok

@@ -130,7 +130,7 @@ def compare_page(count):
     """Compares the page's tables."""
     most = 0
     rows = list(page_rows())
-    count.tell(len(rows) == 51 and all(len(row) == 7 for _, row in rows), f"the page's tables have 51 rows of 7 cells: {len(rows)}")
+    count.tell(len(rows) == 57 and all(len(row) == 7 for _, row in rows), f"the page's tables have 57 rows of 7 cells: {len(rows)}")
     for letter, (program, before, looks_at, *cells) in rows:
         expected = []
         for profile, cell in zip(PROFILES, cells):
@@ -154,11 +154,17 @@ def compare_seen(count):
 
 
 def compare_edits(count):
-    """On btrfs a truncation was lost, and a later name of another file was kept. With `edits any` a crash may do so."""
-    litmus = Litmus("create c, truncate c to AA, rename b a, create b, fsync a", "b = A", "a, b, c")
-    seen = "A/empty/empty"
-    count.tell(seen in litmus.outcomes("btrfs", "edits any")[0], "btrfs, any edits")
-    count.tell(seen not in litmus.outcomes("btrfs")[0], "btrfs, edits up to some point")
+    """Which edits a crash keeps is a setting of its own. On POSIX the sync of `o` doesn't settle its name: `c` needs this too."""
+    litmus = Litmus("create a, create b, o = X, fsync o, create c", "", "a, b, c")
+    kept = {
+        "btrfs, edits prefix": "none/none/none empty/none/none empty/empty/none empty/empty/empty",
+        "ext4, edits logged": "empty/empty/none empty/empty/empty",
+        "posix, edits logged": "none/none/none none/empty/none empty/none/none empty/empty/none empty/empty/empty",
+        "posix, edits prefix": "none/none/none empty/none/none empty/empty/none empty/empty/empty",
+    }
+    for settings, cell in kept.items():
+        found, _ = litmus.outcomes(*settings.split(", "))
+        count.tell(found == set(cell.split()), f"{settings}: {sorted(found)}")
 
 
 def found_parts(files, *places):

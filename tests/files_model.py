@@ -7,7 +7,8 @@ from typing import NamedTuple
 TOP = os.path.dirname(os.path.dirname(os.path.abspath(__file__)))
 sys.path.insert(0, os.path.join(TOP, "bindings", "python"))
 
-from files_model_names import ROOT, Names, Refused, apply
+from files_model_names import ROOT, Refused, apply
+from files_model_syncs import Syncs
 
 from blobcrash.file_calls import Found, Kept, refusal_of
 from blobcrash.foreign_files import IS_DIRECTORY, IS_FILE, REFUSALS
@@ -20,7 +21,7 @@ PAGE = 4096
 class Profile(NamedTuple):
     """A column of the page's table of profiles."""
 
-    keeps_a_prefix: bool
+    keeps: str
     settles: str
     flushes: bool
     zeros: bool
@@ -28,10 +29,10 @@ class Profile(NamedTuple):
 
 
 PROFILES = {
-    "ext4": Profile(True, "up to its last or size", True, True, True),
-    "xfs": Profile(True, "up to its last", False, False, True),
-    "btrfs": Profile(True, "its names", False, True, False),
-    "posix": Profile(False, "its own", False, True, True),
+    "ext4": Profile("prefix", "up to its last or size", True, True, True),
+    "xfs": Profile("prefix", "up to its last", False, False, True),
+    "btrfs": Profile("logged", "its names", False, True, False),
+    "posix": Profile("any", "its own", False, True, True),
 }
 
 
@@ -89,7 +90,7 @@ def written(data, offset, added):
     return resized(data, max(len(data), offset))[:offset] + added + data[offset + len(added) :] if added else data
 
 
-class Model(Names):
+class Model(Syncs):
     """Files by the rules. Of the settings it takes those of writes in sectors, of resizes and syncs, `edits`, `keep`, `failed_sync` and `syncs`."""
 
     def __init__(self, preamble):
@@ -102,6 +103,8 @@ class Model(Names):
         self.files, self.opened, self.next_open = {}, {}, 0
         # The names that are durable without any edit, and the numbers of the edits since then that are settled.
         self.base, self.settled = {}, set()
+        # The number of the next edit at the last sync.
+        self.synced = 0
         # The files without names and descriptors, each with the number of the next edit when that came to be.
         self.gone = {}
 
@@ -111,7 +114,7 @@ class Model(Names):
         elif tokens[:1] == ["profile"]:
             self.profile = PROFILES[tokens[1]]
         elif tokens[:1] == ["edits"]:
-            self.profile = self.profile._replace(keeps_a_prefix=tokens[1] == "prefix")
+            self.profile = self.profile._replace(keeps=tokens[1])
         elif tokens[:1] == ["keep"]:
             self.keep = (int(tokens[1]), int(tokens[2]))
         elif tokens[:2] == ["config", "resize"]:
@@ -275,89 +278,6 @@ class Model(Names):
             numbers = numbers[:half] if self.draw((1, 2)) else numbers[half:]
         return numbers[0]
 
-    # Syncs.
-
-    def settle_where(self, holds):
-        self.settled |= {edit.number for edit in self.edits if holds(edit)}
-
-    def settle_before(self, end):
-        self.settle_where(lambda edit: edit.number < end)
-
-    def unsettled(self):
-        return [edit for edit in self.edits if edit.number not in self.settled]
-
-    def after_last(self, inode, data=False):
-        """The number after that of the last unsettled edit that is about an inode, or in a directory. A sync of `data` leaves out exchanges."""
-        edits = [edit for edit in self.unsettled() if not (data and len(edit.inodes) == 2)]
-        return max((edit.number + 1 for edit in edits if inode in edit.inodes + edit.directories), default=0)
-
-    def settle_names(self, inode):
-        """Settles the edits of an inode's names and, upward, of the new directories that have them."""
-        edits, above, left = self.unsettled(), {inode}, [inode]
-        # A move is in two directories.
-        new = {edit.inodes[0] for edit in edits if len(edit.inodes) == len(edit.directories) == 1}
-        while left:
-            inode = left.pop()
-            found = {directory for edit in edits if inode in edit.inodes for directory in edit.directories} & new - above
-            above, left = above | found, left + sorted(found)
-        self.settle_where(lambda edit: above & set(edit.inodes))
-
-    def fsync(self, asked, data=False):
-        inode = self.inode_of(asked)
-        file = self.files[inode]
-        if self.lies:
-            return
-        self.sync_bytes(file)
-        if self.profile.settles == "up to its last or size" and data:
-            self.settle_before(file.sized)
-        elif self.profile.settles.startswith("up to its last"):
-            self.settle_before(max(self.after_last(inode, data), file.sized))
-        elif self.profile.settles == "its names":
-            self.settle_names(inode)
-        elif self.profile.settles == "its own":
-            self.settle_where(lambda edit: inode in edit.directories)
-
-    def sync_bytes(self, file):
-        """Makes the bytes of a file durable, or fails."""
-        if self.draw(self.sync_rate):
-            if self.drops:
-                file.drop()
-            raise Refused("Injected")
-        file.flush()
-
-    def fdatasync(self, asked):
-        self.fsync(asked, data=True)
-
-    def fsyncdir(self, asked):
-        directory = self.directory_of(asked.path)
-        if self.lies:
-            return
-        if self.profile.settles == "up to its last or size":
-            self.settle_where(lambda edit: True)
-        elif self.profile.settles == "up to its last":
-            self.settle_before(self.after_last(directory))
-        else:
-            if self.profile.settles == "its names":
-                self.settle_names(directory)
-            self.settle_where(lambda edit: directory in edit.directories)
-
-    def sync(self, asked):
-        if self.lies:
-            return
-        for inode, file in sorted(self.files.items()):
-            if inode not in self.gone:
-                self.sync_bytes(file)
-        self.settle_where(lambda edit: True)
-
-    def settle(self, asked):
-        for file in self.files.values():
-            file.flush()
-            file.shown = None
-        self.settle_where(lambda edit: True)
-
-    def commit(self, asked):
-        self.settle_where(lambda edit: True)
-
     def configure(self, asked):
         self.set(asked.path.decode().split())
 
@@ -381,11 +301,16 @@ class Model(Names):
         """Returns the numbers of the edits that are kept."""
         kept, is_lost = set(), False
         for edit in self.edits:
-            if edit.number in self.settled or (self.draw(edit.rate) and not is_lost):
+            if edit.number in self.settled or (self.draw(edit.rate) and not (is_lost and self.is_ordered(edit))):
                 kept.add(edit.number)
             else:
-                is_lost |= self.profile.keeps_a_prefix
+                is_lost = True
         return kept
+
+    def is_ordered(self, edit):
+        """Whether an unsettled edit is kept only with all before it. One that the last sync left unsettled isn't, if it binds a name."""
+        is_alone = edit.number < self.synced and any(binding for _, binding in edit.changes)
+        return self.profile.keeps == "prefix" or (self.profile.keeps == "logged" and not is_alone)
 
     def crash_bytes(self, file, kept):
         """Leaves the durable bytes of a file with what is kept of its writes, truncations and flushes."""

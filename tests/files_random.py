@@ -85,7 +85,7 @@ class Program:
             self.steps = steps_of(chance, chance.randrange(1, 7), files)
         self.settings = SETTINGS + chance.choice((["resize 1 2 0 1"], ["resize 1 2 1 2"], [], [], []))
         # Settings that come after what is durable.
-        self.later = chance.choice((["sync 1 2", "failed_sync drops"], ["sync 1 2"], ["syncs lie"], [], [], [], [], []))
+        self.later = chance.choice((["sync 1 2", "failed_sync drops"], ["sync 1 2"], ["syncs lie"], ["edits logged"], ["edits prefix"], [], [], []))
 
     def __call__(self, files):
         files.configure("keep 1 1")

@@ -25,8 +25,8 @@ SEEDS = [int(word) for word in sys.argv[3:]] or [1, 2, 3]
 STEPS, SECONDS, SCRIPTS = 800, 15, 40
 COMMANDS = [b"status", b"settle", b"off", b"on", b"crash", b"crash-after 3", b"crash-after 0", b"crash-after 99999999999999999999", b"frob", b"",
             b"config write 0 1 1 2 prefix", b"config write 1 9 1 2 subset", b"config sync 1 5", b"config clear", b"config read 1 9 # \xff",
-            b"config open 1 0", b"profile posix", b"profile ext4", b"profile zfs", b"edits any", b"edits none", b"keep 1 3", b"keep 3 1", b"failed_sync drops",
-            b"syncs lie", b"syncs honest", b"failed_write prefix", b"note acknowledged 1", b"note \xff", b"note " + b"n" * 480, b"record stop now",
+            b"config open 1 0", b"profile posix", b"profile ext4", b"profile zfs", b"edits any", b"edits logged", b"edits none", b"keep 1 3", b"keep 3 1",
+            b"failed_sync drops", b"syncs lie", b"syncs honest", b"failed_write prefix", b"note acknowledged 1", b"note \xff", b"note " + b"n" * 480, b"record stop now",
             b"record /", b"x" * 511, b"x" * 600]
 FIFO = [b"lazyfs::clear-cache", b"lazyfs::cache-checkpoint", b"lazyfs::unsynced-data-report", b"lazyfs::display-cache-usage", b"lazyfs::help",
         b"lazyfs::", b"lazyfs::crash::timing=after", b"y" * 511, b"y" * 700]

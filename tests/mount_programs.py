@@ -154,7 +154,7 @@ PROGRAMS = [
      same("none/none", "empty/none", "none/empty")),
     ("move", move, folders, "x/f y/f", same("A/none", "none/A")),
     ("move, old folder synced", lambda at: move(at, "x"), folders, "x/f y/f", same("none/A")),
-    ("move, new folder synced", lambda at: move(at, "y"), folders, "x/f y/f", same("none/A")),
+    ("move, new folder synced", lambda at: move(at, "y"), folders, "x/f y/f", [{"none/A"}, {"none/A"}, {"none/A", "A/A"}, {"none/A"}]),
     ("link b, unlink a", link, files(a=A), "a b", more(["A/none", "A/A", "none/A"], [], ["none/none"])),
     ("overwrite a and b", lambda at: overwrite(at, None, "a", "b"), BA, "a b", same("A/A", "A/B", "B/A", "B/B")),
     ("replace f, new file d, synced", then(lambda at: replace(at, True, data=B), lambda at: put(f"{at}/d", X, sync=True)),

@@ -15,7 +15,7 @@ static const struct {
     const char *name, *setting;
     const char *const words[5];
 } switches[SWITCHES] = {
-    {"profile", "profile", {"ext4", "xfs", "btrfs", "posix"}}, {"edits", "edits", {"prefix", "any"}},
+    {"profile", "profile", {"ext4", "xfs", "btrfs", "posix"}}, {"edits", "edits", {"prefix", "any", "logged"}},
     {"syncs", "syncs", {"honest", "lie"}},                     {"failed_sync", "failed_sync", {"keeps", "drops"}},
     {"failed_write", "failed_write", {"mode", "prefix"}},      {"keep_names", "keep", {NULL}},
 };

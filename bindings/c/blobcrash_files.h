@@ -104,8 +104,8 @@ struct blobcrash_file_reply {
 
 /*
  * Opens a new, empty file system. The preamble has the lines `words W ..` and `seed N`, and then settings, in any order and all
- * optional: `profile ext4|xfs|btrfs|posix` (ext4 without one), and after it `edits prefix|any`, which edits a crash may keep in place of
- * what the profile says; `config ..` as for a session (the faults of calls on files, and which
+ * optional: `profile ext4|xfs|btrfs|posix` (ext4 without one), and after it `edits prefix|any|logged`, which edits a crash may keep in
+ * place of what the profile says; `config ..` as for a session (the faults of calls on files, and which
  * bytes of an unsynced write a crash keeps: none without one); `keep N D`, how often a crash keeps an edit that nothing settled (1 2
  * without one); `space BYTES FILES`, the limits; `failed_sync keeps|drops`, `syncs honest|lie` and `failed_write mode|prefix`, the switches
  * of docs/FILES.md (the first of each without one). If the files were open, their file system ends.

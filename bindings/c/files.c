@@ -65,7 +65,7 @@ static void preambles(void) {
         {"keep 1\n", 1}, {"keep 1 0\n", 1}, {"keep 2 1\n", 1}, {"keep 1 2 3\n", 1}, {"space 1\n", 1}, {"space 1 2 3\n", 1},
         {"space -1 2\n", 1}, {"space 18446744073709551616 2\n", 1}, {"seed 1\nseed 2\n", 2}, {"profile xfs\nseed 1\n", 2},
         {"failed_sync drops\nsyncs lie\nfailed_write prefix\nfailed_sync keeps\nsyncs honest\nfailed_write mode\n", 0},
-        {"profile xfs\nedits any\nedits prefix\n", 0}, {"edits\n", 1}, {"edits all\n", 1}, {"edits any any\n", 1},
+        {"profile xfs\nedits any\nedits logged\nedits prefix\n", 0}, {"edits\n", 1}, {"edits all\n", 1}, {"edits any any\n", 1},
         {"failed_sync\n", 1}, {"failed_sync lie\n", 1}, {"failed_sync drops drops\n", 1}, {"syncs\n", 1}, {"syncs drops\n", 1},
         {"syncs lie 1\n", 1}, {"failed_write\n", 1}, {"failed_write sectors 4\n", 1}, {"failed_write subset\n", 1},
         {"keep 1 2\n\nwords 1\n", 3}, {"image p 61 -\n", 1}, {"open p 61\n", 1}, {"config\n", 1}, {"config keep 1 2\n", 1},

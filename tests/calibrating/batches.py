@@ -19,13 +19,10 @@ class Programs(NamedTuple):
 
 
 class Outside(NamedTuple):
-    """A state of a case that isn't in the set of its program. `alone` is the case with a commit for each sync of the others in its
-    group."""
+    """A state of a case that isn't in the set of its program. `alone` is the case with the syncs of the others in its group."""
 
     case: object
     alone: object
-    # Whether it is a known deviation of the file system.
-    is_known: bool
     done: int
     inside: bool
     state: str
@@ -86,9 +83,8 @@ class Worker:
         distinct = {(each.done, each.inside, each.state): each for each in found}
         outside = []
         for place, each in sorted(distinct.items()):
-            verdict = self.model.verdict(case, *place)
-            if verdict:
-                outside.append(Outside(case, alone, verdict == "known", *each[1:]))
+            if not self.model.is_in(alone, *place):
+                outside.append(Outside(case, alone, *each[1:]))
         return outside
 
     def close(self):
@@ -101,12 +97,14 @@ def seed_of(group):
 
 
 def alone_of(group, number):
-    """A case with `~commit` in place of each sync of the others in its group."""
+    """A case with `~sync` in place of each sync of the others in its group, and their commits."""
     steps = []
     for other, text in in_turn(group, seed_of(group)):
         if other == number:
             steps.append(text)
-        elif text.split()[0] in ("fsync", "fdatasync", "sync", "map", "~commit"):
+        elif text.split()[0] in ("fsync", "fdatasync", "map", "~sync"):
+            steps.append("~sync")
+        elif text in ("sync", "~commit"):
             steps.append("~commit")
-    steps = [text for at, text in enumerate(steps) if text != "~commit" or steps[at - 1 : at] != ["~commit"]]
+    steps = [text for at, text in enumerate(steps) if text not in ("~commit", "~sync") or steps[at - 1 : at] != [text]]
     return group[number]._replace(steps=tuple(steps))

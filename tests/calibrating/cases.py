@@ -14,7 +14,8 @@ MOST_STEPS, MOST_LETTERS, MOST_DRAWS = 8, 3, 11
 
 class Case(NamedTuple):
     """The steps of tests/files_steps.py. Those that begin with `~` aren't the program's: `~commit` commits the file system's changes,
-    `~back PATH FROM TO` writes a file's letters back, `~wait` waits for a tick of the clock of files. The unit is the size of a letter."""
+    `~sync` syncs another file, `~back PATH FROM TO` writes a file's letters back, `~wait` waits for a tick of the clock of files. The unit
+    is the size of a letter."""
 
     before: tuple
     steps: tuple

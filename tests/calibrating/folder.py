@@ -133,14 +133,17 @@ class Background:
 
     def commit(self):
         """Commits the file system's changes. Of ext4 and XFS a sync of a new file does so, of btrfs there is a call."""
-        if self.type == "btrfs":
-            number = os.open(self.top, os.O_RDONLY | os.O_DIRECTORY)
-            try:
-                started = fcntl.ioctl(number, BTRFS_IOC_START_SYNC, struct.pack("=Q", 0))
-                fcntl.ioctl(number, BTRFS_IOC_WAIT_SYNC, started)
-            finally:
-                os.close(number)
-            return
+        if self.type != "btrfs":
+            return self.sync()
+        number = os.open(self.top, os.O_RDONLY | os.O_DIRECTORY)
+        try:
+            started = fcntl.ioctl(number, BTRFS_IOC_START_SYNC, struct.pack("=Q", 0))
+            return fcntl.ioctl(number, BTRFS_IOC_WAIT_SYNC, started)
+        finally:
+            os.close(number)
+
+    def sync(self):
+        """Syncs a new file."""
         self.made += 1
         with Descriptor(os.path.join(self.top, "outside", str(self.made)), "xb") as file:
             os.fsync(file.number)

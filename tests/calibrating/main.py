@@ -133,8 +133,8 @@ def print_states(worker, case, all_found):
     outside = 0
     print(case)
     for (done, inside, state), count in sorted(counts.items()):
-        word = worker.model.verdict(case, done, inside, state)
-        outside += word == "OUTSIDE"
+        word = "" if worker.model.is_in(case, done, inside, state) else "OUTSIDE"
+        outside += bool(word)
         print(f"  {word:7} after {done}{'+' if inside else ' '} {count:5} {state}", flush=True)
     end = len(case.calls())
     states = worker.model.states(case)
@@ -153,7 +153,7 @@ def shrink_and_print(worker, case, crashes):
 
 def compare(worker, options):
     """Compares the states of a file. Returns how many are outside."""
-    states = outside = known = 0
+    states = outside = 0
     programs, coverage = set(), Coverage(worker.model)
     with open(options.compare, encoding="utf-8") as file:
         for line in file:
@@ -163,13 +163,13 @@ def compare(worker, options):
             states += 1
             programs.add((number, text))
             case = Case.parse(text)
-            word = worker.model.verdict(case, int(done), inside == "1", state)
+            is_in = worker.model.is_in(case, int(done), inside == "1", state)
             if at_end(case, int(done), inside == "1"):
                 coverage.add(case, {state})
-            outside, known = outside + (word == "OUTSIDE"), known + (word == "known")
-            if word:
-                print(f"{word} | {text} | after {done}{'+' if inside == '1' else ''} | {state}", flush=True)
-    print(f"# {options.fs}: {len(programs)} programs, {states} states, {outside} outside, {known} of known deviations")
+            if not is_in:
+                outside += 1
+                print(f"OUTSIDE | {text} | after {done}{'+' if inside == '1' else ''} | {state}", flush=True)
+    print(f"# {options.fs}: {len(programs)} programs, {states} states, {outside} outside")
     if options.coverage:
         coverage.print()
     return outside

@@ -1,10 +1,9 @@
 """What a profile leaves of a program, by the library."""
 
 import subprocess
-from itertools import combinations
 
 from files_steps import Steps
-from scripts import Deviating, Script, tree_of
+from scripts import Script, tree_of
 
 # A crash keeps any letter of an unsynced write with this rate, in units of a letter.
 WRITES = "config write 0 1 {} sectors {}"
@@ -20,19 +19,25 @@ class TooMany(Exception):
 
 
 class Written:
-    """The lines of a case, and how many there are after each number of its steps."""
+    """The lines of a case. After each number of its steps a crash comes after some number of lines: the first and the last of these."""
 
     def __init__(self, script, case):
         self.unit, self.script = case.unit, script
         steps = Steps(script, 1)
+        if "~sync" in case.steps:
+            script.make_other()
         for text in case.before:
             steps.make(text)
         script.settle()
         self.start = len(script.lines)
-        self.ends = [self.start]
-        for text in case.calls():
-            steps.make(text)
-            self.ends.append(len(script.lines))
+        self.ends = [[self.start, self.start]]
+        for text in case.steps:
+            if text == "~sync":
+                script.sync_other()
+                self.ends[-1][1] = len(script.lines)
+            elif not text.startswith("~"):
+                steps.make(text)
+                self.ends.append([len(script.lines)] * 2)
         # Whether a crash after a number of lines leaves a state.
         self.known = {}
 
@@ -42,7 +47,7 @@ class Model:
 
     def __init__(self, program, profile):
         self.profile = profile
-        self.case, self.forms = None, {}
+        self.case, self.lines = None, None
         self.trees = subprocess.Popen([program], stdin=subprocess.PIPE, stdout=subprocess.PIPE, text=True)
 
     def close(self):
@@ -70,45 +75,33 @@ class Model:
         except TooMany:
             return set()
 
-    def verdict(self, case, done, inside, state):
-        """Compares what a crash left after this number of steps of a case, or inside of the next step. Returns nothing for a state of the
-        set, `known` for a known deviation, and else `OUTSIDE`."""
-        if self.leaves(self.written(case), done, inside, state):
-            return ""
-        return "known" if self.deviates(case, done, inside, state) else "OUTSIDE"
+    def is_in(self, case, done, inside, state):
+        """Whether what a crash left after this number of steps of a case, or inside of the next step, is in the set."""
+        return self.leaves(self.written(case), done, inside, state)
 
-    def deviates(self, case, done, inside, state):
-        """Whether a state that isn't in the set is a known deviation (docs/FILES.md): it is in the set of other calls."""
-        if self.profile == "xfs" and case.unit < PAGE:
-            return self.leaves(self.written(case, PAGE // case.unit), done, inside, state)
-        if self.profile != "btrfs":
-            return False
-        return any(self.leaves(written, done, inside, state, logged) for written in (self.written(case), self.written(case, 1)))
-
-    def written(self, case, *form):
-        """The lines of a case, also in the form of a deviation."""
+    def written(self, case):
+        """The lines of a case."""
         if case != self.case:
-            self.case, self.forms = case, {}
-        if form not in self.forms:
-            self.forms[form] = Written(Deviating(*form) if form else Script(), case)
-        return self.forms[form]
+            self.case, self.lines = case, Written(Script(), case)
+        return self.lines
 
-    def leaves(self, written, done, inside, state, kept=None):
-        """Whether a crash leaves a state. Inside of a step it does if it does after some of the calls of which this consists. `kept` is
-        another rule for the edits that a crash keeps than the profile's."""
-        last = written.ends[done + 1] if inside else written.ends[done]
-        return any(self.has(written, end, state, kept) for end in range(written.ends[done], last + 1))
+    def leaves(self, written, done, inside, state):
+        """Whether a crash leaves a state. Inside of a step it does if it does after some of the calls of which this consists."""
+        first, last = written.ends[done]
+        if inside:
+            last = written.ends[done + 1][0]
+        return any(self.has(written, end, state) for end in range(first, last + 1))
 
-    def has(self, written, end, state, kept=None):
+    def has(self, written, end, state):
         """Whether a crash after some lines leaves a state. First without the draws that the state decides, and then with all. If these are
         too many it is taken for one that isn't left; a shorter program shows whether that is so."""
-        place = end, state, kept
+        place = end, state
         if place not in written.known:
             lines, unit = written.script.lines, written.unit
-            before = lines[: written.start] + (["edits any"] if kept else [])
+            kept = logged if self.profile == "btrfs" else up_to_point
             try:
-                is_found = any(state in self.explore(unit, before + given) for given in directed(written, end, state, kept or up_to_point))
-                written.known[place] = is_found or not kept and state in self.explore(unit, lines[:end])
+                is_found = any(state in self.explore(unit, lines[: written.start] + given) for given in directed(written, end, state, kept))
+                written.known[place] = is_found or state in self.explore(unit, lines[:end])
             except TooMany:
                 written.known[place] = False
         return written.known[place]
@@ -122,19 +115,15 @@ def up_to_point(written, end):
 
 
 def logged(written, end):
-    """The same for what btrfs's log leaves (docs/FILES.md): any edits from before the last sync, or all of these and later ones up to some
-    point. Of the moves to other folders some are whole, and of the others the old name stays."""
-    lines, halves = written.script.lines, written.script.halves
-    last = max((number for number in range(written.start, end) if lines[number].split()[0] in SYNCS), default=written.start)
-    edits = edits_of(written, written.start, last)
-    moves = [number for number in edits if number in halves]
-    later = dict.fromkeys(edits_of(written, last, end), "0 1")
-    for size in range(len(moves) + 1):
-        for whole in combinations(moves, size):
-            kept = {**dict.fromkeys(edits, "1 2"), **dict.fromkeys(moves, "0 1")}
-            kept.update({number: "1 1" for move in whole for number in (move, halves[move])})
-            yield {**kept, **later}
+    """The same for btrfs: any edits from before the last sync, or all of these and later ones up to some point."""
     yield from up_to_point(written, end)
+    last = last_sync(written.script.lines, written.start, end)
+    yield {**dict.fromkeys(edits_of(written, written.start, last), "1 2"), **dict.fromkeys(edits_of(written, last, end), "0 1")}
+
+
+def last_sync(lines, start, end):
+    """The number of the last line that syncs between two, or the first of them."""
+    return max((number for number in range(start, end) if lines[number].split()[0] in SYNCS), default=start)
 
 
 def edits_of(written, start, end):

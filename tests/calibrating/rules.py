@@ -3,7 +3,7 @@
 from itertools import product
 from typing import NamedTuple
 
-from model import EDITS, LARGE, PAGE, WRITES, TooMany, with_keeps
+from model import EDITS, LARGE, PAGE, WRITES, TooMany, last_sync, with_keeps
 
 # The lines that sync something, by the rule that says what they settle.
 SYNCS = {"fsync": "7 sync", "fdatasync": "7 sync_data", "fsyncdir": "6 sync_directory"}
@@ -95,6 +95,11 @@ def all_edits(program):
     return [program.kept(dict.fromkeys(program.edits(), rate)) for rate in ("1 1", "0 1")]
 
 
+def ordered_edits(program):
+    """Of the edits that nothing settled those up to some point are kept."""
+    return [["edits prefix", *program.lines]]
+
+
 def settling(word):
     """A sync of this kind settles all edits."""
 
@@ -110,14 +115,13 @@ def settling(word):
 
 
 def kept_truncations(program):
-    """A crash keeps each truncation. Of the changes of names it keeps those up to some point."""
+    """A crash keeps each truncation. Of the changes of names it keeps those up to some point, and on btrfs any from before the last sync."""
     names = [number for number in program.edits() if word_of(program.lines[number]) not in TRUNCATIONS]
-    plans = []
-    for end in range(len(names) + 1):
-        rates = dict.fromkeys(program.edits(), "1 1")
-        rates.update(dict.fromkeys(names[end:], "0 1"))
-        plans.append(["edits any", *program.kept(rates)])
-    return plans
+    rates = [dict.fromkeys(names[end:], "0 1") for end in range(len(names) + 1)]
+    if program.profile == "btrfs":
+        last = last_sync(program.lines, program.start, len(program.lines))
+        rates.append({number: "1 2" if number < last else "0 1" for number in names})
+    return [["edits any", *program.kept({**dict.fromkeys(program.edits(), "1 1"), **chosen})] for chosen in rates]
 
 
 def no_holes(program):
@@ -191,6 +195,7 @@ RULES = (
     ("1 sectors", lambda profile, unit: True, whole_writes),
     ("2 order", lambda profile, unit: True, ordered_writes),
     ("5 edits", lambda profile, unit: True, all_edits),
+    ("5 logged", lambda profile, unit: profile == "btrfs", ordered_edits),
     *((name, lambda profile, unit: True, settling(word)) for word, name in SYNCS.items()),
     ("8 holes", lambda profile, unit: True, no_holes),
     ("8 zeros", lambda profile, unit: profile != "xfs", no_zeros),

@@ -118,6 +118,8 @@ class Live:
         """Does what the kernel may do at any time."""
         if text == "~commit":
             return self.background.commit()
+        if text == "~sync":
+            return self.background.sync()
         if text == "~wait":
             return wait_for_tick()
         path, start, end = BACK.fullmatch(text).groups()

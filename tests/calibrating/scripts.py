@@ -36,10 +36,6 @@ class Open:
         self.script.add(f"{word} {self.name if self.number is None else self.number} {rest}".strip())
 
     def write(self, data):
-        self.script.fill(self)
-        self.put(data)
-
-    def put(self, data):
         if self.at + len(data) > self.entry.length:
             self.script.grows[len(self.script.lines)] = self.entry.length
         self.call("write", f"{self.at} {data.hex()}")
@@ -73,8 +69,8 @@ class Script:
         self.lines, self.found, self.descriptors = [], {"/": Entry(None), ".": Entry(None)}, 0
         # The numbers of the lines that make a file longer, with its length before, and of those that rename over a name.
         self.grows, self.replaces = {}, set()
-        # Of moves that are made in two steps, the removal of the old name with the line that makes the new one.
-        self.halves = {}
+        # The descriptor of a file of another program, which has no name.
+        self.other = None
 
     def add(self, line):
         self.lines.append(line)
@@ -87,8 +83,13 @@ class Script:
         """Makes all durable."""
         self.add("settle")
 
-    def fill(self, file):
-        """Writes what comes before a write: nothing."""
+    def make_other(self):
+        self.other = self.take()
+        self.add("create /other")
+        self.add("unlink /other")
+
+    def sync_other(self):
+        self.add(f"fsync {self.other}")
 
     @staticmethod
     def absolute(path):
@@ -173,38 +174,6 @@ class Script:
 
     def sync(self):
         self.add("sync")
-
-
-class Deviating(Script):
-    """A script for sets with known deviations (docs/FILES.md). With `page`, the letters of a page, a write beyond the end of a file first
-    fills the page in which this ends with zeros. A move of a file to another folder is a new name and then the removal of the old one."""
-
-    def __init__(self, page):
-        super().__init__()
-        self.page, self.is_settled = page, False
-
-    def settle(self):
-        super().settle()
-        self.is_settled = True
-
-    def fill(self, file):
-        length = file.entry.length
-        end = min(file.at, length + -length % self.page)
-        if end > length:
-            at, file.at = file.at, length
-            file.put(bytes(end - length))
-            file.at = at
-
-    def rename(self, old, new):
-        is_moved = self.found[old].length is not None and old.rpartition("/")[0] != new.rpartition("/")[0]
-        if self.page > 1 or not (self.is_settled and is_moved) or self.found.get(new) is self.found[old]:
-            super().rename(old, new)
-            return
-        if new in self.found:
-            self.unlink(new)
-        self.link(old, new)
-        self.halves[len(self.lines)] = len(self.lines) - 1
-        self.unlink(old)
 
 
 def tree_of(line):

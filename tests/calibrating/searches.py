@@ -6,7 +6,7 @@ import queue
 import sys
 import time
 
-from batches import Worker
+from batches import Worker, alone_of
 from cases import random_case
 from disks import Refused, end_with
 
@@ -16,13 +16,12 @@ GROUP, BATCH = 8, 32
 
 def describe(found):
     """A line for a state that is outside."""
-    known = "known deviation: " if found.is_known else ""
-    return f"{known}{found.case} | after {found.done}{'+' if found.inside else ''} | {found.state} | {found.how} | {found.alone}"
+    return f"{found.case} | after {found.done}{'+' if found.inside else ''} | {found.state} | {found.how} | {found.alone}"
 
 
 def save(path, name, groups, seen):
-    """Appends the states that programs left to a file."""
-    cases = {number: case for group in groups for number, case in group.items()}
+    """Appends the states that programs left to a file, each program with the syncs of the others in its group."""
+    cases = {number: alone_of(group, number) for group in groups for number in group}
     lines = []
     for number, found in seen.items():
         for done, inside, state in sorted({(each.done, each.inside, each.state) for each in found}):
@@ -75,7 +74,7 @@ def search(programs, options):
     workers = [context.Process(target=work, args=(programs, options, index, began + seconds, results)) for index in range(options.jobs)]
     for each in workers:
         each.start()
-    count = crashes = outside = known = 0
+    count = crashes = outside = 0
     left = options.jobs
     while left:
         try:
@@ -90,13 +89,12 @@ def search(programs, options):
             raise Refused(got)
         else:
             count, crashes = count + got.cases, crashes + got.crashes
-            for found in {(each.case, each.is_known): each for each in got.outside}.values():
-                outside, known = outside + (not found.is_known), known + found.is_known
+            for found in {each.case: each for each in got.outside}.values():
+                outside += 1
                 print(describe(found), flush=True)
     for each in workers:
         each.join()
     took = time.monotonic() - began
-    more = f", {known} with a known deviation" if known else ""
-    print(f"# {options.fs}: {count} programs, {crashes} crashes, {outside} outside{more}; {took:.0f} s, {60 * count / took:.0f} a minute")
+    print(f"# {options.fs}: {count} programs, {crashes} crashes, {outside} outside; {took:.0f} s, {60 * count / took:.0f} a minute")
     sys.stdout.flush()
     return outside

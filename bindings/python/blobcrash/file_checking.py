@@ -6,7 +6,7 @@ from typing import List, Optional
 
 from .errors import BadLine
 from .file_calls import FORMS, PATH, SETTINGS, file_line, without_comment
-from .file_settings import PROFILES, file_setting_tokens
+from .file_settings import PROFILES, file_setting_tokens, one_of
 from .shapes import DIGITS, reason_of, shown, unknown, unmet
 
 _NAMES = {"path": "PATH", "to": "TO", "how": "[noreplace|exchange]", "number": "NUMBER", "first": "NUMBER", "last": "LENGTH", "file": "FILE",
@@ -21,7 +21,7 @@ def file_reason_of(tokens: List[str]) -> Optional[str]:
         return reason_of(tokens)
     if word == "profile":
         is_right = len(arguments) == 1 and arguments[0] in PROFILES
-        return None if is_right else f"{shown(' '.join(arguments))}: a profile is {', '.join(PROFILES[:-1])} or {PROFILES[-1]}"
+        return None if is_right else f"{shown(' '.join(arguments))}: a profile is {one_of(PROFILES)}"
     if word in SETTINGS:
         try:
             file_setting_tokens(" ".join(tokens))

@@ -2,7 +2,7 @@
 
 from __future__ import annotations
 
-from typing import Any, Iterable, List, Literal, Optional, Tuple
+from typing import Any, Iterable, List, Literal, Optional, Sequence, Tuple
 
 from .errors import BadLine
 from .grammar import needs_draws, setting_tokens, text_of
@@ -17,7 +17,17 @@ ALL = "all"
 # What the files of a search begin with, as a mount does, if no setting is one of writes: a crash keeps half of the unsynced sectors.
 TORN_WRITES = "write 0 1 1 2 sectors 512"
 # The switches with what each may be.
-_SWITCHES = {"edits": ("prefix", "any"), "failed_sync": ("keeps", "drops"), "syncs": ("honest", "lie"), "failed_write": ("mode", "prefix")}
+_SWITCHES = {
+    "edits": ("prefix", "any", "logged"),
+    "failed_sync": ("keeps", "drops"),
+    "syncs": ("honest", "lie"),
+    "failed_write": ("mode", "prefix"),
+}
+
+
+def one_of(words: Sequence[str]) -> str:
+    """A choice of words, as `a, b or c`."""
+    return f"{', '.join(words[:-1])} or {words[-1]}"
 
 
 def profile_of(profile: Any) -> str:
@@ -75,7 +85,7 @@ def file_setting_tokens(setting: str) -> List[str]:
         return words
     if words and words[0] in _SWITCHES:
         if len(words) != 2 or words[1] not in _SWITCHES[words[0]]:
-            raise BadLine(f"bad setting: {setting!r}: `{words[0]}` is {' or '.join(_SWITCHES[words[0]])}")
+            raise BadLine(f"bad setting: {setting!r}: `{words[0]}` is {one_of(_SWITCHES[words[0]])}")
         return words
     return setting_tokens(setting)
 

@@ -220,8 +220,8 @@ class Files(Session):
 
     def configure(self, setting: str) -> None:
         """Makes a setting: a rate as of `Store.configure`, of calls on files; `keep N D`, how often a crash keeps an edit that nothing
-        settled, a change of names or a truncation, 1/2 at first; `edits prefix` or `any`, which of them a crash may keep, in place of what
-        the profile says; `space BYTES FILES`, how many bytes and files there may be; or a switch, of
+        settled, a change of names or a truncation, 1/2 at first; `edits prefix`, `any` or `logged`, which of them a crash may keep, in place of
+        what the profile says; `space BYTES FILES`, how many bytes and files there may be; or a switch, of
         which the first is set at first: `failed_sync keeps` or `drops`, `syncs honest` or `lie`, `failed_write mode` or `prefix`
         (docs/FILES.md).
 

@@ -16,13 +16,14 @@ use Rattle.blob_packed.proofs.Fits.{fit_append}
 use Rattle.blob_packed.proofs.Losses.{packed_append}
 use Rattle.blob_packed.proofs.Scans.{packed_are_found}
 use Rattle.blob_directory.specs.declared.edit.Binding.{Binding}
-use Rattle.blob_directory.specs.declared.profile.Keeps.{Keeps}
+use Rattle.blob_directory.specs.declared.rule.Rule.{Rule}
 use Rattle.blob_directory.specs.Checkpoints.{Bindings, FitRecords, bindings_in, settled_records}
 use Rattle.blob_directory.specs.Names.{Edit, Names, Same, all_edited, changed, entry}
 use Rattle.blob_directory.specs.Settled.{AreSettled}
 use Rattle.blob_directory.specs.Tables.{HasName}
-use Rattle.blob_directory.specs.Profiles.{edits_of, kept_edits, names_told}
+use Rattle.blob_directory.specs.Profiles.{edits_of, kept_edits, names_told, with_seen}
 use Rattle.blob_directory.specs.Records.{FitsRecord, Found, edit_bytes, edit_found, edit_told, found_in, has_edit, record_of}
+use Rattle.blob_directory.proofs.Rules.{seen_settled}
 use Rattle.blob_directory.proofs.Records.{round_trip}
 
 abbrev pub edit_for : List ℕ × Binding → Edit
@@ -58,16 +59,21 @@ all_records (b ∷ bs) fit =
     ap₂ (λ x y. x ∷ y) (round_trip (edit_for b) true (All-head (λ b. FitsRecord (edit_for b)) b bs fit))
     (all_records bs (All-tail (λ b. FitsRecord (edit_for b)) b bs fit))
 
-all_kept : (keeps : Keeps) (bs : Bindings) → kept_edits keeps false (founds_for bs) ≡ edits_for bs
-all_kept keeps [] = refl
-all_kept keeps (b ∷ bs) = ap (λ l. edit_for b ∷ l) (all_kept keeps bs)
+all_kept : (rule : Rule) (bs : Bindings) → kept_edits rule false (founds_for bs) ≡ edits_for bs
+all_kept rule [] = refl
+all_kept rule (b ∷ bs) = ap (λ l. edit_for b ∷ l) (all_kept rule bs)
+
+all_settled : (bs : Bindings) → AreSettled (founds_for bs)
+all_settled [] = tt
+all_settled (b ∷ bs) = (refl, all_settled bs)
 
 -- the names of settled records
-pub records_told : (keeps : Keeps) (bs : Bindings) → FitFrom 0 (settled_records bs) → All (λ b. FitsRecord (edit_for b)) bs → edits_of keeps (packed (settled_records bs)) ≡ edits_for bs
-records_told keeps bs room fit =
-    ap (λ l. kept_edits keeps false (map edit_found l)) (packed_are_found (settled_records bs) room)
-    ∙ ap (kept_edits keeps false) (all_records bs fit)
-    ∙ all_kept keeps bs
+pub records_told : (rule : Rule) (bs : Bindings) → FitFrom 0 (settled_records bs) → All (λ b. FitsRecord (edit_for b)) bs → edits_of rule (packed (settled_records bs)) ≡ edits_for bs
+records_told rule bs room fit =
+    ap (λ l. kept_edits rule false (with_seen rule 0 (map edit_found l))) (packed_are_found (settled_records bs) room)
+    ∙ ap (λ l. kept_edits rule false (with_seen rule 0 l)) (all_records bs fit)
+    ∙ ap (kept_edits rule false) (seen_settled rule 0 (founds_for bs) (all_settled bs))
+    ∙ all_kept rule bs
 
 -- what edits that bind as some names do leave
 module _ (names : Names) where
@@ -126,16 +132,16 @@ module _ (names : Names) where
   by_cases told sound all e (Some to) None t n = let both : None ≡ Some to = sym n ∙ sound e to t in absurd (cc)
 
   pub checkpoint_gives : (bs : Bindings) → FitFrom 0 (settled_records bs) → FitRecords names → All (λ b. names b.0 ≡ Some b.1) bs
-      → ((e : List ℕ) (to : Binding) → names e ≡ Some to → Contains bs (e, to)) → (keeps : Keeps) → Same (names_told keeps (packed (settled_records bs))) names
-  checkpoint_gives bs room fit sound all keeps =
+      → ((e : List ℕ) (to : Binding) → names e ≡ Some to → Contains bs (e, to)) → (rule : Rule) → Same (names_told rule (packed (settled_records bs))) names
+  checkpoint_gives bs room fit sound all rule =
       let journal : List ℕ = packed (settled_records bs) in
       let fits : All (λ b. FitsRecord (edit_for b)) bs = λ k d h. fit _ _ (sound k d h) in
-      let told : names_told keeps journal ≡ all_edited (λ _. None) (edits_for bs) = ap (all_edited (λ _. None)) (records_told keeps bs room fits) in
+      let told : names_told rule journal ≡ all_edited (λ _. None) (edits_for bs) = ap (all_edited (λ _. None)) (records_told rule bs room fits) in
       let none : (e : List ℕ) (to : Binding) → None ≡ Some to → names e ≡ Some to = λ e to h. absurd (cc) in
-      λ e. by_cases (names_told keeps journal)
+      λ e. by_cases (names_told rule journal)
       (λ x to h. sound_after bs (λ _. None) sound none x to (sym (ap (λ (t : Names). t x) told) ∙ h))
       (λ x to h. ap (λ (t : Names). t x) told ∙ all_after bs (λ _. None) sound x to h (all x to h))
-      e (names_told keeps journal e) (names e) refl refl
+      e (names_told rule journal e) (names e) refl refl
 
 abbrev pub Listed : Type 0
 Listed = List (Vec ℕ Global × Binding)
@@ -240,15 +246,15 @@ written_more names has t u e bytes bytes' number number' ns more made count room
 
 pub written_all : (names : Names) (has : ℕ → Bool) (left : List (ℕ × ℕ)) (bytes : List ℕ) (number : ℕ) → left ≡ [] → Written names has left bytes number → FitRecords names
     → ((e : List ℕ) (to : Binding) → names e ≡ Some to → (d : ℕ) × (name : List ℕ) × (e ≡ entry d name) × (has d ≡ true))
-    → (keeps : Keeps) → Same (names_told keeps bytes) names
-written_all names has left bytes number none w fit places keeps =
-    subst (λ l. Same (names_told keeps l) names) (sym w.is)
+    → (rule : Rule) → Same (names_told rule bytes) names
+written_all names has left bytes number none w fit places rule =
+    subst (λ l. Same (names_told rule l) names) (sym w.is)
     (checkpoint_gives names w.list w.room fit w.sound
     (λ e to h.
     let at = places e to h in
     subst (λ k. Contains w.list (k, to)) (sym at.2)
     (⊎_elim (λ x. x) (λ x. absurd (subst (λ l. AmongKeys l at.0) none x)) (w.all at.0 at.1 to at.3 (ap names (sym at.2) ∙ h))))
-    keeps)
+    rule)
 
 pub written_packed : (names : Names) (has : ℕ → Bool) (left : List (ℕ × ℕ)) (bytes : List ℕ) (number : ℕ) → Written names has left bytes number → IsPacked number bytes
 written_packed names has left bytes number w = record { records = settled_records w.list; is = w.is; counted = w.counted; fit = w.room }

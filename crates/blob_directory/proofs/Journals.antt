@@ -3,8 +3,8 @@ use Rattle.std.proofs.Common.{◌≡◌, ℕ, zero, suc, ◌+◌, ◌-◌, ◌�
 use Rattle.std.specs.Str.{bytes_eq}
 use Rattle.std.proofs.lemmas.List.{length-replicate}
 use Rattle.blob_packed.specs.Records.{Record, found_from}
-use Rattle.blob_directory.specs.declared.profile.Keeps.{Keeps}
-use Rattle.blob_directory.specs.declared.profile.Keeps.TheVariants.{Any, Prefix}
+use Rattle.blob_directory.specs.declared.rule.Rule.{Rule}
+use Rattle.blob_directory.specs.declared.rule.Rule.TheVariants.{Any, Behind, Prefix}
 use Rattle.blob_directory.specs.Names.{Change, Edit, Names, Same, all_edited, changed, edited}
 use Rattle.blob_directory.specs.Profiles.{all_counts, counts, is_prefix, kept_edits, lost_behind, with_found}
 use Rattle.blob_directory.specs.Records.{Found, edit_found, edits_from}
@@ -21,62 +21,75 @@ pub same_all : (a b : Names) (edits : List Edit) → Same a b → Same (all_edit
 same_all a b [] h = h
 same_all a b (edit ∷ edits) h = same_all (edited a edit) (edited b edit) edits (same_edited a b edit h)
 
-apply_one : (keeps : Keeps) (lost : Bool) (names : Names) (f : Found) (found : List Found)
-    → all_edited (with_found names lost f) (kept_edits keeps (lost || (is_prefix keeps && not (counts lost f))) found) ≡ all_edited names (kept_edits keeps lost (f ∷ found))
+apply_one : (rule : Rule) (lost : Bool) (names : Names) (f : Found) (found : List Found)
+    → all_edited (with_found names lost f) (kept_edits rule (lost || (is_prefix rule && not (counts lost f))) found) ≡ all_edited names (kept_edits rule lost (f ∷ found))
 apply_one Any lost names None found = refl
 apply_one Prefix lost names None found = refl
+apply_one (Behind last) lost names None found = refl
 apply_one Any true names (Some (edit, true)) found = refl
 apply_one Any false names (Some (edit, true)) found = refl
 apply_one Any true names (Some (edit, false)) found = refl
 apply_one Any false names (Some (edit, false)) found = refl
 apply_one Prefix true names (Some (edit, true)) found = refl
+apply_one (Behind last) true names (Some (edit, true)) found = refl
 apply_one Prefix false names (Some (edit, true)) found = refl
+apply_one (Behind last) false names (Some (edit, true)) found = refl
 apply_one Prefix true names (Some (edit, false)) found = refl
+apply_one (Behind last) true names (Some (edit, false)) found = refl
 apply_one Prefix false names (Some (edit, false)) found = refl
+apply_one (Behind last) false names (Some (edit, false)) found = refl
 
-flag_one : (keeps : Keeps) (lost : Bool) (f : Found) (found : List Found)
-    → counts lost f ∷ all_counts keeps (lost || (is_prefix keeps && not (counts lost f))) found ≡ all_counts keeps lost (f ∷ found)
+flag_one : (rule : Rule) (lost : Bool) (f : Found) (found : List Found)
+    → counts lost f ∷ all_counts rule (lost || (is_prefix rule && not (counts lost f))) found ≡ all_counts rule lost (f ∷ found)
 flag_one Any true None found = refl
 flag_one Any false None found = refl
 flag_one Prefix true None found = refl
+flag_one (Behind last) true None found = refl
 flag_one Prefix false None found = refl
+flag_one (Behind last) false None found = refl
 flag_one Any true (Some (edit, true)) found = refl
 flag_one Any false (Some (edit, true)) found = refl
 flag_one Any true (Some (edit, false)) found = refl
 flag_one Any false (Some (edit, false)) found = refl
 flag_one Prefix true (Some (edit, true)) found = refl
+flag_one (Behind last) true (Some (edit, true)) found = refl
 flag_one Prefix false (Some (edit, true)) found = refl
+flag_one (Behind last) false (Some (edit, true)) found = refl
 flag_one Prefix true (Some (edit, false)) found = refl
+flag_one (Behind last) true (Some (edit, false)) found = refl
 flag_one Prefix false (Some (edit, false)) found = refl
+flag_one (Behind last) false (Some (edit, false)) found = refl
 
 -- Records that are passed over.
 
-lost_more : (keeps : Keeps) (lost : Bool) (k : ℕ) → lost_behind keeps (lost || is_prefix keeps) k ≡ (lost || is_prefix keeps)
-lost_more keeps lost zero = refl
+lost_more : (rule : Rule) (lost : Bool) (k : ℕ) → lost_behind rule (lost || is_prefix rule) k ≡ (lost || is_prefix rule)
+lost_more rule lost zero = refl
 lost_more Any true (suc k) = refl
 lost_more Any false (suc k) = refl
 lost_more Prefix true (suc k) = refl
+lost_more (Behind last) true (suc k) = refl
 lost_more Prefix false (suc k) = refl
+lost_more (Behind last) false (suc k) = refl
 
-flags_behind : (keeps : Keeps) (lost : Bool) (k : ℕ) (found : List Found)
-    → replicate k false ++ all_counts keeps (lost_behind keeps lost k) found ≡ all_counts keeps lost (replicate k None ++ found)
-flags_behind keeps lost zero found = refl
-flags_behind keeps lost (suc k) found =
-    ap (λ (l : Bool). false ∷ (replicate k false ++ all_counts keeps l found)) (sym (lost_more keeps lost k))
-    ∙ ap (λ l. false ∷ l) (flags_behind keeps (lost || is_prefix keeps) k found)
+flags_behind : (rule : Rule) (lost : Bool) (k : ℕ) (found : List Found)
+    → replicate k false ++ all_counts rule (lost_behind rule lost k) found ≡ all_counts rule lost (replicate k None ++ found)
+flags_behind rule lost zero found = refl
+flags_behind rule lost (suc k) found =
+    ap (λ (l : Bool). false ∷ (replicate k false ++ all_counts rule l found)) (sym (lost_more rule lost k))
+    ∙ ap (λ l. false ∷ l) (flags_behind rule (lost || is_prefix rule) k found)
 
-kept_behind : (keeps : Keeps) (lost : Bool) (k : ℕ) (found : List Found)
-    → kept_edits keeps (lost_behind keeps lost k) found ≡ kept_edits keeps lost (replicate k None ++ found)
-kept_behind keeps lost zero found = refl
-kept_behind keeps lost (suc k) found =
-    ap (λ (l : Bool). kept_edits keeps l found) (sym (lost_more keeps lost k)) ∙ kept_behind keeps (lost || is_prefix keeps) k found
+kept_behind : (rule : Rule) (lost : Bool) (k : ℕ) (found : List Found)
+    → kept_edits rule (lost_behind rule lost k) found ≡ kept_edits rule lost (replicate k None ++ found)
+kept_behind rule lost zero found = refl
+kept_behind rule lost (suc k) found =
+    ap (λ (l : Bool). kept_edits rule l found) (sym (lost_more rule lost k)) ∙ kept_behind rule (lost || is_prefix rule) k found
 
 edits_behind : (k : ℕ) (found : List (Option Record)) → map edit_found (replicate k None ++ found) ≡ replicate k None ++ map edit_found found
 edits_behind zero found = refl
 edits_behind (suc k) found = ap (λ l. None ∷ l) (edits_behind k found)
 
 -- the edits of bytes, from those of the first record on
-edits_next : (next number : ℕ) (left behind : List ℕ) (r : Record)
+pub edits_next : (next number : ℕ) (left behind : List ℕ) (r : Record)
     → found_from next left ≡ replicate (number - next) None ++ (Some r ∷ found_from (number + 1) behind)
     → edits_from next left ≡ replicate (number - next) None ++ (edit_found (Some r) ∷ edits_from (number + 1) behind)
 edits_next next number left behind r is = ap (map edit_found) is ∙ edits_behind (number - next) (Some r ∷ found_from (number + 1) behind)
@@ -91,42 +104,36 @@ flags_long flags between flags' kept number low eb ef =
     omega (arith, low, some, all)
 
 -- the flag of one more record
-pub one_flag : (keeps : Keeps) (lost passed lost' kept : Bool) (flags between flags' : List Bool) (next number : ℕ) (left behind : List ℕ) (r : Record) (all : List Bool)
-    → found_from next left ≡ replicate (number - next) None ++ (Some r ∷ found_from (number + 1) behind)
-    → between ≡ flags ++ replicate (number - next) false → passed ≡ lost_behind keeps lost (number - next)
-    → kept ≡ counts passed (edit_found (Some r)) → lost' ≡ (passed || (is_prefix keeps && not (counts passed (edit_found (Some r))))) → flags' ≡ between ++ kept ∷ []
-    → flags ++ all_counts keeps lost (edits_from next left) ≡ all
-    → flags' ++ all_counts keeps lost' (edits_from (number + 1) behind) ≡ all
-one_flag keeps lost passed lost' kept flags between flags' next number left behind r all step eb ep ek el ef before =
-    let k = number - next in
-    let more : List Found = edits_from (number + 1) behind in
-    let f : Found = edit_found (Some r) in
-    ap (λ l. l ++ all_counts keeps lost' more) ef
-    ∙ append_assoc between (kept ∷ []) (all_counts keeps lost' more)
-    ∙ ap₂ (λ k l. between ++ k ∷ all_counts keeps l more) ek el
-    ∙ ap (λ l. between ++ l) (flag_one keeps passed f more)
-    ∙ ap₂ (λ b p. b ++ all_counts keeps p (f ∷ more)) eb ep
-    ∙ append_assoc flags (replicate k false) (all_counts keeps (lost_behind keeps lost k) (f ∷ more))
-    ∙ ap (λ l. flags ++ l) (flags_behind keeps lost k (f ∷ more))
-    ∙ ap (λ l. flags ++ all_counts keeps lost l) (sym (edits_next next number left behind r step))
+pub one_flag : (rule : Rule) (lost passed lost' kept : Bool) (flags between flags' : List Bool) (k : ℕ) (here more : List Found) (f : Found) (all : List Bool)
+    → here ≡ replicate k None ++ (f ∷ more)
+    → between ≡ flags ++ replicate k false → passed ≡ lost_behind rule lost k
+    → kept ≡ counts passed f → lost' ≡ (passed || (is_prefix rule && not (counts passed f))) → flags' ≡ between ++ kept ∷ []
+    → flags ++ all_counts rule lost here ≡ all
+    → flags' ++ all_counts rule lost' more ≡ all
+one_flag rule lost passed lost' kept flags between flags' k here more f all step eb ep ek el ef before =
+    ap (λ l. l ++ all_counts rule lost' more) ef
+    ∙ append_assoc between (kept ∷ []) (all_counts rule lost' more)
+    ∙ ap₂ (λ k l. between ++ k ∷ all_counts rule l more) ek el
+    ∙ ap (λ l. between ++ l) (flag_one rule passed f more)
+    ∙ ap₂ (λ b p. b ++ all_counts rule p (f ∷ more)) eb ep
+    ∙ append_assoc flags (replicate k false) (all_counts rule (lost_behind rule lost k) (f ∷ more))
+    ∙ ap (λ l. flags ++ l) (flags_behind rule lost k (f ∷ more))
+    ∙ ap (λ l. flags ++ all_counts rule lost l) (sym step)
     ∙ before
 
 -- the names after one more record
-pub one_record : (keeps : Keeps) (lost passed lost' : Bool) (names names' : Names) (next number : ℕ) (left behind : List ℕ) (r : Record) (told : Names)
-    → found_from next left ≡ replicate (number - next) None ++ (Some r ∷ found_from (number + 1) behind)
-    → passed ≡ lost_behind keeps lost (number - next)
-    → Same names' (with_found names passed (edit_found (Some r))) → lost' ≡ (passed || (is_prefix keeps && not (counts passed (edit_found (Some r)))))
-    → Same (all_edited names (kept_edits keeps lost (edits_from next left))) told
-    → Same (all_edited names' (kept_edits keeps lost' (edits_from (number + 1) behind))) told
-one_record keeps lost passed lost' names names' next number left behind r told step ep same el before =
-    let k = number - next in
-    let more : List Found = edits_from (number + 1) behind in
-    let f : Found = edit_found (Some r) in
+pub one_record : (rule : Rule) (lost passed lost' : Bool) (names names' : Names) (k : ℕ) (here more : List Found) (f : Found) (told : Names)
+    → here ≡ replicate k None ++ (f ∷ more)
+    → passed ≡ lost_behind rule lost k
+    → Same names' (with_found names passed f) → lost' ≡ (passed || (is_prefix rule && not (counts passed f)))
+    → Same (all_edited names (kept_edits rule lost here)) told
+    → Same (all_edited names' (kept_edits rule lost' more)) told
+one_record rule lost passed lost' names names' k here more f told step ep same el before =
     λ e.
-    ap (λ l. all_edited names' (kept_edits keeps l more) e) el
-    ∙ same_all names' (with_found names passed f) (kept_edits keeps (passed || (is_prefix keeps && not (counts passed f))) more) same e
-    ∙ ap (λ x. x e) (apply_one keeps passed names f more)
-    ∙ ap (λ p. all_edited names (kept_edits keeps p (f ∷ more)) e) ep
-    ∙ ap (λ l. all_edited names l e) (kept_behind keeps lost k (f ∷ more))
-    ∙ ap (λ l. all_edited names (kept_edits keeps lost l) e) (sym (edits_next next number left behind r step))
+    ap (λ l. all_edited names' (kept_edits rule l more) e) el
+    ∙ same_all names' (with_found names passed f) (kept_edits rule (passed || (is_prefix rule && not (counts passed f))) more) same e
+    ∙ ap (λ x. x e) (apply_one rule passed names f more)
+    ∙ ap (λ p. all_edited names (kept_edits rule p (f ∷ more)) e) ep
+    ∙ ap (λ l. all_edited names l e) (kept_behind rule lost k (f ∷ more))
+    ∙ ap (λ l. all_edited names (kept_edits rule lost l) e) (sym step)
     ∙ before e

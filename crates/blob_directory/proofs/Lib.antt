@@ -7,6 +7,7 @@ pub mod Ranges
 pub mod Maps
 pub mod Paths
 pub mod Records
+pub mod Rules
 pub mod Settled
 pub mod Walks
 pub mod Syncs

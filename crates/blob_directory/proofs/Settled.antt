@@ -2,23 +2,24 @@
 use Rattle.std.proofs.Common.{◌≡◌, ℕ, Bool, true, false, ◌||◌, not, List, [], ◌∷◌, ◌++◌, Some, None, refl, sym, ap, ◌∙◌, ⊎_elim}
 use Rattle.std.specs.Str.{bytes_eq}
 use Rattle.std.proofs.lemmas.Bool.{cases_Bool, cond-false, cond-true, or_cases, or_parts, both_ways}
-use Rattle.blob_directory.specs.declared.profile.Keeps.{Keeps}
+use Rattle.blob_directory.specs.declared.rule.Rule.{Rule}
 use Rattle.blob_directory.specs.Names.{Edit, Names, all_edited, changed, edited}
-use Rattle.blob_directory.specs.Profiles.{is_prefix, kept_edits}
+use Rattle.blob_directory.specs.Profiles.{is_prefix, kept_edits, with_seen}
 use Rattle.blob_directory.specs.Records.{Found, found_in}
 use Rattle.blob_directory.specs.Settled.{IsBeside, SettledIsFound, changes_entry}
+use Rattle.blob_directory.proofs.Rules.{seen_beside, seen_parts}
 
 -- the edits that count, in two parts
-kept_parts : (keeps : Keeps) (lost : Bool) (before rest : List Found)
-    → (later : Bool) × (kept_edits keeps lost (before ++ rest) ≡ kept_edits keeps lost before ++ kept_edits keeps later rest)
-kept_parts keeps lost [] rest = (lost, refl)
-kept_parts keeps lost (None ∷ before) rest = kept_parts keeps (lost || is_prefix keeps) before rest
-kept_parts keeps lost (Some (edit, settled) ∷ before) rest =
-    let h = kept_parts keeps lost before rest in
+kept_parts : (rule : Rule) (lost : Bool) (before rest : List Found)
+    → (later : Bool) × (kept_edits rule lost (before ++ rest) ≡ kept_edits rule lost before ++ kept_edits rule later rest)
+kept_parts rule lost [] rest = (lost, refl)
+kept_parts rule lost (None ∷ before) rest = kept_parts rule (lost || is_prefix rule) before rest
+kept_parts rule lost (Some (edit, settled) ∷ before) rest =
+    let h = kept_parts rule lost before rest in
     let counts : Bool = settled || not lost in
-    let more : List Edit = kept_edits keeps lost (before ++ rest) in
-    let front : List Edit = kept_edits keeps lost before in
-    let back : List Edit = kept_edits keeps h.0 rest in (
+    let more : List Edit = kept_edits rule lost (before ++ rest) in
+    let front : List Edit = kept_edits rule lost before in
+    let back : List Edit = kept_edits rule h.0 rest in (
       h.0,
       ⊎_elim
           (λ y. cond-true counts (edit ∷ more) more y ∙ ap (λ l. edit ∷ l) h.1 ∙ ap (λ l. l ++ back) (sym (cond-true counts (edit ∷ front) front y)))
@@ -49,31 +50,38 @@ edit_here a b (c ∷ edit) e here = ⊎_elim
     (cases_Bool (changes_entry e edit))
 
 -- edits after it
-behind_beside : (keeps : Keeps) (lost : Bool) (found : List Found) (names : Names) (e : List ℕ) → IsBeside e found → all_edited names (kept_edits keeps lost found) e ≡ names e
-behind_beside keeps lost [] names e beside = refl
-behind_beside keeps lost (None ∷ found) names e beside = behind_beside keeps (lost || is_prefix keeps) found names e beside
-behind_beside keeps lost (Some (edit, settled) ∷ found) names e (other, beside) =
+behind_beside : (rule : Rule) (lost : Bool) (found : List Found) (names : Names) (e : List ℕ) → IsBeside e found → all_edited names (kept_edits rule lost found) e ≡ names e
+behind_beside rule lost [] names e beside = refl
+behind_beside rule lost (None ∷ found) names e beside = behind_beside rule (lost || is_prefix rule) found names e beside
+behind_beside rule lost (Some (edit, settled) ∷ found) names e (other, beside) =
     let counts : Bool = settled || not lost in
-    let more : List Edit = kept_edits keeps lost found in
+    let more : List Edit = kept_edits rule lost found in
     ⊎_elim
-    (λ y. ap (λ l. all_edited names l e) (cond-true counts (edit ∷ more) more y) ∙ behind_beside keeps lost found (edited names edit) e beside ∙ edit_beside names edit e other)
-    (λ n. ap (λ l. all_edited names l e) (cond-false counts (edit ∷ more) more n) ∙ behind_beside keeps lost found names e beside)
+    (λ y. ap (λ l. all_edited names l e) (cond-true counts (edit ∷ more) more y) ∙ behind_beside rule lost found (edited names edit) e beside ∙ edit_beside names edit e other)
+    (λ n. ap (λ l. all_edited names l e) (cond-false counts (edit ∷ more) more n) ∙ behind_beside rule lost found names e beside)
     (cases_Bool counts)
 
 -- of any edits that were found
-pub settled_counts : (keeps : Keeps) (found before after : List Found) (edit : Edit) (e : List ℕ) → found ≡ before ++ Some (edit, true) ∷ after → changes_entry e edit ≡ true → IsBeside e after
-    → all_edited (λ _. None) (kept_edits keeps false found) e ≡ edited (λ _. None) edit e
-settled_counts keeps found before after edit e is changes beside =
+settled_counts : (rule : Rule) (found before after : List Found) (edit : Edit) (e : List ℕ) → found ≡ before ++ Some (edit, true) ∷ after → changes_entry e edit ≡ true → IsBeside e after
+    → all_edited (λ _. None) (kept_edits rule false found) e ≡ edited (λ _. None) edit e
+settled_counts rule found before after edit e is changes beside =
     let none : Names = λ _. None in
     let rest : List Found = Some (edit, true) ∷ after in
-    let parts = kept_parts keeps false before rest in
-    let front : List Edit = kept_edits keeps false before in
-    let back : List Edit = kept_edits keeps parts.0 after in
-    let edits : kept_edits keeps false found ≡ front ++ edit ∷ back = ap (kept_edits keeps false) is ∙ parts.1 in
+    let parts = kept_parts rule false before rest in
+    let front : List Edit = kept_edits rule false before in
+    let back : List Edit = kept_edits rule parts.0 after in
+    let edits : kept_edits rule false found ≡ front ++ edit ∷ back = ap (kept_edits rule false) is ∙ parts.1 in
     ap (λ l. all_edited none l e) edits
     ∙ ap (λ (n : Names). n e) (all_parts none front (edit ∷ back))
-    ∙ behind_beside keeps parts.0 after (edited (all_edited none front) edit) e beside
+    ∙ behind_beside rule parts.0 after (edited (all_edited none front) edit) e beside
     ∙ edit_here (all_edited none front) none edit e changes
 
+-- and by a rule
+pub settled_by : (rule : Rule) (found before after : List Found) (edit : Edit) (e : List ℕ) → found ≡ before ++ Some (edit, true) ∷ after → changes_entry e edit ≡ true → IsBeside e after
+    → all_edited (λ _. None) (kept_edits rule false (with_seen rule 0 found)) e ≡ edited (λ _. None) edit e
+settled_by rule found before after edit e is changes beside =
+    let p = seen_parts rule 0 before after edit in
+    settled_counts rule (with_seen rule 0 found) p.0 (with_seen rule p.1 after) edit e (ap (with_seen rule 0) is ∙ p.2) changes (seen_beside rule p.1 e after beside)
+
 pub settled_is_found : SettledIsFound
-settled_is_found keeps journal edit e last = settled_counts keeps (found_in journal) last.before last.after edit e last.found last.changes last.beside
+settled_is_found rule journal edit e last = settled_by rule (found_in journal) last.before last.after edit e last.found last.changes last.beside

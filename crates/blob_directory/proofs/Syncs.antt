@@ -9,7 +9,7 @@ use Rattle.std.proofs.lemmas.List.Folds.{Any-from_list_any, list_any-from_Any}
 use Rattle.blob_directory.specs.declared.unsettled.About.{About}
 use Rattle.blob_directory.specs.declared.unsettled.Unsettled.{Unsettled}
 use Rattle.blob_directory.specs.Syncs.{Above, HasEdit, IsAbove, IsUpToLast, IsUpward, Itself, Upward, is_in, is_new, is_number, is_of, touches}
-use Rattle.blob_directory.specs.Wanted.{Extends, HasAbove, HasDirectories, HasIf, HasToo, HasWhen, IsLast, is_of_any, is_up_to}
+use Rattle.blob_directory.specs.Wanted.{Extends, HasAbove, HasDirectories, HasIf, HasWhen, IsLast, is_of_any, is_up_to}
 
 -- Numbers that stay at their places.
 

@@ -3,7 +3,7 @@ use Rattle.std.specs.Prelude.{◌≡◌, ℕ, true, List, [], ◌∷◌, Some, V
 use Rattle.std.specs.Global.{Global}
 use Rattle.blob_packed.specs.Records.{Record, packed_from}
 use Rattle.blob_directory.specs.declared.edit.Binding.{Binding}
-use Rattle.blob_directory.specs.declared.profile.Keeps.{Keeps}
+use Rattle.blob_directory.specs.declared.rule.Rule.{Rule}
 use Rattle.blob_directory.specs.declared.tree.Tree.{Tree}
 use Rattle.blob_directory.specs.Names.{Names, Same, entry}
 use Rattle.blob_directory.specs.Profiles.{names_told}
@@ -40,4 +40,4 @@ pub record FitsJournal (tree : Tree) : Type 0 where
 
 -- a journal gives exactly these names, by every profile
 abbrev pub Gives : List ℕ → Names → Type 0
-Gives journal names = (keeps : Keeps) → Same (names_told keeps journal) names
+Gives journal names = (rule : Rule) → Same (names_told rule journal) names

@@ -1,5 +1,5 @@
 -- Names of files and directories, and edits of them.
-use Rattle.std.specs.Prelude.{◌≡◌, ℕ, List, [], ◌∷◌, ◌++◌, Option, Some, None, if◌then◌else◌}
+use Rattle.std.specs.Prelude.{◌≡◌, ℕ, Bool, false, ◌||◌, List, [], ◌∷◌, ◌++◌, Option, Some, None, is_some, if◌then◌else◌}
 use Rattle.std.specs.Int.{w64, to_be_bytes}
 use Rattle.std.specs.Str.{bytes_eq}
 use Rattle.blob_directory.specs.declared.edit.Binding.{Binding}
@@ -57,6 +57,23 @@ moves from to moved = (from, None) ∷ (to, Some moved) ∷ []
 -- an exchange binds both
 abbrev pub exchanges : List ℕ → List ℕ → Binding → Binding → Edit
 exchanges from to moved was = (from, Some was) ∷ (to, Some moved) ∷ []
+
+-- an edit binds some entry
+abbrev pub binds_any : Edit → Bool
+binds_any [] = false
+binds_any ((e, to) ∷ edit) = is_some to || binds_any edit
+
+-- the first entry that an edit changes is bound, not freed
+abbrev pub is_binding : Edit → Bool
+is_binding [] = false
+is_binding ((e, to) ∷ edit) = is_some to
+
+-- the second entry that an edit changes, if it binds that
+abbrev pub new_name : Edit → Option (List ℕ × Binding)
+new_name [] = None
+new_name (c ∷ []) = None
+new_name (c ∷ (e, None) ∷ more) = None
+new_name (c ∷ (e, Some to) ∷ more) = Some (e, to)
 
 abbrev pub file : ℕ → Binding
 file inode = record { inode = inode; kind = File }

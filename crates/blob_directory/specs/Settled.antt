@@ -1,7 +1,7 @@
 -- A name that a settled edit changes, and no later one.
 use Rattle.std.specs.Prelude.{◌≡◌, ℕ, Bool, true, false, ◌||◌, List, [], ◌∷◌, ◌++◌, Some, None}
 use Rattle.std.specs.Str.{bytes_eq}
-use Rattle.blob_directory.specs.declared.profile.Keeps.{Keeps}
+use Rattle.blob_directory.specs.declared.rule.Rule.{Rule}
 use Rattle.blob_directory.specs.Names.{Edit, edited}
 use Rattle.blob_directory.specs.Profiles.{names_told}
 use Rattle.blob_directory.specs.Records.{Found, found_in}
@@ -27,8 +27,8 @@ pub record IsLastSettled (journal : List ℕ) (edit : Edit) (e : List ℕ) : Typ
 
 -- then the journal gives the entry the value that this edit sets, whatever was lost
 abbrev pub SettledIsFound : Type 0
-SettledIsFound = (keeps : Keeps) (journal : List ℕ) (edit : Edit) (e : List ℕ) → IsLastSettled journal edit e
-    → names_told keeps journal e ≡ edited (λ _. None) edit e
+SettledIsFound = (rule : Rule) (journal : List ℕ) (edit : Edit) (e : List ℕ) → IsLastSettled journal edit e
+    → names_told rule journal e ≡ edited (λ _. None) edit e
 
 -- each edit that was found is settled
 abbrev pub AreSettled : List Found → Type 0

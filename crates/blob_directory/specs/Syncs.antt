@@ -1,5 +1,5 @@
 -- Which edits a sync settles, of those that nothing settled: the rows of a profile.
-use Rattle.std.specs.Prelude.{◌≡◌, ◌⊎◌, ◌↔◌, ℕ, ◌<◌, ◌≤◌, ◌&&◌, ◌||◌, not, Bool, true, false, List, Option, Some, None, IsTrue, is_some, map, nat_eq}
+use Rattle.std.specs.Prelude.{◌≡◌, ◌⊎◌, ◌↔◌, ℕ, ◌<◌, ◌≤◌, ◌&&◌, ◌||◌, not, Bool, true, false, List, Option, Some, None, IsTrue, is_some, if◌then◌else◌, map, nat_eq}
 use Rattle.std.specs.List.{Contains, list_any}
 use Rattle.blob_directory.specs.declared.profile.Settles.{Settles}
 use Rattle.blob_directory.specs.declared.profile.Settles.TheVariants.{Own, Names, UpToLast, UpToLastOrSize, All}
@@ -7,6 +7,7 @@ use Rattle.blob_directory.specs.declared.unsettled.About.{About}
 use Rattle.blob_directory.specs.declared.unsettled.Synced.{Synced}
 use Rattle.blob_directory.specs.declared.unsettled.Synced.TheVariants.{File, Data, Directory}
 use Rattle.blob_directory.specs.declared.unsettled.Unsettled.{Unsettled}
+use Rattle.blob_directory.specs.Names.{edit_of, is_binding}
 
 abbrev pub is_number : Option ℕ → ℕ → Bool
 is_number None n = false
@@ -22,7 +23,23 @@ is_in directory about = nat_eq about.directory directory || is_number about.othe
 
 -- what a truncation of this file is about
 abbrev pub of_truncation : ℕ → About
-of_truncation inode = record { inode = inode; other = None; directory = inode; other_directory = None }
+of_truncation inode = record { inode = inode; other = None; directory = inode; other_directory = None; moves_file = false }
+
+-- what the edit of one name is about
+abbrev pub of_name : ℕ → ℕ → About
+of_name inode directory = record { inode = inode; other = None; directory = directory; other_directory = None; moves_file = false }
+
+-- the move of a file into this directory from another one
+abbrev pub moved_into : ℕ → About → Bool
+moved_into directory about = about.moves_file && is_number about.other_directory directory && not (nat_eq about.directory directory)
+
+-- such a move, of which the new name has an edit of its own: it is in the old directory alone
+abbrev pub unbound : ℕ → Unsettled → Unsettled
+unbound directory edit = if moved_into directory edit.about then record edit { about = record edit.about { other_directory = None } } else edit
+
+-- An edit of a name in this directory. The move of a file to another directory is one in the old directory alone.
+abbrev pub is_settled_in : ℕ → About → Bool
+is_settled_in directory about = is_in directory about && not (moved_into directory about)
 
 -- one or the other; `alone` leaves out exchanges of two names
 abbrev pub touches : Bool → ℕ → About → Bool
@@ -32,9 +49,13 @@ touches alone number about = (is_of number about || is_in number about) && not (
 abbrev pub is_one_of : ℕ → About → Bool
 is_one_of number about = nat_eq about.inode number && not (is_some about.other || is_some about.other_directory)
 
+-- the edit makes this directory, or gives this file a name
+abbrev pub makes : ℕ → Unsettled → Bool
+makes inode edit = is_one_of inode edit.about && is_binding (edit_of edit.edit)
+
 -- a directory that one of these edits makes
 abbrev pub is_new : List Unsettled → ℕ → Bool
-is_new edits directory = list_any (λ e. is_one_of directory e.about) edits
+is_new edits directory = list_any (makes directory) edits
 
 -- an edit of a name of the inode is in the directory
 pub record IsAbove (edits : List Unsettled) (inode directory : ℕ) : Type 0 where
@@ -73,7 +94,7 @@ SyncSettles Own (Data inode sized) edits edit = is_in inode edit.about ≡ true
 SyncSettles Own (Directory d) edits edit = is_in d edit.about ≡ true
 SyncSettles Names (File inode sized) edits edit = IsUpward edits inode edit
 SyncSettles Names (Data inode sized) edits edit = IsUpward edits inode edit
-SyncSettles Names (Directory d) edits edit = IsUpward edits d edit ⊎ (is_in d edit.about ≡ true)
+SyncSettles Names (Directory d) edits edit = IsUpward edits d edit ⊎ (is_settled_in d edit.about ≡ true)
 SyncSettles UpToLast (File inode sized) edits edit = IsUpToLast edits false inode edit ⊎ (edit.number < sized)
 SyncSettles UpToLast (Data inode sized) edits edit = IsUpToLast edits true inode edit ⊎ (edit.number < sized)
 SyncSettles UpToLast (Directory d) edits edit = IsUpToLast edits false d edit
@@ -81,9 +102,9 @@ SyncSettles UpToLastOrSize (File inode sized) edits edit = IsUpToLast edits fals
 SyncSettles UpToLastOrSize (Data inode sized) edits edit = edit.number < sized
 SyncSettles UpToLastOrSize (Directory d) edits edit = Unit {0}
 
--- an edit, marked as wanted or not
+-- an edit, marked as wanted or not, and as seen
 abbrev pub marked : (Unsettled → Bool) → Unsettled → Unsettled
-marked wants edit = record edit { is_wanted = wants edit }
+marked wants edit = record edit { is_wanted = wants edit; is_seen = true }
 
 -- the test passes exactly those that the sync settles
 abbrev pub Wants : Settles → Synced → List Unsettled → (Unsettled → Bool) → Type 0

@@ -5,7 +5,7 @@ use Rattle.blob_directory.specs.declared.unsettled.About.{About}
 use Rattle.blob_directory.specs.declared.unsettled.Unsettled.{Unsettled}
 use Rattle.blob_directory.specs.declared.wanted.Wanted as wanted
 use Rattle.blob_directory.specs.declared.wanted.Wanted.TheVariants as is
-use Rattle.blob_directory.specs.Syncs.{HasEdit, IsAbove, is_in, is_of}
+use Rattle.blob_directory.specs.Syncs.{HasEdit, IsAbove, is_in, is_of, is_settled_in}
 
 -- an edit of a name of one of these inodes
 abbrev pub is_of_any : List ℕ → About → Bool
@@ -19,7 +19,7 @@ abbrev pub wants : wanted.Wanted → Unsettled → Bool
 wants is.All edit = true
 wants (is.In d) edit = is_in d edit.about
 wants (is.Of inodes) edit = is_of_any inodes.items edit.about
-wants (is.OfOrIn inodes d) edit = is_of_any inodes.items edit.about || is_in d edit.about
+wants (is.OfOrIn inodes d) edit = is_of_any inodes.items edit.about || is_settled_in d edit.about
 wants (is.UpTo last below) edit = is_up_to last edit.number || nat_lt edit.number below
 
 -- more numbers at the end

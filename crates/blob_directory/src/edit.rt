@@ -1,6 +1,6 @@
 //! Edits of names.
-ghost use Rattle.std.specs.Prelude.{◌≡◌, ◌≤◌, true, [], ◌∷◌, length, IfOk, IfSome};
-ghost use Rattle.blob_directory.specs.Names.{change_of, edit_of, entry, exchanges, moves, resizes};
+ghost use Rattle.std.specs.Prelude.{◌≡◌, ◌≤◌, true, [], ◌∷◌, length, option_map, IfOk, IfSome};
+ghost use Rattle.blob_directory.specs.Names.{binds_any, change_of, edit_of, entry, exchanges, is_binding, moves, new_name, resizes};
 ghost use Rattle.blob_directory.specs.Records.{Fits, FitsRecord, change_bytes};
 
 use crate::record::inode_told;
@@ -108,6 +108,37 @@ impl Edit {
             to: Some(moved),
         };
         Edit::two(first, second)
+    }
+
+    /// Returns whether the edit binds a name, and not only frees some.
+    pub fn binds_any(&self) -> bool
+        ensures { result ≡ binds_any (edit_of self.now) }
+    {
+        match &self.second {
+            None => self.first.to.is_some(),
+            Some(second) => self.first.to.is_some() || second.to.is_some(),
+        }
+    }
+
+    /// Returns whether the edit binds the first name that it changes. Otherwise it frees that.
+    pub fn is_binding(&self) -> bool
+        ensures { result ≡ is_binding (edit_of self.now) }
+    {
+        self.first.to.is_some()
+    }
+
+    /// Returns the second name that the edit changes, with what it binds that to. `None` if it frees the name, or changes one name. Fails
+    /// only if memory runs out.
+    pub fn new_name(&self, alloc: Global) -> Result<Option<(Vec<u8>, Binding)>, AllocError>
+        ensures { IfOk result (λ name. option_map (λ n. (n.0.items, n.1)) name ≡ new_name (edit_of self.now)) }
+    {
+        let Some(second) = &self.second else {
+            return Ok(None);
+        };
+        let Some(to) = second.to else {
+            return Ok(None);
+        };
+        Ok(Some((Vec::from_slice(alloc, &second.entry)?, to)))
     }
 
     /// Returns whether the edit fits in a record, and no entry of it is empty.

@@ -7,6 +7,7 @@ pub mod laws;
 pub mod path;
 pub mod profile;
 pub mod record;
+pub mod rule;
 pub mod table;
 pub mod tree;
 pub mod unsettled;
@@ -14,3 +15,4 @@ mod wanted;
 
 pub use edit::{Binding, Change, Edit, Kind};
 pub use profile::{Keeps, Profile, Settles};
+pub use rule::Rule;

@@ -9,6 +9,9 @@ pub enum Keeps {
     Any,
     /// Those up to some point, as in one with a journal.
     Prefix,
+    /// The same. But of those that the last sync left unsettled a crash may also keep any that bind a name: the sync wrote a log, which has
+    /// the names of single files and directories. Later ones are kept only with all before them.
+    Logged,
 }
 
 /// Which edits a sync of a file or of a directory settles.
@@ -82,7 +85,7 @@ impl Profile {
         ensures { result ≡ btrfs_row }
     {
         Profile {
-            keeps: Keeps::Prefix,
+            keeps: Keeps::Logged,
             settles: Settles::Names,
             cuts: false,
             flushes: false,

@@ -3,14 +3,14 @@ ghost use Rattle.std.specs.Prelude.{◌≡◌, ◌&&◌, ◌||◌, ◌-◌, ◌+
 ghost use Rattle.blob_directory.specs.Checkpoints.{FitRecords};
 ghost use Rattle.blob_directory.specs.Counts.{CountsNames, count_then, link_count};
 ghost use Rattle.blob_directory.specs.Names.{Names, Same, entry};
-ghost use Rattle.blob_directory.specs.Profiles.{counts, counts_in, is_prefix, lost_behind, names_told, with_found};
+ghost use Rattle.blob_directory.specs.Profiles.{counts, counts_in, lost_behind, names_told, seen_one, with_found};
 ghost use Rattle.blob_directory.specs.Records.{found_by};
 ghost use Rattle.blob_directory.specs.Tables.{bound};
 ghost use Rattle.blob_directory.specs.Trees.{Finds, HasLinks, HasNamedLinks, HasPlaces, added, has_directory, has_then, is_directory, links_then, has_link};
 
 use crate::edit::{Binding, Kind};
-use crate::profile::Keeps;
 use crate::record::decode;
+use crate::rule::Rule;
 use crate::table::Table;
 use blob_packed::record::{Record, next_record};
 use std::alloc::{AllocError, Global};
@@ -74,35 +74,26 @@ impl Tree {
     }
 }
 
-/// Applies the edit of a record, if the record has one and the edit is settled or none before it was lost. Returns
-/// whether it did. Fails only if memory runs out.
+/// Applies the edit of a record, if the record has one and the edit is settled, or none before it was lost, or it was
+/// seen by a sync and binds a name. Returns whether it did. Fails only if memory runs out.
 fn keep(
     alloc: Global,
     names: &mut Table,
     found: Record<'_>,
     is_lost: bool,
+    is_seen: bool,
 ) -> Result<bool, AllocError>
-    ensures kept { IfOk result (λ kept. kept ≡ counts is_lost (found_by found.entry)) }
-    ensures names { OnOk result (Same (bound names.new) (with_found (bound names.old) is_lost (found_by found.entry))) }
+    ensures kept { IfOk result (λ kept. kept ≡ counts is_lost (seen_one is_seen (found_by found.entry))) }
+    ensures names { OnOk result (Same (bound names.new) (with_found (bound names.old) is_lost (seen_one is_seen (found_by found.entry)))) }
 {
     let Some(edit) = decode(alloc, found.bytes)? else {
         return Ok(false);
     };
-    if !found.is_settled && is_lost {
+    if is_lost && !found.is_settled && !(is_seen && edit.binds_any()) {
         return Ok(false);
     }
     names.make(&edit)?;
     Ok(true)
-}
-
-/// Returns whether an unsettled edit of the next record is lost.
-fn is_next_lost(keeps: Keeps, is_lost: bool, is_kept: bool) -> bool
-    ensures { result ≡ (is_lost || (is_prefix keeps && not is_kept)) }
-{
-    match keeps {
-        Keeps::Any => is_lost,
-        Keeps::Prefix => is_lost || !is_kept,
-    }
 }
 
 /// Notes that the records up to a number are lost, if they weren't noted. Returns whether an unsettled edit of the next
@@ -110,29 +101,24 @@ fn is_next_lost(keeps: Keeps, is_lost: bool, is_kept: bool) -> bool
 fn pass_over(
     kept: &mut Vec<bool>,
     number: usize,
-    keeps: Keeps,
+    rule: Rule,
     is_lost: bool,
 ) -> Result<bool, AllocError>
     ensures kept { OnOk result (kept.new.items ≡ kept.old.items ++ replicate (number - length kept.old.items) false) }
-    ensures lost { IfOk result (λ lost. lost ≡ lost_behind keeps is_lost (number - length kept.old.items)) }
+    ensures lost { IfOk result (λ lost. lost ≡ lost_behind rule is_lost (number - length kept.old.items)) }
 {
     if number <= kept.len() {
         return Ok(is_lost);
     }
     kept.resize(number, false)?;
-    Ok(is_next_lost(keeps, is_lost, false))
+    Ok(rule.is_next_lost(is_lost, false))
 }
 
-/// Applies the edits of a journal that a crash kept, in order. Where only those up to some point are kept, an unsettled
-/// edit behind a lost one isn't. Returns the names, and of each record whether its edit was kept. Fails only if memory
-/// runs out.
-pub fn kept_names(
-    alloc: Global,
-    bytes: &[u8],
-    keeps: Keeps,
-) -> Result<(Table, Vec<bool>), AllocError>
-    ensures names { IfOk result (λ r. Same (bound r.0) (names_told keeps bytes.now)) }
-    ensures kept { IfOk result (λ r. r.1.items ≡ counts_in keeps bytes.now) }
+/// Applies the edits of a journal that count by a rule, in order. Returns the names, and of each record whether its edit
+/// counts. Fails only if memory runs out.
+pub fn kept_names(alloc: Global, bytes: &[u8], rule: Rule) -> Result<(Table, Vec<bool>), AllocError>
+    ensures names { IfOk result (λ r. Same (bound r.0) (names_told rule bytes.now)) }
+    ensures kept { IfOk result (λ r. r.1.items ≡ counts_in rule bytes.now) }
     ensures fit { IfOk result (λ r. FitRecords (bound r.0)) }
 {
     let mut names = Table::new(alloc);
@@ -140,9 +126,10 @@ pub fn kept_names(
     let mut is_lost = false;
     let mut left = bytes;
     while let Some(found) = next_record(left, kept.len() as u64) {
-        is_lost = pass_over(&mut kept, found.number as usize, keeps, is_lost)?;
-        let is_kept = keep(alloc, &mut names, found, is_lost)?;
-        is_lost = is_next_lost(keeps, is_lost, is_kept);
+        is_lost = pass_over(&mut kept, found.number as usize, rule, is_lost)?;
+        let is_seen = rule.is_seen(found.number);
+        let is_kept = keep(alloc, &mut names, found, is_lost, is_seen)?;
+        is_lost = rule.is_next_lost(is_lost, is_kept);
         kept.push(is_kept)?;
         left = found.rest;
     }

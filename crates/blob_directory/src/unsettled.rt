@@ -1,6 +1,6 @@
 //! The edits that a crash may lose, and which of them a sync settles.
-ghost use Rattle.std.specs.Prelude.{◌≡◌, OnErr, OnOk};
-ghost use Rattle.blob_directory.specs.Syncs.{Marks, is_in, is_number, is_of, is_one_of, of_truncation, touches};
+ghost use Rattle.std.specs.Prelude.{◌≡◌, map, OnErr, OnOk};
+ghost use Rattle.blob_directory.specs.Syncs.{Marks, is_in, is_number, is_of, is_one_of, is_settled_in, makes, moved_into, of_name, of_truncation, touches, unbound};
 
 use crate::edit::Edit;
 use crate::profile::Settles;
@@ -20,6 +20,8 @@ pub struct Unsettled {
     pub about: About,
     /// A sync settles it.
     pub is_wanted: bool,
+    /// A sync left it unsettled.
+    pub is_seen: bool,
 }
 
 /// What an edit is about: one inode or two, and the directories of its names. A truncation is about its file, in the file's
@@ -30,6 +32,34 @@ pub struct About {
     pub other: Option<u64>,
     pub directory: u64,
     pub other_directory: Option<u64>,
+    /// Moves a file from `directory` to `other_directory`, which may be the same.
+    pub moves_file: bool,
+}
+
+impl Unsettled {
+    /// Returns whether the edit makes this directory, or gives this file a name.
+    pub(crate) fn makes(&self, inode: u64) -> bool
+        ensures { result ≡ makes inode self.now }
+    {
+        self.about.is_one_of(inode) && self.edit.is_binding()
+    }
+
+    fn note_bound(&mut self, directory: u64)
+        ensures { self.new ≡ unbound directory self.old }
+    {
+        if self.about.moved_into(directory) {
+            self.about.other_directory = None;
+        }
+    }
+}
+
+/// Notes that the new name of each file that moved into this directory has an edit of its own. The moves are then in the old directory alone.
+pub fn note_bound(edits: &mut [Unsettled], directory: u64)
+    ensures { edits.new ≡ map (unbound directory) edits.old }
+{
+    for edit in edits.iter_mut() {
+        edit.note_bound(directory);
+    }
 }
 
 fn is_number(other: Option<u64>, number: u64) -> bool
@@ -51,7 +81,37 @@ impl About {
             other: None,
             directory: inode,
             other_directory: None,
+            moves_file: false,
         }
+    }
+
+    /// Returns what the edit of one name of an inode in a directory is about.
+    pub fn of_name(inode: u64, directory: u64) -> About
+        ensures { result ≡ of_name inode directory }
+    {
+        About {
+            inode,
+            other: None,
+            directory,
+            other_directory: None,
+            moves_file: false,
+        }
+    }
+
+    /// Returns whether the edit moves a file into a directory from another one.
+    pub fn moved_into(&self, directory: u64) -> bool
+        ensures { result ≡ moved_into directory self.now }
+    {
+        let is_new = is_number(self.other_directory, directory);
+        self.moves_file && is_new && self.directory != directory
+    }
+
+    /// Returns whether a sync of a directory by `Settles::Names` settles the edit for its names. The move of a file to another
+    /// directory is settled by a sync of the old one.
+    pub(crate) fn is_settled_in(&self, directory: u64) -> bool
+        ensures { result ≡ is_settled_in directory self.now }
+    {
+        self.is_in(directory) && !self.moved_into(directory)
     }
 
     /// Returns whether the edit changes a name of an inode, or truncates it.
@@ -93,7 +153,7 @@ pub enum Synced {
     Directory(u64),
 }
 
-/// Marks the edits that a sync settles, and no other. Fails only if memory runs out, and then marks none.
+/// Marks the edits that a sync settles, and no other, and all as seen by a sync. Fails only if memory runs out, and then marks none.
 pub fn want(
     alloc: Global,
     edits: &mut [Unsettled],
@@ -106,6 +166,7 @@ pub fn want(
     let wanted = choose(alloc, edits, settles, synced)?;
     for edit in edits.iter_mut() {
         edit.is_wanted = wanted.has(edit);
+        edit.is_seen = true;
     }
     Ok(())
 }

@@ -16,7 +16,7 @@ pub(crate) enum Wanted {
     In(u64),
     /// Those of names of these inodes.
     Of(Vec<u64>),
-    /// Those of names of these inodes, and those in a directory.
+    /// Those of names of these inodes, and those in a directory but for files that moved into it.
     OfOrIn(Vec<u64>, u64),
     /// Those up to a number, and those below another.
     UpTo(Option<u64>, u64),
@@ -53,7 +53,7 @@ impl Wanted {
             Wanted::In(directory) => about.is_in(*directory),
             Wanted::Of(inodes) => is_of_any(inodes, about),
             Wanted::OfOrIn(inodes, directory) => {
-                is_of_any(inodes, about) || about.is_in(*directory)
+                is_of_any(inodes, about) || about.is_settled_in(*directory)
             }
             Wanted::UpTo(last, below) => is_up_to(*last, edit.number) || edit.number < *below,
         }
@@ -78,7 +78,7 @@ fn is_new(edits: &[Unsettled], directory: u64) -> bool
     ensures { result ≡ is_new edits.now directory }
 {
     for edit in edits {
-        if edit.about.is_one_of(directory) {
+        if edit.makes(directory) {
             return true;
         }
     }

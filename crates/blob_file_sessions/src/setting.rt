@@ -46,6 +46,7 @@ fn edits(tokens: &mut Tokens) -> Option<Keeps> {
     match tokens.next()? {
         "prefix" => Some(Keeps::Prefix),
         "any" => Some(Keeps::Any),
+        "logged" => Some(Keeps::Logged),
         _ => None,
     }
 }

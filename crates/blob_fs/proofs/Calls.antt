@@ -1,18 +1,21 @@
 -- What each call of a list does.
-use Rattle.std.proofs.Common.{◌≡◌, Bool, true, false, List, [], ◌∷◌, ◌++◌, ℕ, Some, ap, inl, inr, refl, subst, sym, ⊎_elim, ◌∙◌}
+use Rattle.std.proofs.Common.{◌≡◌, Bool, true, false, List, [], ◌∷◌, ◌++◌, ℕ, Some, ap, map, inl, inr, refl, subst, sym, ⊎_elim, ◌∙◌}
 use Rattle.std.specs.Prelude.{Err, Ok, OnErr, OnOk, Result}
+use Rattle.blob_directory.specs.declared.profile.Settles.{Settles}
+use Rattle.blob_directory.specs.declared.profile.Settles.TheVariants.{All, Names, Own, UpToLast, UpToLastOrSize}
 use Rattle.blob_directory.specs.Names.{Edit, binds, directory_at, entry, exchanges, file, frees, moves, resizes}
 use Rattle.blob_directory.specs.declared.table.Table.{Table}
 use Rattle.blob_directory.specs.Tables.{bound}
 use Rattle.blob_directory.specs.Records.{Found}
+use Rattle.blob_journal.specs.Moves.{binding_told}
 use Rattle.blob_journal.specs.Told.{Grows}
-use Rattle.blob_journal.proofs.Growing.{grows_added}
+use Rattle.blob_journal.proofs.Growing.{grows_added, grows_twice}
 use Rattle.blob_fs.specs.declared.file_system.Descriptor.{Descriptor}
 use Rattle.blob_fs.specs.declared.file_system.FileSystem.{FileSystem}
 use Rattle.blob_fs.specs.declared.renames.Rename as rename
 use Rattle.blob_fs.specs.declared.call.NumberCall.{NumberCall}
 use Rattle.blob_fs.specs.declared.call.NumberCall.TheVariants.{Create, MakeDirectory, Link, Unlink, RemoveDirectory, Rename, Open, OpenTruncated, Close, Read, Write, Truncate, Sync, SyncData, SyncDirectory, SyncAll, Settle}
-use Rattle.blob_fs.specs.Files.{AddsTold, GrowsTold, KeepsNames, KeepsTold, MayResize, MayTruncate, SameNames, fresh_inode, inode_opened, told_of}
+use Rattle.blob_fs.specs.Files.{AddsTold, GrowsTold, IfNames, KeepsNames, KeepsTold, MayResize, MayTruncate, SameNames, SettlesSome, TellsAndSettles, fresh_inode, inode_opened, settles_of, told_of}
 use Rattle.blob_fs.specs.Calls.{Does, DoesAll, Leaves, Makes, MakesIf, Renames, Unchanged, Moved, Exchanged}
 use Rattle.blob_fs.specs.Fixed.{KeepsUnreached}
 use Rattle.blob_fs.proofs.Growing.{grows_kept, told_as}
@@ -98,6 +101,18 @@ grows_renames how from to old new fs fs' (Unchanged found is at other left) = gr
 grows_renames how from to old new fs fs' (Moved differ other free m) = grows_makes (moves old new m.moved) fs fs' m.made
 grows_renames how from to old new fs fs' (Exchanged differ is m) = grows_makes (exchanges old new m.moved m.was) fs fs' m.made
 
+grows_again : {R : Type 0} (fs fs' : FileSystem R) → TellsAndSettles fs fs' → GrowsTold fs fs'
+grows_again fs fs' t =
+    grows_twice (told_of fs) (told_of t.between) (told_of fs')
+    (subst (λ (l : List Found). Grows (told_of fs) l) (sym t.told.told) (grows_added (told_of fs) (map binding_told t.told.again))) t.some.grows
+
+grows_some : {R : Type 0} (settles : Settles) (fs fs' : FileSystem R) → IfNames settles (TellsAndSettles fs fs') (SettlesSome fs fs') → GrowsTold fs fs'
+grows_some Names fs fs' t = grows_again fs fs' t
+grows_some Own fs fs' some = some.grows
+grows_some UpToLast fs fs' some = some.grows
+grows_some UpToLastOrSize fs fs' some = some.grows
+grows_some All fs fs' some = some.grows
+
 pub grows_does : {R : Type 0} (call : NumberCall) (ok : Bool) (fs fs' : FileSystem R) → Does call ok fs fs' → GrowsTold fs fs'
 grows_does (Create d name) ok fs fs' m = grows_if ok (binds d name.now (file (fresh_inode fs))) fs fs' m
 grows_does (MakeDirectory d name) ok fs fs' m = grows_if ok (binds d name.now (directory_at (fresh_inode fs))) fs fs' m
@@ -114,7 +129,7 @@ grows_does (Write f offset bytes) ok fs fs' m = grows_leaves fs fs' m.0
 grows_does (Truncate f length) ok fs fs' m = grows_truncate f fs fs' m.1
 grows_does (Sync f) ok fs fs' m = m.0.1.grows
 grows_does (SyncData f) ok fs fs' m = m.0.1.grows
-grows_does (SyncDirectory d) ok fs fs' m = m.0.1.grows
+grows_does (SyncDirectory d) ok fs fs' m = grows_some (settles_of fs) fs fs' m.0.1
 grows_does SyncAll ok fs fs' m = m.0.1.grows
 grows_does Settle ok fs fs' m = m.0.1.grows
 

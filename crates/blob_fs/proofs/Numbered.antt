@@ -1,5 +1,5 @@
 -- What a call by numbers does, by whether it returned Ok.
-use Rattle.std.proofs.Common.{◌≡◌, ℕ, Bool, List, true, false, not, subst}
+use Rattle.std.proofs.Common.{ℕ, not, subst}
 use Rattle.blob_directory.specs.Names.{binds, directory_at}
 use Rattle.blob_fs.specs.declared.call.NumberCall.{NumberCall}
 use Rattle.blob_fs.specs.declared.call.NumberCall.TheVariants as call
@@ -9,7 +9,6 @@ use Rattle.blob_fs.specs.declared.reply.Reply.{Reply}
 use Rattle.blob_fs.specs.declared.reply.Reply.TheVariants.{Done, Opened, Inode, Found, Size, Names, Tree, Crashed, Refused}
 use Rattle.blob_fs.specs.Acts.{number_act}
 use Rattle.blob_fs.specs.Calls.{ByResult, Does, Makes}
-use Rattle.blob_fs.specs.Files.{fresh_inode}
 use Rattle.blob_fs.specs.Fixed.{KeepsUnreached}
 use Rattle.blob_fs.specs.Performs.{Effect, IsDone, IsInode, IsOpened, is_refused}
 use Rattle.blob_fs.proofs.Calls.{leaves}

@@ -20,7 +20,7 @@ use Rattle.blob_fs.specs.Acts.{Act}
 use Rattle.blob_fs.specs.Bytes.{FindsBytes, FindsEdits, FindsKnown, HasNoOrphan}
 use Rattle.blob_fs.specs.Calls.{Leaves, RenamesAt}
 use Rattle.blob_fs.specs.Errors.{OnlyMemoryRefuses}
-use Rattle.blob_fs.specs.Files.{AddsTold, Commits, FindsKept, FindsTold, GivesTold, KeepsNames, KeepsOptions, KeepsTold, MakesEdit, MayResize, MayResizeSome, MayTruncate, SameNames, SettlesSome, SyncsAll, SyncsData, SyncsDirectory, SyncsFile, fresh_inode, inode_opened, names_of, syncs_of}
+use Rattle.blob_fs.specs.Files.{AddsTold, Commits, FindsKept, FindsTold, GivesTold, KeepsNames, KeepsOptions, KeepsTold, MakesEdit, MayResize, MayResizeSome, MayTruncate, SameNames, SettlesSome, SettlesSomeOf, SyncsAll, SyncsData, SyncsDirectory, SyncsFile, fresh_inode, inode_opened, names_of, syncs_of}
 use Rattle.blob_fs.specs.Fixed.{FindsFixed, FixesAll, FixesFile, FixesFound, KeepsFixed, KeepsFixedBut, KeepsSpared}
 use Rattle.blob_fs.specs.Noted.{HasSize, NotesTruncation}
 use Rattle.blob_fs.specs.Paths.{CreatesAt, FreesAt, IsBound, LinksAt, Lists, MakesDirectoryAt, OpensPath, RenamesPath, SyncsPath}
@@ -84,7 +84,7 @@ pub lists : {R : Type 0} (r : Result (Vec (Vec ℕ Global × Binding) Global) Fs
 lists (Ok x) path fs found = (refl, found)
 lists (Err e) path fs found = (refl, tt)
 
-pub syncs_directory : {R : Type 0} (r : Result (Unit {0}) FsError) (path : List ℕ) (fs fs' : FileSystem R) → KeepsNames fs fs' → SettlesSome fs fs' → OnOk r (syncs_of fs ≡ Honest → SyncsPath path fs fs')
+pub syncs_directory : {R : Type 0} (r : Result (Unit {0}) FsError) (path : List ℕ) (fs fs' : FileSystem R) → KeepsNames fs fs' → SettlesSomeOf fs fs' → OnOk r (syncs_of fs ≡ Honest → SyncsPath path fs fs')
     → Effect (acts.SyncDirectory path) (done_reply r) fs fs'
 syncs_directory (Ok x) path fs fs' names some settled = ((names, some), settled)
 syncs_directory (Err e) path fs fs' names some settled = ((names, some), tt)
@@ -159,7 +159,7 @@ pub syncs_data : {R : Type 0} (r : Result (Unit {0}) FsError) (f : Descriptor) (
 syncs_data (Ok x) f fs fs' names some settled fixed fixes = ((names, some), fixed, λ honest. (settled honest, fixes honest))
 syncs_data (Err e) f fs fs' names some settled fixed fixes = ((names, some), fixed, tt)
 
-pub syncs_directory_at : {R : Type 0} (r : Result (Unit {0}) FsError) (d : ℕ) (fs fs' : FileSystem R) → KeepsNames fs fs' → SettlesSome fs fs' → OnOk r (syncs_of fs ≡ Honest → SyncsDirectory fs d fs') → KeepsFixed fs fs'
+pub syncs_directory_at : {R : Type 0} (r : Result (Unit {0}) FsError) (d : ℕ) (fs fs' : FileSystem R) → KeepsNames fs fs' → SettlesSomeOf fs fs' → OnOk r (syncs_of fs ≡ Honest → SyncsDirectory fs d fs') → KeepsFixed fs fs'
     → Effect (acts.SyncDirectoryAt d) (done_reply r) fs fs'
 syncs_directory_at (Ok x) d fs fs' names some settled fixed = ((names, some), fixed, settled)
 syncs_directory_at (Err e) d fs fs' names some settled fixed = ((names, some), fixed, tt)

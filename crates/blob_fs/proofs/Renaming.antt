@@ -14,7 +14,7 @@ use Rattle.blob_fs.specs.declared.renames.Rename.{Rename}
 use Rattle.blob_fs.specs.declared.renames.Rename.TheVariants.{Exchange, NoReplace, Replace}
 use Rattle.blob_fs.specs.Calls.{Exchanged, Leaves, Makes, Moved, Renames, Unchanged}
 use Rattle.blob_fs.specs.declared.file_system.Options.{Options}
-use Rattle.blob_fs.specs.Files.{AddsTold, KeepsNames, KeepsOptions, KeepsTold, MakesEdit, NotesEdit, about_move, journaled_of, names_of, told_of}
+use Rattle.blob_fs.specs.Files.{AddsTold, KeepsNames, KeepsOptions, KeepsTold, MakesEdit, NotesEdit, about_exchange, about_move, journaled_of, names_of, told_of}
 use Rattle.blob_fs.proofs.Noting.{noted_between}
 
 -- kinds of renames
@@ -60,13 +60,13 @@ taken_other o was to taken differ is = differ (ap (λ (x : Option Binding). unwr
 
 pub renames_moved : {R : Type 0} (how : Rename) (a b : ℕ) (e f : List ℕ) (to : Binding) (fs fs' : FileSystem R) → names_of fs e ≡ Some to → names_of fs f ≢ Some to
     → how ≢ Exchange → (how ≡ NoReplace → names_of fs f ≡ None) → AddsTold (moves e f to) fs fs' → MakesEdit (moves e f to) fs fs'
-    → NotesEdit (moves e f to) (about_move to.inode None a b) fs fs' → Renames how a b e f fs fs'
+    → NotesEdit (moves e f to) (about_move to a b) fs fs' → Renames how a b e f fs fs'
 renames_moved how a b e f to fs fs' is other moves_it free told made noted =
     Moved (λ h. other (sym h ∙ is)) moves_it free (record { moved = to; bound = is; made = record { recorded = told; names = made }; noted = noted })
 
 pub renames_exchanged : {R : Type 0} (how : Rename) (a b : ℕ) (e f : List ℕ) (to was : Binding) (fs fs' : FileSystem R) → names_of fs e ≡ Some to → names_of fs f ≡ Some was → was ≢ to
     → how ≡ Exchange → AddsTold (exchanges e f to was) fs fs' → MakesEdit (exchanges e f to was) fs fs'
-    → NotesEdit (exchanges e f to was) (about_move to.inode (Some was.inode) a b) fs fs' → Renames how a b e f fs fs'
+    → NotesEdit (exchanges e f to was) (about_exchange to was a b) fs fs' → Renames how a b e f fs fs'
 renames_exchanged how a b e f to was fs fs' is there differ exchanges_it told made noted =
     Exchanged (λ h. taken_other (names_of fs f) was to there differ (sym h ∙ is)) exchanges_it
     (record { moved = to; bound = is; was = was; replaced = there; made = record { recorded = told; names = made }; noted = noted })
@@ -111,7 +111,7 @@ renames_from how x y e f fs one two b (Moved differ moves_it free m) =
       moved = m.moved;
       bound = entry_before fs one e b ∙ m.bound;
       made = makes_from (moves e f m.moved) fs one two b m.made;
-      noted = notes_from (moves e f m.moved) (about_move m.moved.inode None x y) fs one two b m.noted;
+      noted = notes_from (moves e f m.moved) (about_move m.moved x y) fs one two b m.noted;
     })
 renames_from how x y e f fs one two b (Exchanged differ exchanges_it m) =
     Exchanged (λ h. differ (sym (entry_before fs one e b) ∙ h ∙ entry_before fs one f b)) exchanges_it
@@ -121,7 +121,7 @@ renames_from how x y e f fs one two b (Exchanged differ exchanges_it m) =
       was = m.was;
       replaced = entry_before fs one f b ∙ m.replaced;
       made = makes_from (exchanges e f m.moved m.was) fs one two b m.made;
-      noted = notes_from (exchanges e f m.moved m.was) (about_move m.moved.inode (Some m.was.inode) x y) fs one two b m.noted;
+      noted = notes_from (exchanges e f m.moved m.was) (about_exchange m.moved m.was x y) fs one two b m.noted;
     })
 
 pub renames_at : {R : Type 0} (how : Rename) (x y : ℕ) (e e' f f' : List ℕ) (fs fs' : FileSystem R) → e ≡ e' → f ≡ f' → Renames how x y e f fs fs' → Renames how x y e' f' fs fs'

@@ -1,15 +1,18 @@
 -- The files that a crash may find, through changes of names, of edits and of the map of files.
-use Rattle.std.proofs.Common.{◌≡◌, ◌≤◌, ℕ, Bool, true, false, List, [], ◌∷◌, ◌++◌, length, take, cond, ◌⊎◌, inl, inr, ⊎_elim, Option, None, Some, refl, sym, ap, subst, ◌∙◌}
+use Rattle.std.proofs.Common.{◌≡◌, ◌≤◌, ℕ, Bool, true, false, List, [], ◌∷◌, ◌++◌, length, map, take, cond, ◌⊎◌, inl, inr, ⊎_elim, Option, None, Some, refl, sym, ap, subst, append-nil, append_assoc, ◌∙◌}
 use Rattle.std.proofs.Math.Logic.{∥∥₁_elim, ∥∥₁_map, ∥∥₁_prop}
 use Rattle.std.specs.BTreeMap.{BTreeMap, Updates, WritesThrough, get, is_at}
 use Rattle.std.specs.Map.{lookup}
 use Rattle.std.specs.Coded.{Coded-set, coded_bool}
 use Rattle.std.specs.Ordering.{is_eq, nat_cmp}
 use Rattle.std.specs.Prelude.{Err, Ok, OnErr, OnOk, Result, is_some}
+use Rattle.std.specs.Cmp.Lexicographic.{bytes_decides}
+use Rattle.std.specs.List.{All}
 use Rattle.std.specs.Str.{bytes_eq}
 use Rattle.std.proofs.lemmas.Bool.{cases_Bool, cond-false, cond-true}
+use Rattle.std.proofs.lemmas.List.Elements.{All-head, All-tail}
 use Rattle.blob_directory.specs.declared.edit.Binding.{Binding}
-use Rattle.blob_directory.specs.declared.profile.Keeps.TheVariants.{Any}
+use Rattle.blob_directory.specs.declared.rule.Rule.TheVariants.{Any}
 use Rattle.blob_directory.specs.declared.profile.Keeps.{Keeps}
 use Rattle.blob_directory.specs.declared.table.Table.{Table}
 use Rattle.blob_directory.specs.declared.tree.Tree.{Tree}
@@ -17,17 +20,19 @@ use Rattle.blob_directory.specs.Counts.{NamedAtMost}
 use Rattle.blob_directory.specs.Names.{Edit, Names, edited, entry, file, resizes}
 use Rattle.blob_directory.specs.Records.{Found}
 use Rattle.blob_directory.specs.Settled.{AreSettled}
+use Rattle.blob_directory.specs.Rules.{rule_of}
 use Rattle.blob_directory.specs.Tables.{bound}
 use Rattle.blob_directory.specs.Trees.{HasNamedLinks, has_link}
 use Rattle.blob_journal.specs.declared.journaled.Journaled.{Journaled}
 use Rattle.blob_journal.specs.Bindings.{FreedIsNotNamed, FreedNow, FreedOneMore, FreedSettled, IsFreed, KeptMayName, MayName, MayNameOneMore, MayNameSettled, WithinGiven, WithinOneMore, WithinSettled}
 use Rattle.blob_journal.specs.Keeping.{AddsTold, Edits, FindsTold, GivesTold, KeepsTable, KeepsTold, SameBindings, SettlesSome, names_in, told_in}
+use Rattle.blob_journal.specs.Moves.{Name, TellsAgain, binding_told}
 use Rattle.blob_journal.specs.Told.{names_kept}
 use Rattle.blob_fs.specs.declared.file_system.File as of_fs
 use Rattle.blob_fs.specs.Named.{AllNamed, links_in}
 use Rattle.blob_fs.specs.Tracked.{AllPresent, IsTracked, freed_in, freed_of}
 use Rattle.blob_fs.proofs.Fixed.{Sets, sets_through, some_same}
-use Rattle.blob_fs.proofs.Naming.{all_freed, none_some, unnamed}
+use Rattle.blob_fs.proofs.Naming.{all_freed, fewer, none_some, unnamed}
 use Rattle.blob_fs.proofs.Recovering.{key_is}
 
 abbrev Tracked : {R : Type 0} → Journaled R → BTreeMap ℕ of_fs.File → Type 0
@@ -212,6 +217,30 @@ tracked_freed laws j j' inode m n names told k named h =
     (tracked_map (told_in j ++ Some (edit, false) ∷ []) (names_in j) m n k
     (one_more laws (told_in j) edit (names_in j) (names_in j) m (frees_less (names_in j) e) (all_freed (names_in j) (edited (names_in j) edit) m each e (λ _. refl)) t)))))
 
+-- edits were told that bind names to what calls see there
+bound_again : (names : Names) (x : List ℕ) (to : Binding) → names x ≡ Some to → (e : List ℕ) → edited names ((x, Some to) ∷ []) e ≡ names e
+bound_again names x to seen e = ⊎_elim
+    (λ y. cond-true (bytes_eq x e) (Some to) (names e) y ∙ sym seen ∙ ap names ((bytes_decides x e).0 y))
+    (λ n. cond-false (bytes_eq x e) (Some to) (names e) n)
+    (cases_Bool (bytes_eq x e))
+
+told_again : (laws : AddsOne) (names : Names) (m : BTreeMap ℕ of_fs.File) (again : List Name) (told : List Found) → AllNamed names m → All (λ n. names n.0 ≡ Some n.1) again
+    → IsTracked told names m → IsTracked (told ++ map binding_told again) names m
+told_again laws names m [] told each seen t = subst (λ (l : List Found). IsTracked l names m) (sym (append-nil told)) t
+told_again laws names m (n ∷ again) told each seen t =
+    let edit : Edit = (n.0, Some n.1) ∷ [] in
+    let same = bound_again names n.0 n.1 (All-head (λ x. names x.0 ≡ Some x.1) n again seen) in
+    let named : AllNamed (edited names edit) m = λ i. fewer names (edited names edit) i _ (λ e is. sym (same e) ∙ is) (each i) in
+    let one = one_more laws told edit names names m (λ e to is. sym (same e) ∙ is) named t in
+    subst (λ (l : List Found). IsTracked l names m) (append_assoc told (binding_told n ∷ []) (map binding_told again))
+    (told_again laws names m again (told ++ binding_told n ∷ []) each (All-tail (λ x. names x.0 ≡ Some x.1) n again seen) one)
+
+pub tracked_again : {R : Type 0} (laws : AddsOne) (j j' : Journaled R) (m : BTreeMap ℕ of_fs.File) → KeepsTable j j' → TellsAgain j j' → ∥ AllNamed (names_in j) m ∥₁ → Tracked j m → Tracked j' m
+tracked_again laws j j' m names x named h = ∥∥₁_elim named ∥∥₁_prop (λ each. ∥∥₁_map h (λ t.
+    subst (λ (l : List Found). IsTracked l (names_in j') m) (sym x.told)
+    (subst (λ (table : Table). IsTracked (told_in j ++ map binding_told x.again) (bound table) m) (sym names)
+    (told_again laws (names_in j) m x.again (told_in j) each x.seen t))))
+
 -- a sync settled some edits
 pub record Settles : Type 0 where
   pub may : MayNameSettled
@@ -281,7 +310,7 @@ pub links_known : {R : Type 0} (law : KeptMayName) (j : Journaled R) (m : BTreeM
 links_known law j m keeps tree told named h inode linked =
     ∥∥₁_elim h (Coded-set coded_bool (is_some (get nat_cmp m inode)) true) (λ t.
     let name = named inode linked in
-    t.found inode (law keeps told.chosen (told_in j) name.0 inode (told.finds.within name.0 (file inode) name.1).0))
+    t.found inode (law (rule_of keeps j.unsettled.items) told.chosen (told_in j) name.0 inode (told.finds.within name.0 (file inode) name.1).0))
 
 -- a journal that gives its names still does after a call that keeps both
 pub gives_told_after : {R : Type 0} (j j' : Journaled R) → KeepsTable j j' → KeepsTold j j' → GivesTold j → GivesTold j'

@@ -16,7 +16,7 @@ use Rattle.blob_fs.specs.Bytes.{FindsBytes, FindsKnown}
 use Rattle.blob_fs.specs.Fixed.{FindsFixed, FixesFound, KeepsUnreached}
 use Rattle.blob_fs.specs.Places.{FindsPlaces}
 use Rattle.blob_fs.specs.Writes.{RecordsWrite, failed_write_of, writes_zeros}
-use Rattle.blob_fs.specs.Files.{AddsTold, FindsKept, FindsTold, GrowsTold, KeepsNames, KeepsTold, MakesEdit, MayResize, MayTruncate, NotesExchange, NotesMove, SameNames, SettlesSome, SyncsAll, SyncsData, SyncsDirectory, SyncsFile, fresh_inode, names_of, syncs_of}
+use Rattle.blob_fs.specs.Files.{AddsTold, FindsKept, FindsTold, GrowsTold, KeepsNames, KeepsTold, MakesEdit, MayResize, MayTruncate, NotesExchange, NotesMove, SameNames, SettlesSome, SettlesSomeOf, SyncsAll, SyncsData, SyncsDirectory, SyncsFile, fresh_inode, names_of, syncs_of}
 
 -- one more edit is recorded, which nothing has settled, and the names have it
 pub record Makes {R : Type 0} (edit : Edit) (fs fs' : FileSystem R) : Type 0 where
@@ -67,6 +67,10 @@ MakesIf ok edit fs fs' = ByResult ok (Makes edit fs fs') (Leaves fs fs')
 abbrev pub MaySettle : {R : Type 0} → FileSystem R → FileSystem R → Type 0
 MaySettle fs fs' = KeepsNames fs fs' × SettlesSome fs fs'
 
+-- so after a sync of a directory, which may also tell the new names of files that moved into it
+abbrev pub MaySettleIn : {R : Type 0} → FileSystem R → FileSystem R → Type 0
+MaySettleIn fs fs' = KeepsNames fs fs' × SettlesSomeOf fs fs'
+
 -- a sync that returned Ok and doesn't lie has settled exactly these
 abbrev pub SyncsIf : {R : Type 0} → Bool → Type 0 → FileSystem R → FileSystem R → Type 0
 SyncsIf ok exactly fs fs' = MaySettle fs fs' × ByResult ok (syncs_of fs ≡ Honest → exactly) (Unit {0})
@@ -92,7 +96,7 @@ Does (Write f offset bytes) ok fs fs' = WritesIf ok f offset bytes.now fs fs'
 Does (Truncate f length) ok fs fs' = KeepsNames fs fs' × MayTruncate f fs fs'
 Does (Sync f) ok fs fs' = SyncsIf ok (SyncsFile fs f fs') fs fs'
 Does (SyncData f) ok fs fs' = SyncsIf ok (SyncsData fs f fs') fs fs'
-Does (SyncDirectory d) ok fs fs' = SyncsIf ok (SyncsDirectory fs d fs') fs fs'
+Does (SyncDirectory d) ok fs fs' = MaySettleIn fs fs' × ByResult ok (syncs_of fs ≡ Honest → SyncsDirectory fs d fs') (Unit {0})
 Does SyncAll ok fs fs' = SyncsIf ok (SyncsAll fs fs') fs fs'
 Does Settle ok fs fs' = MaySettle fs fs' × ByResult ok (SyncsAll fs fs') (Unit {0})
 

@@ -1,5 +1,5 @@
 -- The names of a file system, and what its calls leave of them.
-use Rattle.std.specs.Prelude.{◌≡◌, ◌≤◌, ◌⊎◌, ℕ, List, Option, None, Some, if◌then◌else◌, is_some, option_and_then, option_map, unwrap_or}
+use Rattle.std.specs.Prelude.{◌≡◌, ◌≤◌, ◌⊎◌, ℕ, Bool, false, true, List, Option, None, Some, if◌then◌else◌, is_some, option_and_then, option_map, unwrap_or}
 use Rattle.std.specs.BTreeMap.{get}
 use Rattle.std.specs.Ordering.{nat_cmp}
 use Rattle.blob_draws.specs.declared.selections.Selections.{Selections}
@@ -10,6 +10,7 @@ use Rattle.blob_fs.specs.declared.file_system.Options.{Options}
 use Rattle.blob_fs.specs.declared.switches.Syncs.{Syncs}
 use Rattle.blob_directory.specs.declared.profile.Settles.{Settles}
 use Rattle.blob_directory.specs.declared.profile.Settles.TheVariants.{All}
+use Rattle.blob_directory.specs.declared.profile.Settles.TheVariants as settled_by
 use Rattle.blob_directory.specs.declared.unsettled.About.{About}
 use Rattle.blob_directory.specs.declared.unsettled.Synced.{Synced}
 use Rattle.blob_directory.specs.declared.unsettled.Synced.TheVariants as synced
@@ -21,6 +22,7 @@ use Rattle.blob_directory.specs.declared.edit.Kind.TheVariants as kinds
 use Rattle.blob_directory.specs.declared.table.Table.{Table}
 use Rattle.blob_directory.specs.Names.{Edit, Names, Same, binds, edited, entry, exchanges, frees, moves, resizes}
 use Rattle.blob_directory.specs.Records.{Found}
+use Rattle.blob_directory.specs.Syncs.{of_name}
 use Rattle.blob_directory.specs.Tables.{bound}
 use Rattle.blob_directory.specs.Trees.{Finds}
 use Rattle.blob_fs.specs.Named.{links_in}
@@ -30,6 +32,7 @@ use Rattle.blob_journal.specs.declared.journaled.Journaled.{Journaled}
 use Rattle.blob_journal.specs.Currents.{Represents}
 use Rattle.blob_journal.specs.Draws.{RecordsEdit as records_edit}
 use Rattle.blob_journal.specs.Journals.{FindsKept as finds_kept, durable_file, FindsNames as finds_names, GivesNames as gives_names, store_of}
+use Rattle.blob_journal.specs.Moves.{BindsMoved, TellsAgain}
 use Rattle.blob_journal.specs.Settling.{KeepsJournal as keeps_journal, NotesEdit as notes_edit, SettlesEdits as settles_edits}
 use Rattle.blob_journal.specs.Keeping.{AddsTold as adds_told, FindsTold as finds_told, GivesTold as gives_told, GrowsTold as grows_told, KeepsTold as keeps_told, SettlesSome as settles_some, generator_in, table_in, told_in, with_generator as with_generator_in}
 
@@ -159,9 +162,24 @@ pub record SyncsData {R : Type 0} (fs : FileSystem R) (file : Descriptor) (fs' :
   pub sized : ℕ
   pub settled : SettlesEdits (settles_of fs) (synced.Data inode sized) fs fs'
 
+-- with `Names`, and with any other value
+abbrev pub IfNames : Settles → Type 0 → Type 0 → Type 0
+IfNames settled_by.Names names other = names
+IfNames settled_by.Own names other = other
+IfNames settled_by.UpToLast names other = other
+IfNames settled_by.UpToLastOrSize names other = other
+IfNames settled_by.All names other = other
+
+-- The new name of each file that moved into the directory is an edit of its own. Then those of the directory are settled.
+pub record SyncsMoved {R : Type 0} (fs : FileSystem R) (directory : ℕ) (fs' : FileSystem R) : Type 0 where
+  pub between : FileSystem R
+  pub told : TellsAgain (journaled_of fs) (journaled_of between)
+  pub bound : BindsMoved directory (journaled_of fs) (journaled_of between)
+  pub settled : SettlesEdits settled_by.Names (synced.Directory directory) between fs'
+
 -- those of a directory
 abbrev pub SyncsDirectory : {R : Type 0} → FileSystem R → ℕ → FileSystem R → Type 0
-SyncsDirectory fs directory fs' = SettlesEdits (settles_of fs) (synced.Directory directory) fs fs'
+SyncsDirectory fs directory fs' = IfNames (settles_of fs) (SyncsMoved fs directory fs') (SettlesEdits (settles_of fs) (synced.Directory directory) fs fs')
 
 -- all
 abbrev pub SyncsAll : {R : Type 0} → FileSystem R → FileSystem R → Type 0
@@ -190,11 +208,19 @@ LogsEdit edit fs fs' = records_edit edit (options_of fs).edit_rate (journaled_of
 
 -- what an edit of a name of an inode in a directory is about
 abbrev pub about_name : ℕ → ℕ → About
-about_name inode directory = record { inode = inode; other = None; directory = directory; other_directory = None }
+about_name inode directory = of_name inode directory
 
--- what an edit that moves a name is about; an exchange moves another inode too
-abbrev pub about_move : ℕ → Option ℕ → ℕ → ℕ → About
-about_move inode other from to = record { inode = inode; other = other; directory = from; other_directory = Some to }
+abbrev pub is_file : Kind → Bool
+is_file kinds.File = true
+is_file kinds.Directory = false
+
+-- what an edit that moves a name is about
+abbrev pub about_move : Binding → ℕ → ℕ → About
+about_move moved from to = record { inode = moved.inode; other = None; directory = from; other_directory = Some to; moves_file = is_file moved.kind }
+
+-- an exchange moves another inode too
+abbrev pub about_exchange : Binding → Binding → ℕ → ℕ → About
+about_exchange moved was from to = record { inode = moved.inode; other = Some was.inode; directory = from; other_directory = Some to; moves_file = false }
 
 -- the inode that a name is bound to; 0 if there is none
 abbrev pub inode_named : {R : Type 0} → FileSystem R → ℕ → List ℕ → ℕ
@@ -213,10 +239,10 @@ abbrev pub NotesFreeing : {R : Type 0} → ℕ → List ℕ → FileSystem R →
 NotesFreeing directory name fs = NotesEdit (frees directory name) (about_named fs directory name) fs
 
 abbrev pub NotesMove : {R : Type 0} → ℕ → ℕ → List ℕ → List ℕ → Binding → FileSystem R → FileSystem R → Type 0
-NotesMove from to old new moved = NotesEdit (moves old new moved) (about_move moved.inode None from to)
+NotesMove from to old new moved = NotesEdit (moves old new moved) (about_move moved from to)
 
 abbrev pub NotesExchange : {R : Type 0} → ℕ → ℕ → List ℕ → List ℕ → Binding → Binding → FileSystem R → FileSystem R → Type 0
-NotesExchange from to old new moved was = NotesEdit (exchanges old new moved was) (about_move moved.inode (Some was.inode) from to)
+NotesExchange from to old new moved was = NotesEdit (exchanges old new moved was) (about_exchange moved was from to)
 
 -- edits may have been told, and some settled; no edit has changed, and none is unsettled again
 abbrev pub GrowsTold : {R : Type 0} → FileSystem R → FileSystem R → Type 0
@@ -225,6 +251,16 @@ GrowsTold fs fs' = grows_told (journaled_of fs) (journaled_of fs')
 -- edits may have been settled, and no other change was made
 abbrev pub SettlesSome : {R : Type 0} → FileSystem R → FileSystem R → Type 0
 SettlesSome fs fs' = settles_some (journaled_of fs) (journaled_of fs')
+
+-- edits may have been told that bind names to what calls see there, and then some settled
+pub record TellsAndSettles {R : Type 0} (fs fs' : FileSystem R) : Type 0 where
+  pub between : FileSystem R
+  pub told : TellsAgain (journaled_of fs) (journaled_of between)
+  pub some : SettlesSome between fs'
+
+-- the same if syncs settle names, else edits may have been settled
+abbrev pub SettlesSomeOf : {R : Type 0} → FileSystem R → FileSystem R → Type 0
+SettlesSomeOf fs fs' = IfNames (settles_of fs) (TellsAndSettles fs fs') (SettlesSome fs fs')
 
 -- after a crash the names are those that it finds by the edits that were told: by all that were settled, and by some of the others, as the profile keeps them
 abbrev pub FindsTold : {R : Type 0} → FileSystem R → FileSystem R → Type 0

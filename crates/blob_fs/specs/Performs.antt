@@ -2,7 +2,7 @@
 use Rattle.std.specs.Prelude.{◌≡◌, ◌<◌, ◌≤◌, ℕ, IsSome, Bool, true, false, List, length, Err, Ok, None, Result, Some, Vec}
 use Rattle.std.specs.Global.{Global}
 use Rattle.blob_directory.specs.declared.edit.Binding.{Binding}
-use Rattle.blob_directory.specs.Names.{Edit, binds, directory_at, entry, file, frees}
+use Rattle.blob_directory.specs.Names.{binds, directory_at, entry, file, frees}
 use Rattle.blob_directory.specs.Tables.{HasAll, HasOnly}
 use Rattle.blob_fs.specs.declared.crash.Crash.{Crash}
 use Rattle.blob_fs.specs.declared.error.FsError.{FsError}
@@ -12,7 +12,7 @@ use Rattle.blob_fs.specs.declared.switches.FailedWrite.TheVariants.{ByMode}
 use Rattle.blob_fs.specs.declared.switches.Syncs.TheVariants.{Honest}
 use Rattle.blob_fs.specs.declared.whole.TreeEntry.{TreeEntry}
 use Rattle.blob_fs.specs.Bytes.{FindsBytes, FindsEdits, FindsKnown, HasNoOrphan}
-use Rattle.blob_fs.specs.Calls.{Leaves, Makes, MaySettle, RenamesAt}
+use Rattle.blob_fs.specs.Calls.{Leaves, Makes, MaySettle, MaySettleIn, RenamesAt}
 use Rattle.blob_fs.specs.Errors.{IsExhaustedError, next_number}
 use Rattle.blob_fs.specs.Files.{Commits, FindsKept, FindsTold, GivesTold, KeepsNames, KeepsOptions, KeepsTold, MayResize, MayResizeSome, MayTruncate, SameNames, SettlesSome, SyncsAll, SyncsData, SyncsDirectory, SyncsFile, fresh_inode, inode_opened, journaled_of, names_of, syncs_of}
 use Rattle.blob_fs.specs.Fixed.{FindsFixed, FixesAll, FixesFile, FixesFound, KeepsFixed, KeepsFixedBut, KeepsSpared}
@@ -118,7 +118,7 @@ Effect (acts.Move path to how) reply fs fs' = IsDone reply (RenamesPath how path
 Effect (acts.MakeDirectory path) reply fs fs' = IsDone reply (MakesDirectoryAt path fs fs') (Leaves fs fs')
 Effect (acts.RemoveDirectory path) reply fs fs' = IsDone reply (FreesAt path fs fs') (Leaves fs fs')
 Effect (acts.ListNames path) reply fs fs' = (fs' ≡ fs) × IsNames reply (λ found. Lists (names_of fs) path found) (Unit {0})
-Effect (acts.SyncDirectory path) reply fs fs' = MaySettle fs fs' × IsDone reply (syncs_of fs ≡ Honest → SyncsPath path fs fs') (Unit {0})
+Effect (acts.SyncDirectory path) reply fs fs' = MaySettleIn fs fs' × IsDone reply (syncs_of fs ≡ Honest → SyncsPath path fs fs') (Unit {0})
 Effect (acts.Find path) reply fs fs' = (fs' ≡ fs) × IsBinding reply (λ to. IsBound (names_of fs) path to) (Unit {0})
 Effect (acts.CreateAt d name) reply fs fs' = KeepsFixed fs fs' × IsOpened reply (λ f. Binds d name (file (fresh_inode fs)) fs fs') (Leaves fs fs')
 Effect (acts.MakeDirectoryAt d name) reply fs fs' =
@@ -130,7 +130,7 @@ Effect (acts.MoveAt from old to new how) reply fs fs' = KeepsFixed fs fs' × IsD
 Effect (acts.ListAt d) reply fs fs' =
     (fs' ≡ fs) × IsNames reply (λ found. HasOnly (names_of fs) d found × HasAll (names_of fs) d found) (Unit {0})
 Effect (acts.SyncDirectoryAt d) reply fs fs' =
-    MaySettle fs fs' × KeepsFixed fs fs' × IsDone reply (syncs_of fs ≡ Honest → SyncsDirectory fs d fs') (Unit {0})
+    MaySettleIn fs fs' × KeepsFixed fs fs' × IsDone reply (syncs_of fs ≡ Honest → SyncsDirectory fs d fs') (Unit {0})
 Effect (acts.FindAt d name) reply fs fs' = (fs' ≡ fs) × IsBinding reply (λ to. names_of fs (entry d name) ≡ Some to) (Unit {0})
 Effect (acts.OpenInode inode) reply fs fs' = KeepsAll fs fs' × IsOpened reply (λ f. inode_opened fs' f ≡ Some inode) (Unit {0})
 Effect (acts.OpenInodeTruncated inode) reply fs fs' =

@@ -22,12 +22,7 @@ use rand_core::Rng;
 fn about(inode: u64, directory: u64) -> About
     ensures { result ≡ about_name inode directory }
 {
-    About {
-        inode,
-        other: None,
-        directory,
-        other_directory: None,
-    }
+    About::of_name(inode, directory)
 }
 
 impl<R: Rng + Drop> FileSystem<R> {

@@ -4,7 +4,7 @@ ghost use Rattle.blob_directory.specs.Names.{directory_at, entry};
 ghost use Rattle.blob_directory.specs.Paths.{IsPlace, LeadsTo};
 ghost use Rattle.blob_fs.specs.declared.switches.Syncs.TheVariants.{Honest};
 ghost use Rattle.blob_fs.specs.Calls.{Leaves};
-ghost use Rattle.blob_fs.specs.Files.{KeepsNames, KeepsOptions, KeepsTold, MayResizeSome, SettlesSome, names_of, syncs_of};
+ghost use Rattle.blob_fs.specs.Files.{KeepsNames, KeepsOptions, KeepsTold, MayResizeSome, SettlesSomeOf, names_of, syncs_of};
 ghost use Rattle.blob_fs.specs.Paths.{CreatesAt, FreesAt, IsBound, LinksAt, Lists, MakesDirectoryAt, OpensPath, RenamesPath, SyncsPath};
 
 use crate::error::FsError;
@@ -169,7 +169,7 @@ impl<R: Rng + Drop> FileSystem<R> {
     /// Settles the edits of a directory. The errors are those of `directory_of` and of `sync_directory_at`.
     pub fn sync_directory(&mut self, path: &[u8]) -> Result<(), FsError>
         ensures names { KeepsNames self.old self.new }
-        ensures some { SettlesSome self.old self.new }
+        ensures some { SettlesSomeOf self.old self.new }
         ensures settled { OnOk result (syncs_of self.old ≡ Honest → SyncsPath path.now self.old self.new) }
         ensures options { KeepsOptions self.old self.new }
     {

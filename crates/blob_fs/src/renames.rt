@@ -2,7 +2,7 @@
 ghost use Rattle.std.specs.Prelude.{◌≡◌, ◌≢◌, MatchBool, None, OnOk, OnErr, Some};
 ghost use Rattle.blob_fs.specs.Below.{IsNotBelow, StaysApart};
 ghost use Rattle.blob_fs.specs.Calls.{Leaves, Renames, RenamesAt};
-ghost use Rattle.blob_fs.specs.Files.{AddsTold, GrowsTold, KeepsNames, KeepsOptions, KeepsTold, MakesEdit, NotesExchange, NotesMove, SameFiles, SameNames, journaled_of, names_of};
+ghost use Rattle.blob_fs.specs.Files.{AddsTold, GrowsTold, KeepsNames, KeepsOptions, KeepsTold, MakesEdit, NotesExchange, NotesMove, SameFiles, SameNames, is_file, journaled_of, names_of};
 ghost use Rattle.blob_fs.specs.Fixed.{KeepsFixed};
 ghost use Rattle.blob_directory.specs.declared.edit.Kind.TheVariants.{Directory};
 ghost use Rattle.blob_directory.specs.Names.{exchanges, moves};
@@ -29,6 +29,15 @@ fn is_same(a: Binding, b: Binding) -> bool
     ensures { MatchBool result (a ≡ b) (a ≢ b) }
 {
     a == b
+}
+
+fn is_file(kind: Kind) -> bool
+    ensures { result ≡ is_file kind }
+{
+    match kind {
+        Kind::File => true,
+        Kind::Directory => false,
+    }
 }
 
 impl<R: Rng + Drop> FileSystem<R> {
@@ -205,6 +214,7 @@ impl<R: Rng + Drop> FileSystem<R> {
             other: None,
             directory: from.1,
             other_directory: Some(to.1),
+            moves_file: is_file(moved.kind),
         };
         self.make(Edit::moving(from.0, to.0, moved), about)?;
         self.place(moved, to.1);
@@ -268,6 +278,7 @@ impl<R: Rng + Drop> FileSystem<R> {
             other: Some(was.inode),
             directory: from.1,
             other_directory: Some(to.1),
+            moves_file: false,
         };
         self.make(Edit::exchanging(from.0, to.0, moved, was), about)?;
         self.place(moved, to.1);

@@ -2,8 +2,9 @@
 ghost use Rattle.std.specs.Prelude.{◌≡◌, ◌<◌, IfOk, OnOk};
 ghost use Rattle.blob_fs.specs.declared.switches.Syncs.TheVariants.{Honest};
 ghost use Rattle.blob_fs.specs.Fixed.{FixesAll, FixesFile, FixesInode, KeepsFixed, KeepsSeen, ListsFiles};
-ghost use Rattle.blob_fs.specs.Files.{KeepsJournal, KeepsNames, KeepsOptions, KeepsTold, SettlesEdits, SettlesSome, SyncsAll, SyncsData, SyncsDirectory, SyncsFile, fresh_inode, journaled_of, syncs_of};
+ghost use Rattle.blob_fs.specs.Files.{KeepsJournal, KeepsNames, KeepsOptions, KeepsTold, SettlesEdits, SettlesSome, SettlesSomeOf, SyncsAll, SyncsData, SyncsDirectory, SyncsFile, SyncsMoved, TellsAndSettles, fresh_inode, journaled_of, syncs_of};
 ghost use Rattle.blob_fs.specs.Noted.{IsUncut};
+ghost use Rattle.blob_journal.specs.Moves.{BindsMoved, TellsAgain};
 
 use crate::error::FsError;
 use crate::file_system::{Descriptor, FileSystem};
@@ -27,6 +28,49 @@ impl<R: Rng + Drop> FileSystem<R> {
         bindings();
         self.store.settle(settles, synced)?;
         self.remove_gone();
+        Ok(())
+    }
+
+    /// Records the new name of each file that moved into a directory as an edit of its own.
+    fn bind_moved(&mut self, directory: u64) -> Result<(), FsError>
+        ensures names { KeepsNames self.old self.new }
+        ensures told { TellsAgain (journaled_of self.old) (journaled_of self.new) }
+        ensures bound { OnOk result (BindsMoved directory (journaled_of self.old) (journaled_of self.new)) }
+        ensures fixed { KeepsFixed self.old self.new }
+        ensures options { KeepsOptions self.old self.new }
+    {
+        bindings();
+        self.store.bind_moved(directory, self.options.edit_rate)?;
+        Ok(())
+    }
+
+    /// Settles the edits that a sync of a directory settles by `Settles::Names`.
+    fn settle_moved(&mut self, directory: u64) -> Result<(), FsError>
+        ensures names { KeepsNames self.old self.new }
+        ensures some { TellsAndSettles self.old self.new }
+        ensures settled { OnOk result (SyncsMoved self.old directory self.new) }
+        ensures fixed { KeepsFixed self.old self.new }
+        ensures options { KeepsOptions self.old self.new }
+    {
+        self.bind_moved(directory)?;
+        self.settle_by(Settles::Names, Synced::Directory(directory))?;
+        Ok(())
+    }
+
+    /// Settles the edits that a sync of a directory settles by the profile.
+    fn settle_directory(&mut self, directory: u64) -> Result<(), FsError>
+        ensures names { KeepsNames self.old self.new }
+        ensures some { SettlesSomeOf self.old self.new }
+        ensures settled { OnOk result (SyncsDirectory self.old directory self.new) }
+        ensures fixed { KeepsFixed self.old self.new }
+        ensures options { KeepsOptions self.old self.new }
+    {
+        let settles = self.options.profile.settles;
+        if settles == Settles::Names {
+            self.settle_moved(directory)?;
+            return Ok(());
+        }
+        self.settle_by(settles, Synced::Directory(directory))?;
         Ok(())
     }
 
@@ -136,7 +180,8 @@ impl<R: Rng + Drop> FileSystem<R> {
         Ok(())
     }
 
-    /// Settles the edits of a directory's names, and more if the profile says so. Makes no draw.
+    /// Settles the edits of a directory's names, and more if the profile says so. With `Settles::Names` the new name of a file that moved
+    /// into the directory is settled, and the removal of its old name isn't. Makes no draw.
     ///
     /// # Errors
     ///
@@ -144,7 +189,7 @@ impl<R: Rng + Drop> FileSystem<R> {
     #[tactic(auto, using(crate::proofs::Settling::settles_kept, crate::proofs::Settling::settles_then, crate::proofs::Settling::settles_from))]
     pub fn sync_directory_at(&mut self, directory: u64) -> Result<(), FsError>
         ensures names { KeepsNames self.old self.new }
-        ensures some { SettlesSome self.old self.new }
+        ensures some { SettlesSomeOf self.old self.new }
         ensures settled { OnOk result (syncs_of self.old ≡ Honest → SyncsDirectory self.old directory self.new) }
         ensures fixed { KeepsFixed self.old self.new }
         ensures options { KeepsOptions self.old self.new }
@@ -160,7 +205,7 @@ impl<R: Rng + Drop> FileSystem<R> {
         if self.options.syncs == Syncs::Lie {
             return Ok(());
         }
-        self.settle_by(self.options.profile.settles, Synced::Directory(directory))?;
+        self.settle_directory(directory)?;
         Ok(())
     }
 

@@ -1,14 +1,15 @@
 -- Which files a crash may find a name of, by the edits that were told.
-use Rattle.std.proofs.Common.{◌≡◌, ◌⊎◌, inl, inr, ⊎_elim, ℕ, zero, suc, ◌+◌, ◌≤◌, Bool, true, false, not, ◌||◌, List, [], ◌∷◌, ◌++◌, Some, None, length, take, refl, sym, ◌∙◌, ap, ap₂, subst, arith, append-nil}
+use Rattle.std.proofs.Common.{◌≡◌, ◌⊎◌, inl, inr, ⊎_elim, ℕ, zero, suc, ◌+◌, ◌≤◌, Bool, true, false, not, ◌&&◌, ◌||◌, List, [], ◌∷◌, ◌++◌, Some, None, length, take, refl, sym, ◌∙◌, ap, ap₂, subst, arith, append-nil}
 use Rattle.std.specs.Prelude.{if◌then◌else◌, Option}
 use Rattle.std.specs.Str.{bytes_eq}
 use Rattle.blob_directory.specs.declared.edit.Binding.{Binding}
-use Rattle.blob_directory.specs.declared.profile.Keeps.{Keeps}
-use Rattle.blob_directory.specs.declared.profile.Keeps.TheVariants.{Any}
-use Rattle.blob_directory.specs.Names.{Edit, Names, all_edited, changed, edited, file}
-use Rattle.blob_directory.specs.Profiles.{is_prefix, kept_edits}
+use Rattle.blob_directory.specs.declared.rule.Rule.{Rule}
+use Rattle.blob_directory.specs.declared.rule.Rule.TheVariants.{Any}
+use Rattle.blob_directory.specs.Names.{Edit, Names, all_edited, binds_any, changed, edited, file}
+use Rattle.blob_directory.specs.Profiles.{is_prefix, is_seen_by, kept_edits, seen_one, with_seen}
 use Rattle.blob_directory.specs.Records.{Found}
 use Rattle.blob_directory.specs.Settled.{AreSettled}
+use Rattle.blob_directory.proofs.Rules.{seen_any}
 use Rattle.blob_journal.specs.Bindings.{FreedIsNotNamed, FreedNow, FreedOneMore, FreedSettled, KeepsBelow, KeptMayName, MayNameOneMore, MayNameSettled, WithinGiven, WithinOneMore, WithinSettled, edits_in}
 use Rattle.blob_journal.specs.Told.{Grows, Stays, after_loss, names_kept, settle_one, settled_in, was_settled}
 
@@ -37,9 +38,11 @@ abbrev names_of : List Edit → Names
 names_of edits = all_edited (λ _. None) edits
 
 left_names : (chosen : ℕ → Bool) (told : List Found) (e : List ℕ) → names_kept Any chosen told e ≡ names_of (edits_left chosen 0 told) e
-left_names chosen told e = ap (λ (l : List Edit). names_of l e) (left_kept chosen 0 told)
+left_names chosen told e =
+    ap (λ (l : List Found). names_of (kept_edits Any false l) e) (seen_any 0 (after_loss chosen 0 told))
+    ∙ ap (λ (l : List Edit). names_of l e) (left_kept chosen 0 told)
 
--- Whatever a crash keeps by a profile, another crash keeps by `Any`.
+-- Whatever a crash keeps by a rule, another crash keeps by `Any`.
 
 -- a choice for the first record, and for those behind it
 abbrev first : Bool → (ℕ → Bool) → ℕ → Bool
@@ -55,29 +58,33 @@ left_behind chosen n (Some (edit, settled) ∷ told) =
 left_first : (b : Bool) (chosen : ℕ → Bool) (told : List Found) → edits_left (first b chosen) 1 told ≡ edits_left chosen 0 told
 left_first b chosen told = left_behind (first b chosen) 0 told
 
-any_left : (keeps : Keeps) (lost : Bool) (chosen : ℕ → Bool) (n : ℕ) (told : List Found)
-    → (c : ℕ → Bool) × (kept_edits keeps lost (after_loss chosen n told) ≡ edits_left c 0 told)
-any_left keeps lost chosen n [] = (chosen, refl)
-any_left keeps lost chosen n (None ∷ told) =
-    let h = any_left keeps (lost || is_prefix keeps) chosen (suc n) told in
+any_left : (rule : Rule) (lost : Bool) (chosen : ℕ → Bool) (n : ℕ) (told : List Found)
+    → (c : ℕ → Bool) × (kept_edits rule lost (with_seen rule n (after_loss chosen n told)) ≡ edits_left c 0 told)
+any_left rule lost chosen n [] = (chosen, refl)
+any_left rule lost chosen n (None ∷ told) =
+    let h = any_left rule (lost || is_prefix rule) chosen (suc n) told in
     (first false h.0, h.1 ∙ sym (left_first false h.0 told))
-any_left keeps lost chosen n (Some (edit, true) ∷ told) =
-    let h = any_left keeps lost chosen (suc n) told in
+any_left rule lost chosen n (Some (edit, true) ∷ told) =
+    let h = any_left rule lost chosen (suc n) told in
     (first false h.0, ap (λ (l : List Edit). edit ∷ l) (h.1 ∙ sym (left_first false h.0 told)))
-any_left keeps lost chosen n (Some (edit, false) ∷ told) =
-    one (chosen n) (after_loss chosen (suc n) told) (any_left keeps lost chosen (suc n) told)
-    (any_left keeps (lost || is_prefix keeps) chosen (suc n) told)
+any_left rule lost chosen n (Some (edit, false) ∷ told) =
+    one (chosen n) (with_seen rule (suc n) (after_loss chosen (suc n) told)) (any_left rule lost chosen (suc n) told)
+    (any_left rule (lost || is_prefix rule) chosen (suc n) told)
   where
-    one : (b : Bool) (rest : List Found) → (c : ℕ → Bool) × (kept_edits keeps lost rest ≡ edits_left c 0 told)
-        → (c : ℕ → Bool) × (kept_edits keeps (lost || is_prefix keeps) rest ≡ edits_left c 0 told)
-        → (c : ℕ → Bool) × (kept_edits keeps lost ((if b then Some (edit, false) else None) ∷ rest) ≡ edits_left c 0 (Some (edit, false) ∷ told))
+    seen : Bool
+    seen = is_seen_by rule n && binds_any edit
+
+    one : (b : Bool) (rest : List Found) → (c : ℕ → Bool) × (kept_edits rule lost rest ≡ edits_left c 0 told)
+        → (c : ℕ → Bool) × (kept_edits rule (lost || is_prefix rule) rest ≡ edits_left c 0 told)
+        → (c : ℕ → Bool) × (kept_edits rule lost (seen_one (is_seen_by rule n) (if b then Some (edit, false) else None) ∷ rest) ≡ edits_left c 0 (Some (edit, false) ∷ told))
     one true rest h gone =
-        (first (not lost) h.0, ap (λ (l : List Edit). if not lost then edit ∷ l else l) (h.1 ∙ sym (left_first (not lost) h.0 told)))
+        let counts : Bool = seen || not lost in
+        (first counts h.0, ap (λ (l : List Edit). if counts then edit ∷ l else l) (h.1 ∙ sym (left_first counts h.0 told)))
     one false rest h gone = (first false gone.0, gone.1 ∙ sym (left_first false gone.0 told))
 
 pub kept_may_name : KeptMayName
-kept_may_name keeps chosen told e inode h =
-    let k = any_left keeps false chosen 0 told in
+kept_may_name rule chosen told e inode h =
+    let k = any_left rule false chosen 0 told in
     record { chosen = k.0; entry = e; is = left_names k.0 told e ∙ ap (λ (l : List Edit). names_of l e) (sym k.1) ∙ h }
 
 -- One more edit.

@@ -4,7 +4,7 @@ use Rattle.std.specs.Prelude.{if◌then◌else◌}
 use Rattle.blob_directory.specs.Names.{Edit}
 use Rattle.blob_directory.specs.Records.{Found}
 use Rattle.blob_directory.specs.Settled.{AreSettled, IsBeside, changes_entry}
-use Rattle.blob_directory.proofs.Settled.{settled_counts}
+use Rattle.blob_directory.proofs.Settled.{settled_by}
 use Rattle.blob_journal.specs.Told.{Grows, SettledIsKept, SettledStays, Stays, after_loss, edit_in, was_settled}
 
 -- what is lost, in two parts
@@ -24,9 +24,9 @@ lost_beside chosen n e (Some (edit, settled) ∷ found) h = one (settled || chos
     one false edit settled rest other beside = beside
 
 pub settled_is_kept : SettledIsKept
-settled_is_kept keeps chosen told edit e last =
+settled_is_kept rule chosen told edit e last =
     let parts = loss_parts chosen 0 last.before (Some (edit, true) ∷ last.after) in
-    settled_counts keeps (after_loss chosen 0 told) (after_loss chosen 0 last.before) (after_loss chosen (suc parts.0) last.after) edit e
+    settled_by rule (after_loss chosen 0 told) (after_loss chosen 0 last.before) (after_loss chosen (suc parts.0) last.after) edit e
     (ap (after_loss chosen 0) last.is ∙ parts.1) last.changes (lost_beside chosen (suc parts.0) e last.after last.beside)
 
 -- the same edit, still settled

@@ -1,5 +1,6 @@
 pub mod Records
 pub mod Listed
+pub mod Again
 pub mod Told
 pub mod Growing
 pub mod Unsettled

@@ -1,8 +1,8 @@
 -- Edits with records of their own.
-use Rattle.std.proofs.Common.{◌≡◌, ℕ, zero, suc, ◌+◌, ◌-◌, ◌<◌, ◌≤◌, Bool, false, List, [], ◌∷◌, ◌++◌, length, get_or, map, None, Some, refl, sym, ◌∙◌, ap, ap₂, arith, append_assoc, length-append}
+use Rattle.std.proofs.Common.{◌≡◌, ℕ, zero, suc, ◌+◌, ◌-◌, ◌<◌, ◌≤◌, Bool, false, List, [], ◌∷◌, ◌++◌, length, get_or, drop, take, map, None, Some, refl, sym, ◌∙◌, ap, ap₂, arith, append_assoc, length-append}
 use Rattle.std.specs.Prelude.{filter, slice_get}
 use Rattle.std.proofs.lemmas.Bool.{cond_both}
-use Rattle.std.proofs.lemmas.List.{length_push}
+use Rattle.std.proofs.lemmas.List.{append-nil, drop_all, length_push, take_all}
 use Rattle.blob_packed.specs.Records.{Record, packed}
 use Rattle.blob_directory.specs.declared.unsettled.Unsettled.{Unsettled}
 use Rattle.blob_directory.specs.Names.{edit_of}
@@ -90,3 +90,10 @@ last_is l xs x y is at = let same : Some y ≡ Some x = at ∙ last_here l xs x 
 
 pub has_last : (l xs : List Unsettled) (x : Unsettled) → l ≡ xs ++ x ∷ [] → None ≡ slice_get l (length l - 1) → ⊥
 has_last l xs x is at = let none : None ≡ Some x = at ∙ last_here l xs x is in cc
+
+-- a slice of the whole list, written back
+pub whole : (new old : List Unsettled) (n : ℕ) → length new ≡ length old → n ≡ length old → take n (new ++ drop (length new) old) ≡ new
+whole new old n same all =
+    ap (λ (l : List Unsettled). take n (new ++ l)) (drop_all (length new) old (omega (arith, same)))
+    ∙ ap (λ (l : List Unsettled). take n l) (append-nil new)
+    ∙ take_all n new (omega (arith, same, all))

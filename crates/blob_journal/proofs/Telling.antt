@@ -8,7 +8,7 @@ use Rattle.blob_faulty.specs.Keeps.{OverMemory}
 use Rattle.blob_faulty.specs.Wrapper.{inner_of, inside}
 use Rattle.blob_model.proofs.FileSteps.{durable_is}
 use Rattle.blob_packed.specs.Losses.{LeftAreFound, PackedAreFound, may_be_left}
-use Rattle.blob_directory.specs.declared.profile.Keeps.{Keeps}
+use Rattle.blob_directory.specs.declared.rule.Rule.{Rule}
 use Rattle.blob_directory.specs.declared.unsettled.Unsettled.{Unsettled}
 use Rattle.blob_directory.specs.Profiles.{edits_of}
 use Rattle.blob_directory.specs.Records.{Found, found_in}
@@ -57,11 +57,11 @@ pub same_length : {R : Type 0} → PackedAreFound → (before after : OverMemory
 same_length law before after old new edits edits' same h k = told_count law after new edits' k ∙ same ∙ sym (told_count law before old edits h)
 
 -- the edits that count of the durable bytes
-pub found_now : {R : Type 0} → LeftAreFound → PackedAreFound → (keeps : Keeps) (store : OverMemory R) (journal : Journal) (edits : List Unsettled) (bytes : List ℕ) → ∥ IsKept store journal edits ∥₁
-    → durable (inner_of store) (place (inside journal.blob)) ≡ Some bytes → edits_of keeps bytes ≡ edits_kept keeps (chosen_of (found_in bytes)) (told_by journal)
-found_now left law keeps store journal edits bytes h is = ∥∥₁_elim h (Coded-set (coded_list edit_code) _ _) (λ k.
+pub found_now : {R : Type 0} → LeftAreFound → PackedAreFound → (rule : Rule) (store : OverMemory R) (journal : Journal) (edits : List Unsettled) (bytes : List ℕ) → ∥ IsKept store journal edits ∥₁
+    → durable (inner_of store) (place (inside journal.blob)) ≡ Some bytes → edits_of rule bytes ≡ edits_kept rule (chosen_of (found_in bytes)) (told_by journal)
+found_now left law rule store journal edits bytes h is = ∥∥₁_elim h (Coded-set (coded_list edit_code) _ _) (λ k.
     let f = k.has.found in
     let may : may_be_left 0 k.records bytes ≡ true =
     ap (may_be_left 0 k.records) (durable_is _ _ _ _ _ f.files (place (inside journal.blob)) bytes is f.stands) ∙ f.durable in
-    found_edits keeps k.records bytes (left k.records bytes k.has.fit may)
-    ∙ ap (edits_kept keeps (chosen_of (found_in bytes))) (sym (told_is law k.records (bytes_in journal) k.has.fit k.has.seen)))
+    found_edits rule k.records bytes (left k.records bytes k.has.fit may)
+    ∙ ap (edits_kept rule (chosen_of (found_in bytes))) (sym (told_is law k.records (bytes_in journal) k.has.fit k.has.seen)))

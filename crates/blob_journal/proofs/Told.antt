@@ -5,10 +5,11 @@ use Rattle.blob_packed.specs.Losses as losses
 use Rattle.blob_packed.specs.Losses.{HasThese}
 use Rattle.blob_packed.specs.Records.{Record, found_from}
 use Rattle.blob_packed.specs.Records as packed
-use Rattle.blob_directory.specs.declared.profile.Keeps.{Keeps}
+use Rattle.blob_directory.specs.declared.rule.Rule.{Rule}
 use Rattle.blob_directory.specs.Names.{Edit}
-use Rattle.blob_directory.specs.Profiles.{edits_of, is_prefix, kept_edits}
+use Rattle.blob_directory.specs.Profiles.{edits_of, is_prefix, kept_edits, with_seen}
 use Rattle.blob_directory.specs.Records.{Found, edit_found, edit_told, found_in, has_edit}
+use Rattle.blob_directory.proofs.Rules.{seen_before}
 use Rattle.blob_journal.specs.Told.{after_loss, edits_kept}
 use Rattle.blob_journal.proofs.Records.{told_of}
 
@@ -57,12 +58,12 @@ with_lost [] zero = refl
 with_lost [] (suc last) = ap (λ (l : List Found). None ∷ l) (with_lost [] last)
 with_lost (x ∷ found) last = ap (λ (l : List Found). edit_found x ∷ l) (with_lost found last)
 
-kept_before : (keeps : Keeps) (lost : Bool) (found : List Found) (last : ℕ) → kept_edits keeps lost (found ++ replicate last None) ≡ kept_edits keeps lost found
-kept_before keeps lost [] zero = refl
-kept_before keeps lost [] (suc last) = kept_before keeps (lost || is_prefix keeps) [] last
-kept_before keeps lost (None ∷ found) last = kept_before keeps (lost || is_prefix keeps) found last
-kept_before keeps lost (Some (edit, settled) ∷ found) last =
-    ap (λ (l : List Edit). if settled || not lost then edit ∷ l else l) (kept_before keeps lost found last)
+kept_before : (rule : Rule) (lost : Bool) (found : List Found) (last : ℕ) → kept_edits rule lost (found ++ replicate last None) ≡ kept_edits rule lost found
+kept_before rule lost [] zero = refl
+kept_before rule lost [] (suc last) = kept_before rule (lost || is_prefix rule) [] last
+kept_before rule lost (None ∷ found) last = kept_before rule (lost || is_prefix rule) found last
+kept_before rule lost (Some (edit, settled) ∷ found) last =
+    ap (λ (l : List Edit). if settled || not lost then edit ∷ l else l) (kept_before rule lost found last)
 
 -- The same is lost if the choice is of those that were found.
 
@@ -98,11 +99,12 @@ same_lost f pick n last (y ∷ found) (x ∷ told) is picks =
     ∙ sym (loses_one f n x told)
 
 -- the edits that count of bytes that may be found
-pub found_edits : (keeps : Keeps) (rs : List Record) (bytes : List ℕ) → HasThese rs bytes → edits_of keeps bytes ≡ edits_kept keeps (chosen_of (found_in bytes)) (told_of rs)
+pub found_edits : (rule : Rule) (rs : List Record) (bytes : List ℕ) → HasThese rs bytes → edits_of rule bytes ≡ edits_kept rule (chosen_of (found_in bytes)) (told_of rs)
 unfolding chosen_of
-found_edits keeps rs bytes h =
+found_edits rule rs bytes h =
     let found : List Found = found_in bytes in
     let all : found ++ replicate h.last None ≡ after_loss h.chosen 0 (told_of rs) =
     sym (with_lost (found_from 0 bytes) h.last) ∙ ap (map edit_found) h.is ∙ all_left h.chosen 0 rs in
-    sym (kept_before keeps false found h.last)
-    ∙ ap (kept_edits keeps false) (all ∙ sym (same_lost h.chosen (chosen_of found) 0 h.last found (told_of rs) all (λ i. ap (chosen_of found) (omega arith))))
+    sym (kept_before rule false (with_seen rule 0 found) h.last)
+    ∙ ap (kept_edits rule false) (sym (seen_before rule 0 h.last found))
+    ∙ ap (λ (l : List Found). kept_edits rule false (with_seen rule 0 l)) (all ∙ sym (same_lost h.chosen (chosen_of found) 0 h.last found (told_of rs) all (λ i. ap (chosen_of found) (omega arith))))

@@ -37,7 +37,7 @@ pub listed_settled : (which : ℕ → Bool) (n : ℕ) (told : List Found) (edits
 listed_settled which n [] edits h = tt
 listed_settled which n (f ∷ told) edits h = (still_listed (is_listed edits n) (which n) f h.0, listed_settled which (suc n) told edits h.1)
 
-listed_by : (edits edits' : List Unsettled) → ((i : ℕ) → is_listed edits i ≡ true → is_listed edits' i ≡ true) → (n : ℕ) (told : List Found) → AreListed n told edits → AreListed n told edits'
+pub listed_by : (edits edits' : List Unsettled) → ((i : ℕ) → is_listed edits i ≡ true → is_listed edits' i ≡ true) → (n : ℕ) (told : List Found) → AreListed n told edits → AreListed n told edits'
 listed_by edits edits' more n [] h = tt
 listed_by edits edits' more n (f ∷ told) h = (listed_then (is_listed edits n) (is_listed edits' n) f (more n) h.0, listed_by edits edits' more (suc n) told h.1)
 

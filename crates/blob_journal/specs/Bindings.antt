@@ -1,8 +1,8 @@
 -- Which files a crash may find a name of, by the edits that were told.
 use Rattle.std.specs.Prelude.{◌≡◌, ◌⊎◌, ℕ, suc, ◌<◌, ◌≤◌, Bool, true, false, ◌||◌, List, [], ◌∷◌, ◌++◌, length, take, Some, None}
 use Rattle.blob_directory.specs.declared.edit.Binding.{Binding}
-use Rattle.blob_directory.specs.declared.profile.Keeps.{Keeps}
-use Rattle.blob_directory.specs.declared.profile.Keeps.TheVariants.{Any}
+use Rattle.blob_directory.specs.declared.rule.Rule.{Rule}
+use Rattle.blob_directory.specs.declared.rule.Rule.TheVariants.{Any}
 use Rattle.blob_directory.specs.Names.{Edit, Names, Same, all_edited, edited, file}
 use Rattle.blob_directory.specs.Records.{Found}
 use Rattle.blob_directory.specs.Settled.{AreSettled}
@@ -38,7 +38,7 @@ IsFreed limit told inode = (chosen : ℕ → Bool) (e : List ℕ) → KeepsBelow
 
 -- a crash by any profile finds names of no other files
 abbrev pub KeptMayName : Type 0
-KeptMayName = (keeps : Keeps) (chosen : ℕ → Bool) (told : List Found) (e : List ℕ) (inode : ℕ) → names_kept keeps chosen told e ≡ Some (file inode) → MayName told inode
+KeptMayName = (rule : Rule) (chosen : ℕ → Bool) (told : List Found) (e : List ℕ) (inode : ℕ) → names_kept rule chosen told e ≡ Some (file inode) → MayName told inode
 
 -- an edit adds no file but those that it binds
 abbrev pub MayNameOneMore : Type 0
@@ -59,7 +59,7 @@ WithinSettled = (told told' : List Found) (names : Names) → OnlySettles told t
 
 -- if each crash finds exactly these names, the edits bind no entry but as they do
 abbrev pub WithinGiven : Type 0
-WithinGiven = (told : List Found) (names : Names) → ((keeps : Keeps) (chosen : ℕ → Bool) → Same (names_kept keeps chosen told) names) → BindsWithin told names
+WithinGiven = (told : List Found) (names : Names) → ((rule : Rule) (chosen : ℕ → Bool) → Same (names_kept rule chosen told) names) → BindsWithin told names
 
 -- a file without a name is freed by the edits so far
 abbrev pub FreedNow : Type 0

@@ -15,6 +15,7 @@ use Rattle.blob_directory.specs.Names.{Names}
 use Rattle.blob_directory.specs.Profiles.{names_told}
 use Rattle.blob_directory.specs.Trees.{Finds}
 use Rattle.blob_directory.specs.declared.profile.Keeps.{Keeps}
+use Rattle.blob_directory.specs.Rules.{rule_of}
 use Rattle.blob_journal.specs.declared.journaled.Journaled.{Journaled}
 use Rattle.blob_journal.specs.declared.store.FileBlob.{FileBlob}
 use Rattle.blob_journal.specs.Currents.{IsFixed, IsGiven, KeepsFiles}
@@ -46,13 +47,13 @@ durable_file j inode = logical_blob (inner_of (store_of j)) (codes "f") (to_be_b
 pub record FindsNames {R : Type 0} (j : Journaled R) (keeps : Keeps) (names : Names) : Type 0 where
   pub journal : List ℕ
   pub is : IsJournal (store_of j) (generation_of j) journal
-  pub finds : Finds names (names_told keeps journal)
+  pub finds : Finds names (names_told (rule_of keeps j.unsettled.items) journal)
 
 -- the same after a crash: the journal has those of its pending records that the crash kept
 pub record FindsKept {R : Type 0} (j : Journaled R) (kept : Selections) (keeps : Keeps) (names : Names) : Type 0 where
   pub journal : List ℕ
   pub is : IsJournalAfter (store_of j) (generation_of j) kept journal
-  pub finds : Finds names (names_told keeps journal)
+  pub finds : Finds names (names_told (rule_of keeps j.unsettled.items) journal)
 
 -- whatever names are found after a crash that kept these rows, the journal before it gives them
 abbrev pub CrashKeeps : {R : Type 0} → Journaled R → Selections → Journaled R → Type 0
@@ -64,7 +65,7 @@ pub record IsFixedJournal {R : Type 0} (store : OverMemory R) (generation : ℕ)
   pub current : current (directory (inner_of store)) (codes "j") (to_be_bytes w64 generation) ≡ Some place
   pub fixed : IsFixed store place bytes
 
--- whatever a crash keeps, the journal gives the names that calls see, by every profile
+-- whatever a crash keeps, the journal gives the names that calls see, by every rule
 pub record GivesNames {R : Type 0} (j : Journaled R) : Type 0 where
   pub journal : List ℕ
   pub is : IsFixedJournal (store_of j) (generation_of j) journal

@@ -11,6 +11,8 @@ use Rattle.blob_directory.specs.Settled.{AreSettled}
 use Rattle.blob_directory.specs.Tables.{bound}
 use Rattle.blob_directory.specs.Trees.{Finds}
 use Rattle.blob_directory.specs.declared.profile.Keeps.{Keeps}
+use Rattle.blob_directory.specs.Rules.{rule_of}
+use Rattle.blob_directory.specs.declared.rule.Rule.{Rule}
 use Rattle.blob_journal.specs.declared.journal.Journal.{Journal}
 use Rattle.blob_journal.specs.declared.journaled.Journaled.{Journaled}
 pub use Rattle.blob_journal.specs.Found.{bytes_in, told_by}
@@ -80,9 +82,9 @@ SettlesSome j j' = OnlySettles (told_in j) (told_in j')
 -- The names are those that a recovery finds by the edits that were told: by all that were settled, and by some of the others, as the profile keeps them.
 pub record FindsTold {R : Type 0} (j : Journaled R) (keeps : Keeps) (names : Names) : Type 0 where
   pub chosen : ℕ → Bool
-  pub finds : Finds names (names_kept keeps chosen (told_in j))
+  pub finds : Finds names (names_kept (rule_of keeps j.unsettled.items) chosen (told_in j))
 
--- all edits that were told are settled, and they give the names that calls see, by every profile, whatever a crash loses
+-- all edits that were told are settled, and they give the names that calls see, by every rule, whatever a crash loses
 pub record GivesTold {R : Type 0} (j : Journaled R) : Type 0 where
   pub settled : AreSettled (told_in j)
-  pub names : (keeps : Keeps) (chosen : ℕ → Bool) → Same (names_kept keeps chosen (told_in j)) (names_in j)
+  pub names : (rule : Rule) (chosen : ℕ → Bool) → Same (names_kept rule chosen (told_in j)) (names_in j)

@@ -11,6 +11,7 @@ use Rattle.blob_faulty.specs.Keeps.{OverMemory}
 use Rattle.blob_faulty.specs.Wrapper.{inner_of, inside}
 use Rattle.blob_packed.specs.Records.{record_bytes}
 use Rattle.blob_directory.specs.declared.profile.Keeps.{Keeps}
+use Rattle.blob_directory.specs.Rules.{rule_of}
 use Rattle.blob_directory.specs.declared.profile.Settles.{Settles}
 use Rattle.blob_directory.specs.declared.unsettled.About.{About}
 use Rattle.blob_directory.specs.declared.unsettled.Synced.{Synced}
@@ -56,13 +57,13 @@ pub record NotesEdit {R : Type 0} (e : Edit) (a : About) (rate : Rate) (j j' : J
 pub record FindsEdits {R : Type 0} (j : Journaled R) (keeps : Keeps) (edits : List Bool) : Type 0 where
   pub journal : List ℕ
   pub is : IsJournal (store_of j) (generation_of j) journal
-  pub found : edits ≡ counted (counts_in keeps journal) (unsettled_of j)
+  pub found : edits ≡ counted (counts_in (rule_of keeps (unsettled_of j)) journal) (unsettled_of j)
 
 -- the same after a crash that kept these rows: the journal has those of its pending records that the crash kept
 pub record FindsKeptEdits {R : Type 0} (j : Journaled R) (kept : Selections) (keeps : Keeps) (edits : List Bool) : Type 0 where
   pub journal : List ℕ
   pub is : IsJournalAfter (store_of j) (generation_of j) kept journal
-  pub found : edits ≡ counted (counts_in keeps journal) (unsettled_of j)
+  pub found : edits ≡ counted (counts_in (rule_of keeps (unsettled_of j)) journal) (unsettled_of j)
 
 -- whatever edits are found after a crash that kept these rows, the journal before it has them
 abbrev pub CrashKeepsEdits : {R : Type 0} → Journaled R → Selections → Journaled R → Type 0

@@ -1,10 +1,10 @@
 -- The edits of a journal as they were told, and those of them that a crash keeps.
 use Rattle.std.specs.Prelude.{◌≡◌, ℕ, suc, Bool, true, false, ◌&&◌, ◌||◌, List, [], ◌∷◌, ◌++◌, length, drop, Option, Some, None, option_map, if◌then◌else◌, nat_eq}
 use Rattle.std.specs.List.{list_any}
-use Rattle.blob_directory.specs.declared.profile.Keeps.{Keeps}
+use Rattle.blob_directory.specs.declared.rule.Rule.{Rule}
 use Rattle.blob_directory.specs.declared.unsettled.Unsettled.{Unsettled}
 use Rattle.blob_directory.specs.Names.{Edit, Names, all_edited, edited}
-use Rattle.blob_directory.specs.Profiles.{kept_edits}
+use Rattle.blob_directory.specs.Profiles.{kept_edits, with_seen}
 use Rattle.blob_directory.specs.Records.{Found}
 use Rattle.blob_directory.specs.Settled.{IsBeside, changes_entry}
 
@@ -15,13 +15,13 @@ after_loss chosen n (None ∷ told) = None ∷ after_loss chosen (suc n) told
 after_loss chosen n (Some (edit, settled) ∷ told) =
     (if settled || chosen n then Some (edit, settled) else None) ∷ after_loss chosen (suc n) told
 
--- the edits that count after such a crash, by a profile
-abbrev pub edits_kept : Keeps → (ℕ → Bool) → List Found → List Edit
-edits_kept keeps chosen told = kept_edits keeps false (after_loss chosen 0 told)
+-- the edits that count after such a crash, by a rule
+abbrev pub edits_kept : Rule → (ℕ → Bool) → List Found → List Edit
+edits_kept rule chosen told = kept_edits rule false (with_seen rule 0 (after_loss chosen 0 told))
 
 -- the names that they give
-abbrev pub names_kept : Keeps → (ℕ → Bool) → List Found → Names
-names_kept keeps chosen told = all_edited (λ _. None) (edits_kept keeps chosen told)
+abbrev pub names_kept : Rule → (ℕ → Bool) → List Found → Names
+names_kept rule chosen told = all_edited (λ _. None) (edits_kept rule chosen told)
 
 -- a sync settles the edits of some records
 abbrev pub settle_one : Bool → Found → Found
@@ -69,8 +69,8 @@ pub record IsLastTold (told : List Found) (edit : Edit) (e : List ℕ) : Type 0 
 
 -- then the entry has what this edit made of it, whatever a crash loses
 abbrev pub SettledIsKept : Type 0
-SettledIsKept = (keeps : Keeps) (chosen : ℕ → Bool) (told : List Found) (edit : Edit) (e : List ℕ) → IsLastTold told edit e
-    → names_kept keeps chosen told e ≡ edited (λ _. None) edit e
+SettledIsKept = (rule : Rule) (chosen : ℕ → Bool) (told : List Found) (edit : Edit) (e : List ℕ) → IsLastTold told edit e
+    → names_kept rule chosen told e ≡ edited (λ _. None) edit e
 
 -- and it stays so through later calls, unless one of their edits changes the entry
 abbrev pub SettledStays : Type 0

@@ -170,7 +170,12 @@ impl<R: Rng + Drop> Journaled<R> {
     /// # Errors
     ///
     /// Those of `make`. No edit was added, and none is settled.
-    fn add_edit(&mut self, edit: Edit, about: About, rate: Probability) -> Result<u64, Error>
+    pub(crate) fn add_edit(
+        &mut self,
+        edit: Edit,
+        about: About,
+        rate: Probability,
+    ) -> Result<u64, Error>
         ensures noted { IfOk result (λ number. AddsUnsettled (edit_of edit) about number self.old self.new) }
         ensures refused { OnErr result (KeepsUnsettled self.old self.new) }
         ensures names { KeepsTable self.old self.new }
@@ -200,6 +205,7 @@ impl<R: Rng + Drop> Journaled<R> {
             number,
             about,
             is_wanted: false,
+            is_seen: false,
         });
         Ok(number)
     }
@@ -251,7 +257,7 @@ impl<R: Rng + Drop> Journaled<R> {
         self.add_edit(edit, About::of_truncation(inode), rate)
     }
 
-    /// Settles the edits that a sync settles. Draws nothing.
+    /// Settles the edits that a sync settles, and notes that it left the others unsettled. Draws nothing.
     ///
     /// # Errors
     ///

@@ -7,6 +7,7 @@ pub mod files;
 mod journal;
 pub mod journaled;
 pub mod laws;
+mod moves;
 mod recovery;
 pub mod store;
 

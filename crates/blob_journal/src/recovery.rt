@@ -19,6 +19,7 @@ use crate::store::{JOURNALS, Store, discard, remove};
 use blob_base::Error;
 use blob_directory::checkpoint::checkpoint;
 use blob_directory::profile::Keeps;
+use blob_directory::rule::Rule;
 use blob_directory::tree::{Tree, kept_names, reached};
 use blob_faulty::Config;
 use blob_faulty::laws::leaves;
@@ -94,7 +95,8 @@ impl<R: Rng + Drop> Journaled<R> {
         self.store.set_config(Config::default());
         let generation = self.journal.generation;
         let (_, bytes) = Journal::open(self.alloc, &mut self.store, generation)?;
-        let (names, kept) = kept_names(self.alloc, &bytes, keeps)?;
+        let rule = Rule::of(keeps, &self.unsettled);
+        let (names, kept) = kept_names(self.alloc, &bytes, rule)?;
         let edits = self.kept_edits(&kept)?;
         let tree = reached(self.alloc, &names)?;
         Ok((tree, edits))

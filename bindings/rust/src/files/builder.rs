@@ -70,6 +70,8 @@ pub enum Edits {
     Prefix,
     /// Any.
     Any,
+    /// Those up to some point, and of the later ones that the last sync left unsettled any that give a name.
+    Logged,
 }
 
 /// What a sync of a file that fails does to the bytes that it was to make durable.
@@ -388,6 +390,7 @@ impl Builder {
         let edits = self.edits.map(|edits| match edits {
             Edits::Prefix => "edits prefix".to_owned(),
             Edits::Any => "edits any".to_owned(),
+            Edits::Logged => "edits logged".to_owned(),
         });
         self.base.lines.extend(edits);
         let switches = self.switches();

@@ -1,4 +1,4 @@
-use Rattle.std.proofs.Common.{◌≡◌, Bool, sym, ap, ◌∙◌, get_or, set, map, take, drop, ◌++◌, ◌+◌}
+use Rattle.std.proofs.Common.{◌≡◌, Bool, true, sym, ap, ◌∙◌, get_or, set, map, take, drop, ◌++◌, ◌+◌}
 use Rattle.std.proofs.lemmas.List.Edits.{map_over_more}
 use Rattle.blob_directory.specs.Syncs.{marked}
 use Rattle.blob_directory.specs.Wanted.{wants}
@@ -15,4 +15,4 @@ loop-edit-preserved c =
     let more : set edits k (marked w c.edit-item.result) ≡ map (marked w) (take (k + 1) all) ++ drop (k + 1) all =
     map_over_more (marked w) all edits k c.edit-item.result c.loop-edit-test.true c.loop-edit.invariant c.edit-item.is in
     let same : marked w c.edit-item.result ≡ marked w item = ap (marked w) c.edit-item.is in
-    ap (λ (b : Bool). set edits k (record item { is_wanted = b })) c.has-edit.ensures ∙ ap (λ (e : Unsettled). set edits k e) (sym same) ∙ more
+    ap (λ (b : Bool). set edits k (record item { is_wanted = b; is_seen = true })) c.has-edit.ensures ∙ ap (λ (e : Unsettled). set edits k e) (sym same) ∙ more

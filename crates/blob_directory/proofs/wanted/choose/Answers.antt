@@ -1,7 +1,7 @@
 use Rattle.std.proofs.Common.{false, inl, inr, true, ⊎_elim}
-use Rattle.std.proofs.lemmas.Bool.{lt-ltb, ltb-true, or_cases, or_left, or_right}
+use Rattle.std.proofs.lemmas.Bool.{or_cases, or_left, or_right}
 use Rattle.blob_directory.specs.Wanted.{is_of_any}
-use Rattle.blob_directory.specs.Syncs.{is_in}
+use Rattle.blob_directory.specs.Syncs.{is_settled_in}
 use Rattle.blob_directory.proofs.Syncs.{of_upward, up_to_alone, up_to_or_below, upward_of}
 use Rattle.blob_directory.proofs.wanted.choose.Goals as goal
 
@@ -29,8 +29,8 @@ returns-in_ok-inodes-in-Names-Directory c = λ e there.
     let d = c.in-Names-Directory.directory in
     let found = c.in_ok-inodes-in-Names-Directory.inodes.items in
     rw (c.in-Names-Directory.is-0, c.in-Names-Directory.is-1) (
-      λ h. ⊎_elim (λ x. inl (of_upward edits d found e c.in_ok-inodes-in-Names-Directory.ensures.only x)) (λ y. inr y) (or_cases (is_of_any found e.about) (is_in d e.about) h),
-      λ s. ⊎_elim (λ x. or_left (is_of_any found e.about) (is_in d e.about) (upward_of edits d found e c.in_ok-inodes-in-Names-Directory.ensures.all x)) (λ y. or_right (is_of_any found e.about) (is_in d e.about) y) s,
+      λ h. ⊎_elim (λ x. inl (of_upward edits d found e c.in_ok-inodes-in-Names-Directory.ensures.only x)) (λ y. inr y) (or_cases (is_of_any found e.about) (is_settled_in d e.about) h),
+      λ s. ⊎_elim (λ x. or_left (is_of_any found e.about) (is_settled_in d e.about) (upward_of edits d found e c.in_ok-inodes-in-Names-Directory.ensures.all x)) (λ y. or_right (is_of_any found e.about) (is_settled_in d e.about) y) s,
     )
 
 pub returns-in-UpToLast-File : goal.returns-in-UpToLast-File

@@ -1,4 +1,4 @@
-use Rattle.std.proofs.Common.{◌<◌, inl, length, ◌∙◌}
+use Rattle.std.proofs.Common.{◌<◌, inl, length}
 use Rattle.blob_journal.specs.Fixed.{IsBeside}
 use Rattle.blob_fs.proofs.Cutting.{on_map}
 use Rattle.blob_fs.proofs.Fixed.{changes_less, changes_twice}

@@ -1,4 +1,3 @@
-use Rattle.std.proofs.Common.{length, arith}
 use Rattle.blob_fs.proofs.Fixed.{still_self}
 use Rattle.blob_fs.proofs.Fixing.{but_keeps}
 use Rattle.blob_fs.proofs.writes.put_zeros.Goals as goal

@@ -1,4 +1,4 @@
-use Rattle.std.proofs.Common.{◌<◌, arith, inl, length, subst}
+use Rattle.std.proofs.Common.{arith, inl, length, subst}
 use Rattle.blob_journal.specs.declared.journaled.Journaled.{Journaled}
 use Rattle.blob_journal.specs.declared.store.FileBlob.{FileBlob}
 use Rattle.blob_journal.specs.Fixed.{ChangesOpen, IsBeside}

@@ -1,7 +1,6 @@
-use Rattle.std.proofs.Common.{◌≡◌, List, ℕ, ◌∷◌, Some, ap, subst, sym, ◌∙◌, inl, inr, ⊎_elim}
+use Rattle.std.proofs.Common.{◌≡◌, List, ◌∷◌, Some, ap, subst, sym, ◌∙◌, inl, inr, ⊎_elim}
 use Rattle.std.specs.Map.Iter.{deref_pair}
 use Rattle.std.proofs.lemmas.Map.Iter.{rest_all, rest_more}
-use Rattle.blob_directory.specs.declared.edit.Binding.{Binding}
 use Rattle.blob_directory.specs.Tables.{bound}
 use Rattle.blob_directory.proofs.Ranges.{Among, Cell, among_bound}
 use Rattle.blob_directory.proofs.table.Table.is_within.Goals as goal

@@ -1,4 +1,4 @@
-use Rattle.std.proofs.Common.{◌≡◌, ◌<◌, ◌≤◌, ℕ, Option, None, Some, ap, refl, arith, sym, ◌∙◌}
+use Rattle.std.proofs.Common.{refl, arith, sym}
 use Rattle.blob_fs.proofs.Below.{above_next, above_none, above_root, none_at_all, none_next}
 use Rattle.blob_fs.proofs.file_system.FileSystem.check_not_below.Goals as goal
 

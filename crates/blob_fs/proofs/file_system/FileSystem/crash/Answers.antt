@@ -1,5 +1,8 @@
 use Rattle.std.proofs.Common.{List}
 use Rattle.blob_directory.specs.Records.{Found}
+use Rattle.blob_directory.specs.Rules.{rule_of}
+use Rattle.blob_journal.specs.Keeping.{told_in}
+use Rattle.blob_journal.specs.Settling.{unsettled_of}
 use Rattle.blob_journal.specs.Told.{names_kept}
 use Rattle.std.proofs.Common.{sym, subst}
 use Rattle.blob_directory.specs.declared.table.Table.{Table}
@@ -48,7 +51,13 @@ returns-clause-again g c = λ before e.
 pub returns-clause-kept : goal.returns-clause-kept
 returns-clause-kept g c =
     let f = c.in-Ok.ensures.kept in
-    record { chosen = f.chosen; finds = subst (λ (l : List Found). Finds (names_of c.recover.new.self) (names_kept (keeps_of c.args.self.now) f.chosen l)) c.crash.ensures.told f.finds }
+    let fs = c.args.self.now in
+    let found = names_of c.recover.new.self in
+    let seen = subst (λ (u : List Unsettled). Finds found (names_kept (rule_of (keeps_of fs) u) f.chosen (told_in c.crash.new.self))) c.crash.ensures.unsettled f.finds in
+    record {
+      chosen = f.chosen;
+      finds = subst (λ (l : List Found). Finds found (names_kept (rule_of (keeps_of fs) (unsettled_of fs.store)) f.chosen l)) c.crash.ensures.told seen;
+    }
 
 pub returns-clause-bytes : goal.returns-clause-bytes
 returns-clause-bytes g c = λ name inode below named.

@@ -1,4 +1,4 @@
-use Rattle.std.proofs.Common.{refl, ◌∙◌, Some, sym, ap}
+use Rattle.std.proofs.Common.{refl, ◌∙◌, Some, ap}
 use Rattle.blob_fs.specs.declared.file_system.File.{File}
 use Rattle.blob_fs.proofs.Fixed.{opened_none, opened_through}
 use Rattle.blob_fs.proofs.Named.{at_most_self, named_none, named_through}

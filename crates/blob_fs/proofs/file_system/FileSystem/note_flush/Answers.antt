@@ -1,8 +1,8 @@
-use Rattle.std.proofs.Common.{◌≡◌, ◌<◌, ◌≤◌, ◌^◌, ◌++◌, ◌∷◌, [], ◌∙◌, Some, sym, ap, arith, refl, inr}
+use Rattle.std.proofs.Common.{◌≡◌, ◌<◌, ◌≤◌, ◌^◌, ◌++◌, ◌∷◌, [], ◌∙◌, Some, ap, arith, refl, inr}
 use Rattle.blob_journal.specs.Fixed.{ChangesOpen}
 use Rattle.blob_fs.specs.declared.file_system.File.{File}
 use Rattle.blob_fs.specs.declared.truncation.Truncation.{Truncation}
-use Rattle.blob_fs.proofs.Fixed.{contents_same, contents_through, fixed_after, fixed_changed, opened_changed, opened_none, opened_through, sets_through, still_self, synced_more}
+use Rattle.blob_fs.proofs.Fixed.{contents_through, fixed_after, fixed_changed, opened_changed, opened_none, opened_through, sets_through, still_self, synced_more}
 use Rattle.blob_fs.proofs.Fixing.{but_keeps}
 use Rattle.blob_fs.proofs.Named.{at_most_self, named_none, named_through}
 use Rattle.blob_fs.proofs.Syncing.{seen_below}

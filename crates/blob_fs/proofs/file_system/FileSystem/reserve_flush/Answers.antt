@@ -1,11 +1,7 @@
-use Rattle.std.proofs.Common.{◌≡◌, ◌<◌, ◌≤◌, ◌^◌, ◌++◌, ◌∷◌, [], ◌∙◌, Some, sym, ap, arith, refl, inr}
-use Rattle.blob_journal.specs.Fixed.{ChangesOpen}
+use Rattle.std.proofs.Common.{◌≤◌, ◌∙◌, Some, ap, arith, refl}
 use Rattle.blob_fs.specs.declared.file_system.File.{File}
-use Rattle.blob_fs.specs.declared.truncation.Truncation.{Truncation}
-use Rattle.blob_fs.proofs.Fixed.{contents_same, contents_through, fixed_after, fixed_changed, opened_changed, opened_none, opened_through, sets_through, still_self, synced_more}
-use Rattle.blob_fs.proofs.Fixing.{but_keeps}
+use Rattle.blob_fs.proofs.Fixed.{contents_through, fixed_after, opened_none, opened_through, still_self}
 use Rattle.blob_fs.proofs.Named.{at_most_self, named_none, named_through}
-use Rattle.blob_fs.proofs.Syncing.{seen_below}
 use Rattle.blob_fs.proofs.Tracked.{tracked_none, tracked_through}
 use Rattle.blob_fs.proofs.file_system.FileSystem.reserve_flush.Goals as goal
 

@@ -1,4 +1,4 @@
-use Rattle.std.proofs.Common.{Some, refl, ◌∙◌, sym, ap}
+use Rattle.std.proofs.Common.{Some, refl, ◌∙◌, ap}
 use Rattle.blob_journal.specs.Keeping.{names_in}
 use Rattle.blob_fs.specs.declared.file_system.File.{File}
 use Rattle.blob_fs.proofs.Fixed.{opened_none, opened_through, sets_through}

@@ -1,4 +1,4 @@
-use Rattle.std.proofs.Common.{refl, ◌<◌, ◌≤◌, ◌^◌, false, inr, arith, ◌∙◌, Some, sym, ap}
+use Rattle.std.proofs.Common.{refl, ◌<◌, ◌≤◌, ◌^◌, inr, arith, ◌∙◌, Some, ap}
 use Rattle.blob_fs.specs.declared.file_system.File.{File}
 use Rattle.std.proofs.Common.{◌≡◌, [], subst}
 use Rattle.blob_faulty.specs.Wrapper.{size_of}

@@ -1,6 +1,6 @@
 use Rattle.std.proofs.Common.{refl}
 use Rattle.blob_fs.proofs.Calls.{on_ok}
-use Rattle.blob_fs.proofs.Settling.{settles_kept}
+use Rattle.blob_fs.proofs.Settling.{some_kept}
 use Rattle.blob_fs.proofs.file_system.FileSystem.sync_directory.Goals as goal
 
 pub returns-clause-settled : goal.returns-clause-settled
@@ -9,4 +9,4 @@ returns-clause-settled g c =
     record { directory = c.in_ok-directory.directory; leads = c.in_ok-directory.ensures; settled = s honest })
 
 pub returns-in_err-directory-clause-some : goal.returns-in_err-directory-clause-some
-returns-in_err-directory-clause-some g c = settles_kept _ _ refl
+returns-in_err-directory-clause-some g c = some_kept _ _ refl

@@ -1,21 +1,38 @@
-use Rattle.std.proofs.Common.{subst}
-use Rattle.blob_directory.specs.declared.unsettled.Synced.TheVariants as synced
+use Rattle.std.proofs.Common.{ap}
 use Rattle.blob_fs.specs.declared.file_system.Options.{Options}
-use Rattle.blob_fs.specs.Files.{SettlesEdits}
 use Rattle.blob_fs.proofs.Fixed.{fixed_twice}
+use Rattle.blob_fs.proofs.Settling.{directory_from, some_from, some_kept}
 use Rattle.blob_fs.proofs.file_system.FileSystem.sync_directory_at.Goals as goal
 
 pub returns-clause-settled : goal.returns-clause-settled
 returns-clause-settled g c = λ honest.
-    let fs = c.args.self.now in
-    let one = c.begin_call.new.self in
-    let two = c.settle_by.new.self in
-    let kind = synced.Directory c.args.directory in
-    subst (λ (o : Options). SettlesEdits o.profile.settles kind fs two) c.begin_call.ensures.files.options
-    (c.settling.ensures.after one.options.profile.settles kind fs.store one.store two.store c.in_ok-begin_call.ensures.journal c.in_ok-settle_by.ensures.settled)
+    directory_from c.settling.ensures.after c.args.directory c.args.self.now c.begin_call.new.self c.settle_directory.new.self c.begin_call.ensures.names c.in_ok-begin_call.ensures.journal
+    (ap (λ (o : Options). o.profile.settles) c.begin_call.ensures.files.options) c.in_ok-settle_directory.ensures.settled
 
-pub returns-in_err-settle_by-clause-fixed : goal.returns-in_err-settle_by-clause-fixed
-returns-in_err-settle_by-clause-fixed g c = fixed_twice c.args.self.now c.begin_call.new.self c.settle_by.new.self c.begin_call.ensures.fixed c.settle_by.ensures.fixed
+pub returns-in_err-settle_directory-clause-fixed : goal.returns-in_err-settle_directory-clause-fixed
+returns-in_err-settle_directory-clause-fixed g c = fixed_twice c.args.self.now c.begin_call.new.self c.settle_directory.new.self c.begin_call.ensures.fixed c.settle_directory.ensures.fixed
 
 pub returns-clause-fixed : goal.returns-clause-fixed
-returns-clause-fixed g c = fixed_twice c.args.self.now c.begin_call.new.self c.settle_by.new.self c.begin_call.ensures.fixed c.settle_by.ensures.fixed
+returns-clause-fixed g c = fixed_twice c.args.self.now c.begin_call.new.self c.settle_directory.new.self c.begin_call.ensures.fixed c.settle_directory.ensures.fixed
+
+pub returns-clause-some : goal.returns-clause-some
+returns-clause-some g c =
+    some_from c.args.self.now c.begin_call.new.self c.settle_directory.new.self c.begin_call.ensures.names c.begin_call.ensures.told
+    (ap (λ (o : Options). o.profile.settles) c.begin_call.ensures.files.options) c.settle_directory.ensures.some
+
+pub returns-in_err-settle_directory-clause-some : goal.returns-in_err-settle_directory-clause-some
+returns-in_err-settle_directory-clause-some g c =
+    some_from c.args.self.now c.begin_call.new.self c.settle_directory.new.self c.begin_call.ensures.names c.begin_call.ensures.told
+    (ap (λ (o : Options). o.profile.settles) c.begin_call.ensures.files.options) c.settle_directory.ensures.some
+
+pub returns-in_err-begin_call-clause-some : goal.returns-in_err-begin_call-clause-some
+returns-in_err-begin_call-clause-some g c = some_kept c.args.self.now c.begin_call.new.self c.begin_call.ensures.told
+
+pub returns-then-contains_key-clause-some : goal.returns-then-contains_key-clause-some
+returns-then-contains_key-clause-some g c = some_kept c.args.self.now c.begin_call.new.self c.begin_call.ensures.told
+
+pub returns-then-not-contains_key-clause-some : goal.returns-then-not-contains_key-clause-some
+returns-then-not-contains_key-clause-some g c = some_kept c.args.self.now c.begin_call.new.self c.begin_call.ensures.told
+
+pub returns-then-eq-clause-some : goal.returns-then-eq-clause-some
+returns-then-eq-clause-some g c = some_kept c.args.self.now c.begin_call.new.self c.begin_call.ensures.told

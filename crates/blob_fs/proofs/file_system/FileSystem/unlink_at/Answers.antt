@@ -18,8 +18,6 @@ use Rattle.blob_fs.proofs.Named.{edit_is, freed, one_freed}
 use Rattle.blob_fs.proofs.Growing.{told_as}
 use Rattle.blob_fs.specs.Files.{told_of}
 use Rattle.std.proofs.Common.{◌∷◌, [], List, None, ap, ℕ, ◌∙◌}
-use Rattle.blob_journal.specs.Settling.{unsettled_of}
-use Rattle.blob_journal.specs.declared.journaled.Journaled.{Journaled}
 use Rattle.blob_fs.proofs.Noting.{noted_between}
 use Rattle.blob_fs.specs.declared.file_system.Options.{Options}
 use Rattle.blob_fs.proofs.file_system.FileSystem.unlink_at.Goals as goal

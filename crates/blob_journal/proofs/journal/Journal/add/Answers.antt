@@ -27,7 +27,6 @@ use Rattle.blob_model.specs.Log.{Entry}
 use Rattle.blob_model.specs.Rates.{Rate}
 use Rattle.blob_model.specs.declared.mode.PartialWriteMode.{PartialWriteMode}
 use Rattle.blob_memory.specs.Store.{durable}
-use Rattle.blob_draws.specs.Answers.{allows_write}
 use Rattle.blob_draws.specs.Changes.{loose}
 use Rattle.blob_draws.specs.Faults.{retention}
 use Rattle.blob_directory.specs.Records.{record_of}

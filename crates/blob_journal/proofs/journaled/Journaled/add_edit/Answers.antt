@@ -86,6 +86,7 @@ returns-clause-noted g c =
       number = c.args.self.now.next_edit;
       about = c.args.about;
       is_wanted = false;
+      is_seen = false;
     } in
     record {
       last = last;

@@ -1,7 +1,7 @@
 use Rattle.std.proofs.Common.{None}
 use Rattle.blob_directory.specs.Names.{all_edited}
 use Rattle.blob_packed.specs.Losses.{may_be_left}
-use Rattle.blob_directory.specs.Profiles.{kept_edits}
+use Rattle.blob_directory.specs.Profiles.{kept_edits, with_seen}
 use Rattle.blob_directory.specs.Records.{Found, found_in}
 use Rattle.blob_directory.specs.Settled.{AreSettled}
 use Rattle.blob_journal.specs.Told.{names_kept}
@@ -168,9 +168,9 @@ returns-clause-told g c = λ fits.
     let settled : AreSettled (found_in bytes) = c.in_ok-bytes.ensures.settled in
     record {
       settled = subst AreSettled (sym told) settled;
-      names = λ keeps chosen e. ap (λ (l : List Found). names_kept keeps chosen l e) told
-          ∙ ap (λ (l : List Found). all_edited (λ _. None) (kept_edits keeps false l) e) (none_lost chosen 0 (found_in bytes) settled)
-          ∙ c.in_ok-bytes.ensures.gives fits keeps e;
+      names = λ rule chosen e. ap (λ (l : List Found). names_kept rule chosen l e) told
+          ∙ ap (λ (l : List Found). all_edited (λ _. None) (kept_edits rule false (with_seen rule 0 l)) e) (none_lost chosen 0 (found_in bytes) settled)
+          ∙ c.in_ok-bytes.ensures.gives fits rule e;
     }
 
 pub returns-clause-same : goal.returns-clause-same

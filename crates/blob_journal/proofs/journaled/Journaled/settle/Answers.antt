@@ -15,8 +15,8 @@ use Rattle.std.proofs.Common.{ap, ap₂, refl, sym, ◌∙◌, ℕ}
 use Rattle.std.specs.Int.{w64, to_be_bytes}
 use Rattle.blob_model.specs.Directory.{Directory, is_current}
 use Rattle.blob_model.specs.Places.{Place}
-use Rattle.std.proofs.Common.{List, ◌++◌, arith, drop, length, map, subst, take, ◌≡◌}
-use Rattle.std.proofs.lemmas.List.{append-nil, drop_all, length-map, take_all}
+use Rattle.std.proofs.Common.{List, length, map, subst, ◌≡◌}
+use Rattle.std.proofs.lemmas.List.{length-map}
 use Rattle.blob_directory.specs.declared.unsettled.Unsettled.{Unsettled}
 use Rattle.blob_directory.specs.Syncs.{Wants, marked}
 use Rattle.blob_memory.specs.Store.{place}
@@ -26,14 +26,8 @@ use Rattle.std.specs.Prelude.{codes, filter}
 use Rattle.blob_journal.proofs.Blobs.{journal_apart}
 use Rattle.blob_journal.proofs.Fixed.{current_given, incarnations_same, keeps_open}
 use Rattle.blob_journal.proofs.Numbers.{still_numbered}
+use Rattle.blob_journal.proofs.Listed.{whole}
 use Rattle.blob_journal.proofs.journaled.Journaled.settle.Goals as goal
-
--- a slice of the whole list, written back
-whole : (new old : List Unsettled) (n : ℕ) → length new ≡ length old → n ≡ length old → take n (new ++ drop (length new) old) ≡ new
-whole new old n same all =
-    ap (λ (l : List Unsettled). take n (new ++ l)) (drop_all (length new) old (omega (arith, same)))
-    ∙ ap (λ (l : List Unsettled). take n l) (append-nil new)
-    ∙ take_all n new (omega (arith, same, all))
 
 pub invariant_of-self : goal.invariant_of-self
 invariant_of-self g c =
