@@ -13,6 +13,8 @@ from passing import run_tests
 TOP = os.path.dirname(os.path.dirname(os.path.abspath(__file__)))
 from blobcrash import Files, Injected, Library, Store
 from blobcrash.crash_units import Unit, canonical, count_outcomes, outcomes, runs
+from blobcrash.grammar import MAX
+from blobcrash.traced_calls import Frame, Matching
 
 SECTORS = ["write 0 1 1 2 sectors 4"]
 # What is in /settings: what was acknowledged last, or what is saved next. In a file of zeros the shell reads nothing.
@@ -252,14 +254,46 @@ def test_outcomes():
     write, one, other = Unit((1, 0), False, 2, False, 2, 0, 8), *(Unit((line, 0), True, 1, False, None, 0, 9) for line in (2, 3))
     units = [write, one, other]
     least = [(0, 0, 0), (3, 0, 0), (0, 1, 1), (0, 0, 1), (3, 1, 1), (3, 0, 1), (1, 0, 0), (2, 0, 0)]
-    assert list(outcomes(units, True, None)) == [*least, (1, 1, 1), (1, 0, 1), (2, 1, 1), (2, 0, 1)]
-    assert list(outcomes(units, True, 3)) == least[:3] and count_outcomes(units, True) == 12
-    assert len(list(outcomes(units, False, None))) == count_outcomes(units, False) == 16
+    assert list(outcomes(units, 0, None)) == [*least, (1, 1, 1), (1, 0, 1), (2, 1, 1), (2, 0, 1)]
+    assert list(outcomes(units, 0, 3)) == least[:3] and count_outcomes(units, 0) == 12
+    assert len(list(outcomes(units, MAX, None))) == count_outcomes(units, MAX) == 16
     # In the mode `prefix` the bytes after the first one that is lost are lost too.
     prefix = Unit((1, 0), False, 4, True, 2, 0, 4)
-    assert canonical([prefix], (0b0010,), True) == (0b1110,) and prefix.words(0b1110) == [0, 2**64 - 1]
-    assert count_outcomes([prefix], True) == len(list(outcomes([prefix], True, None))) == 5
+    assert canonical([prefix], (0b0010,), 0) == (0b1110,) and prefix.words(0b1110) == [0, 2**64 - 1]
+    assert count_outcomes([prefix], 0) == len(list(outcomes([prefix], 0, None))) == 5
+    # 60 edits in order have 61 outcomes. Trying each set of them would take years.
+    edits = [one._replace(key=(line, 0)) for line in range(1, 61)]
+    assert len(list(outcomes(edits, 0, None))) == count_outcomes(edits, 0) == 61
+    assert len(list(outcomes([*edits, write], 0, None))) == 4 * 61
+    # A sync at line 2 left the first two: the second may be kept alone, unless it is a removal. The third is kept with all before it.
+    assert list(outcomes(edits[:3], 2, None)) == [(0, 0, 0), (1, 0, 1), (0, 1, 1), (0, 0, 1), (1, 1, 1)] and count_outcomes(edits[:3], 2) == 5
+    removal = [edits[0], edits[1]._replace(is_removal=True), edits[2]]
+    assert list(outcomes(removal, 2, None)) == [(0, 0, 0), (1, 1, 1), (0, 1, 1), (0, 0, 1)] and count_outcomes(removal, 2) == 4
     assert runs("110100", "1", 8) == [(8, 10), (11, 12)] and runs("110100", "0", 8) == [(10, 11), (12, 14)]
+
+
+# Of two threads; the call of the first one is printed in two parts.
+TRACED = """7 rename("/m/a", "/m/b" <unfinished ...>
+8 write(3</m/log>, "x"..., 5000) = 5000
+ > /bin/p(append+0x10) [0x1010]
+ > /lib/libc.so.6(__libc_start_main+0x1) [0x2000]
+7 <... rename resumed>) = 0
+ > /lib/libc.so.6(rename+0x7) [0x7]
+ > /bin/p(swap+0x9) [0x20]
+8 fsync(3</m/log>) = 0
+ > /bin/p() [0x1040]
+"""
+
+
+def test_stacks():
+    found = Matching(TRACED)
+    # The kernel passes a write on in pages.
+    for length in (4096, 904):
+        assert found.stack("8", "write", ("log",), length) == [Frame("/bin/p", "append", 0x1010)]
+    assert found.stack("8", "fsync", ("log",), 0) == [Frame("/bin/p", "", 0x1040)]
+    assert found.stack("7", "rename", ("a", "b"), 0) == [Frame("/bin/p", "swap", 0x20)]
+    assert found.stack("8", "write", ("log",), 1) == [] and found.stack("9", "fsync", ("log",), 0) == []
+    assert found.has_stacks and not Matching("7 fsync(3</m/log>) = 0\n").has_stacks
 
 
 REPLACED = """profile posix
@@ -292,6 +326,20 @@ Not needed for this check, all of them left out: 1 sync
 """, ran.stdout
         with open(f"{folder}/out/1/script", encoding="utf-8") as file:
             assert file.read().splitlines()[-1] == "crash"
+
+
+def test_crashes_begin_at_the_last_settle():
+    """A crash after the first line would lose /a, and fail."""
+    check = 'test ! -s "$ACKNOWLEDGED" -o -e "$STATE/a"\n'
+    lines = ["# acknowledged a", "create /a", "settle", "create /b"]
+    script = "".join(f"{line}\n" for line in lines)
+    assert Diagnosed(script, check).causes == [] and Diagnosed(script, check, "--from", "3").causes == []
+    assert [cause["class"] for cause in Diagnosed(script, check, "--from", "0").causes] == ["no loss"]
+    with tempfile.NamedTemporaryFile("w", suffix=".script") as file:
+        file.write("create /a\nsettle\n")
+        file.flush()
+        ran = subprocess.run([sys.executable, "-m", "blobcrash", "diagnose", file.name, "--", "true"], capture_output=True, text=True)
+    assert ran.returncode == 2 and "nothing after line 2 changes what a crash leaves: --from 0" in ran.stderr, ran
 
 
 def test_bad_arguments():

@@ -1,6 +1,7 @@
 #!/bin/sh
-# Tests of `blobcrash diagnose` (tests/diagnose.py), and of the records of programs on the mount (tests/diagnose_mount.py): of SQLite it
-# names the sync that docs/MOUNT.md says is missing. The last line is `N passed, M failed`.
+# Tests of `blobcrash diagnose` (tests/diagnose.py), of records of the findings of docs/MOUNT.md (tests/diagnose_findings.py), and of programs
+# on the mount (tests/diagnose_mount.py): the sync is named that each is known to lack. tests/diagnose_page.py looks at the page in a browser;
+# its pictures go to $PAGE_PICTURES, if that is set. The last line is `N passed, M failed`.
 top=$(CDPATH='' cd -- "$(dirname -- "$0")/.." && pwd -P)
 # shellcheck source=tests/counting.sh
 . "$top/tests/counting.sh"
@@ -13,6 +14,12 @@ export PYTHONDONTWRITEBYTECODE=1
 PYTHONPATH=$top/bindings/python${PYTHONPATH:+:$PYTHONPATH}
 export PYTHONPATH
 add python3 "$top/tests/diagnose.py"
+add python3 "$top/tests/diagnose_findings.py"
+if has chromium || has chromium-browser || has google-chrome; then
+    add python3 "$top/tests/diagnose_page.py" "${PAGE_PICTURES:-$work/pictures}"
+else
+    skip 'the page in a browser: it needs Chromium'
+fi
 if [ ! -w /dev/fuse ] || ! has fusermount3 || ! sh "$top/adapters/mount/build.sh" >/dev/null 2>&1; then
     # A kernel can't be installed.
     leave_out 'programs on the mount: a C compiler, libfuse 3 or FUSE is missing'
@@ -22,6 +29,21 @@ if has sqlite3; then
     add python3 "$top/tests/diagnose_mount.py" test_sqlite3
 else
     skip 'SQLite: there is no sqlite3'
+fi
+if has git; then
+    add python3 "$top/tests/diagnose_mount.py" test_git
+else
+    skip 'git: it isn'"'"'t installed'
+fi
+if python3 -c 'import ctypes; ctypes.CDLL("libleveldb.so")' 2>/dev/null; then
+    add python3 "$top/tests/diagnose_mount.py" test_leveldb
+else
+    skip 'LevelDB: there is no libleveldb.so'
+fi
+if has strace addr2line; then
+    add python3 "$top/tests/diagnose_mount.py" test_stacks
+else
+    skip 'stacks of calls: there is no strace or no addr2line'
 fi
 add python3 "$top/tests/diagnose_mount.py" test_processes test_crash_run
 finish

@@ -3,7 +3,7 @@
 from __future__ import annotations
 
 import os
-from typing import Dict, List, Optional
+from typing import Dict, List, Optional, Tuple
 
 from .file_calls import FileCall, file_line
 from .foreign_files import EXCHANGES
@@ -19,6 +19,7 @@ class Called:
         self._run = run
         self._names: Dict[int, Dict[bytes, int]] = {}
         self._texts: Dict[int, str] = {}
+        self._replay: Optional[Replay] = None
 
     def text(self, line: int) -> str:
         """A call with its paths, as `rename /t -> /f` or `write 0..3 of /t`; a comment as it is."""
@@ -29,6 +30,18 @@ class Called:
             else:
                 self._texts[line] = self._of_files(line) if self._run.is_files else self._of_store(line)
         return self._texts[line]
+
+    def named(self, line: int) -> Tuple[str, Tuple[str, ...], int]:
+        """The word of a call on files without `_at` and `_inode`, the last parts of the paths that it names, and how many bytes it writes."""
+        asked = file_line(self._run.lines[line - 1])
+        word = asked.word.split("_")[0]
+        if word in ("write", "truncate", "fsync", "fdatasync"):
+            path = _shown(asked.to) if asked.is_by_path else self.path_of(self._run.inodes.get(asked.number, 0), line)
+            return word, (os.path.basename(path),), len(asked.path) if word == "write" else 0
+        if asked.word.startswith("open_inode") or asked.word == "fsyncdir_at":
+            return word, (os.path.basename(self.path_of(asked.number, line)),), 0
+        paths = [asked.path, asked.to] if word in ("rename", "link") and asked.word != "link_at" else [asked.path]
+        return word, tuple(os.path.basename(_shown(path)) for path in paths), 0
 
     def written(self, line: int) -> bytes:
         """The bytes of a write."""
@@ -61,18 +74,22 @@ class Called:
 
     def text_of_sync(self, handle: int) -> str:
         """A sync of a store."""
-        return f"sync {self._blob(handle)}"
+        return f"sync {self.blob_of(handle)}"
 
     def _before(self, line: int) -> Dict[bytes, int]:
         """The inode of each path before a line."""
         if line not in self._names:
-            replay = Replay(self._run)
-            try:
-                replay.go_to(line - 1)
-                self._names[line] = replay.names()
-            finally:
-                replay.close()
+            # Lines are mostly asked for in their order.
+            if self._replay is None or self._replay.line >= line:
+                self.close()
+                self._replay = Replay(self._run)
+            self._replay.go_to(line - 1)
+            self._names[line] = self._replay.names()
         return self._names[line]
+
+    def close(self) -> None:
+        if self._replay is not None:
+            self._replay.close()
 
     def _of_files(self, line: int) -> str:
         asked = file_line(self._run.lines[line - 1])
@@ -111,12 +128,12 @@ class Called:
         tokens = self._run.lines[line - 1].split()
         if tokens[0] in ("write", "writes"):
             start = int(tokens[2])
-            return f"{tokens[0]} {start}..{start + len(self.written(line))} of {self._blob(int(tokens[1]))}"
+            return f"{tokens[0]} {start}..{start + len(self.written(line))} of {self.blob_of(int(tokens[1]))}"
         if tokens[0] in ("sync", "startsync", "resize"):
-            return " ".join([tokens[0], self._blob(int(tokens[1])), *tokens[2:]])
+            return " ".join([tokens[0], self.blob_of(int(tokens[1])), *tokens[2:]])
         return " ".join(tokens)
 
-    def _blob(self, handle: int) -> str:
+    def blob_of(self, handle: int) -> str:
         """The partition and the name of the blob of a handle."""
         opened = [text.split() for text, made in zip(self._run.lines, self._run.made) if made.handle == handle]
         return f"{opened[0][1]}/{opened[0][2]}" if opened else f"handle {handle}"

@@ -7,7 +7,7 @@ from typing import List, NamedTuple, Optional, Set, Tuple
 
 from .called import Called
 from .crash_places import Place, State
-from .crash_units import Key, Lost, Unit, runs
+from .crash_units import Key, Lost, Unit, is_alone, runs
 from .recorded_run import AddedSync, RecordedRun
 from .state_checks import Known
 from .states import CrashState
@@ -115,8 +115,8 @@ def dropped_cause(place: Place, dropped: List[Tuple[int, List[Unit]]], shown: Cr
 def _losses(place: Place, lost: Lost, state: State) -> List[Loss]:
     """What an outcome loses. Of edits that are lost since an earlier one is, only that one."""
     losses, has_edit = [], False
-    for unit, bits, row in zip(place.units, lost, state.rows):
-        if not bits or (unit.is_edit and place.is_ordered and has_edit):
+    for unit, bits, row in zip(place.units, lost, place.rows(state)):
+        if not bits or (unit.is_edit and not is_alone(unit, place.alone_to) and has_edit):
             continue
         has_edit = has_edit or unit.is_edit
         kept = () if unit.is_edit else tuple(runs(row.kept, "1", unit.offset))

@@ -2,7 +2,6 @@
 
 from __future__ import annotations
 
-from itertools import combinations
 from typing import Any, Dict, Iterator, List, NamedTuple, Optional, Sequence, Set, Tuple
 
 from .file_calls import Kept
@@ -12,6 +11,8 @@ from .grammar import MAX
 Lost = Tuple[int, ...]
 # A unit by the line that made it, and which one of that line it is.
 Key = Tuple[int, int]
+# The words of calls that free names alone, or truncate.
+_REMOVALS = frozenset(("unlink", "rmdir", "unlink_at", "rmdir_at", "truncate", "open_truncated", "open_inode_truncated"))
 
 
 class Row(NamedTuple):
@@ -33,6 +34,8 @@ class Unit(NamedTuple):
     inode: Optional[int]
     offset: int
     length: int
+    # An edit that binds no name: a removal or a truncation.
+    is_removal: bool = False
 
     @property
     def line(self) -> int:
@@ -50,6 +53,12 @@ class Unit(NamedTuple):
         return [MAX if lost >> at & 1 else 0 for at in range(self.draws)]
 
 
+def is_alone(unit: Unit, alone_to: int) -> bool:
+    """Whether a crash may lose what is before an edit, and not the edit: it binds a name, and was made up to the line `alone_to`. With the
+    greatest number that is so of each edit."""
+    return alone_to == MAX or (unit.line <= alone_to and not unit.is_removal)
+
+
 def rows_of(reply: Any) -> List[Row]:
     """The rows of the reply to a crash."""
     if isinstance(reply, Kept):
@@ -63,7 +72,7 @@ def unit_of(row: Row, key: Key, is_files: bool, mode: Sequence[str], text: str) 
     """The unit of a row. `text` is the line that made it, `mode` that of its writes."""
     length = len(row.kept)
     if is_files and row.inode is None:
-        return Unit(key, True, 1, False, None, 0, length)
+        return Unit(key, True, 1, False, None, 0, length, text.split()[0] in _REMOVALS)
     offset = row.offset if row.offset is not None else int(text.split()[2])
     if mode[0] == "sectors":
         size = int(mode[1])
@@ -76,25 +85,26 @@ def words_of_outcome(units: Sequence[Unit], lost: Lost) -> List[int]:
     return [word for unit, bits in zip(units, lost) for word in unit.words(bits)]
 
 
-def canonical(units: Sequence[Unit], lost: Lost, is_ordered: bool) -> Lost:
-    """The same outcome with all that is lost with it: of a write in the mode `prefix` the rest, and with `is_ordered` each later edit."""
+def canonical(units: Sequence[Unit], lost: Lost, alone_to: int) -> Lost:
+    """The same outcome with all that is lost with it: of a write in the mode `prefix` the rest, and each edit after a lost one that isn't
+    lost alone."""
     found, is_after = [], False
     for unit, bits in zip(units, lost):
-        if unit.is_edit and is_ordered:
+        if unit.is_edit:
+            bits = 1 if bits or (is_after and not is_alone(unit, alone_to)) else 0
             is_after = is_after or bits != 0
-            bits = 1 if is_after else 0
         elif unit.is_prefix and bits:
             bits = unit.all & ~((1 << _first(bits)) - 1)
         found.append(bits)
     return tuple(found)
 
 
-def outcomes(units: Sequence[Unit], is_ordered: bool, limit: Optional[int]) -> Iterator[Lost]:
+def outcomes(units: Sequence[Unit], alone_to: int, limit: Optional[int]) -> Iterator[Lost]:
     """Yields outcomes, each once, at most `limit`: none lost; each unit lost alone; all lost; each kept alone; each draw of a write lost
     alone, and kept alone; then more and more units lost, and then draws."""
     seen: Set[Lost] = set()
-    for lost in _in_order(units):
-        lost = canonical(units, lost, is_ordered)
+    for lost in _in_order(units, alone_to):
+        lost = canonical(units, lost, alone_to)
         if lost not in seen:
             if limit is not None and len(seen) >= limit:
                 return
@@ -102,17 +112,18 @@ def outcomes(units: Sequence[Unit], is_ordered: bool, limit: Optional[int]) -> I
             yield lost
 
 
-def count_outcomes(units: Sequence[Unit], is_ordered: bool) -> int:
+def count_outcomes(units: Sequence[Unit], alone_to: int) -> int:
     """How many outcomes there are."""
-    edits = sum(unit.is_edit for unit in units)
-    count = edits + 1 if is_ordered else 1 << edits
+    edits = [is_alone(unit, alone_to) for unit in units if unit.is_edit]
+    # With none lost, and with the first one lost at each place: then those later that aren't lost with it, in any way.
+    count = 1 + sum(1 << sum(edits[at + 1 :]) for at in range(len(edits)))
     for unit in units:
         if not unit.is_edit:
             count *= unit.draws + 1 if unit.is_prefix else 1 << unit.draws
     return count
 
 
-def _in_order(units: Sequence[Unit]) -> Iterator[Lost]:
+def _in_order(units: Sequence[Unit], alone_to: int) -> Iterator[Lost]:
     none, every = [0] * len(units), [unit.all for unit in units]
 
     def changed(base: List[int], change: Dict[int, int]) -> Lost:
@@ -128,18 +139,43 @@ def _in_order(units: Sequence[Unit]) -> Iterator[Lost]:
         for draw in range(unit.draws if unit.draws > 1 else 0):
             yield changed(none, {at: 1 << draw})
             yield changed(none, {at: unit.all & ~(1 << draw)})
-    for count in range(2, len(units)):
-        for chosen in combinations(range(len(units)), count):
-            yield changed(none, {at: units[at].all for at in chosen})
-    draws = [(at, draw) for at, unit in enumerate(units) for draw in range(unit.draws)]
+    wholes = [(at, unit.all) for at, unit in enumerate(units)]
+    for chosen in _several(wholes, [_alone(units, at, alone_to) for at, _ in wholes]):
+        yield changed(none, dict(chosen))
+    draws = [(at, 1 << draw) for at, unit in enumerate(units) for draw in range(unit.draws)]
     if len(draws) == len(units):
         return
-    for count in range(1, len(draws)):
-        for chosen_draws in combinations(draws, count):
-            change: Dict[int, int] = {}
-            for at, draw in chosen_draws:
-                change[at] = change.get(at, 0) | 1 << draw
-            yield changed(none, change)
+    for chosen in _several(draws, [(at,) if units[at].is_prefix else _alone(units, at, alone_to) for at, _ in draws]):
+        change: Dict[int, int] = {}
+        for at, bit in chosen:
+            change[at] = change.get(at, 0) | bit
+        yield changed(none, change)
+
+
+def _alone(units: Sequence[Unit], at: int, alone_to: int) -> Tuple[int, ...]:
+    """The group of which a crash that loses two parts loses the same as one that loses the first: the edits that aren't lost alone. Empty
+    for what is in no group."""
+    return (-1,) if units[at].is_edit and not is_alone(units[at], alone_to) else ()
+
+
+def _several(parts: Sequence[Tuple[int, int]], groups: Sequence[Tuple[int, ...]]) -> Iterator[List[Tuple[int, int]]]:
+    """Yields lists of parts, shorter ones first, of each group at most one. So k edits in order give k lists of one, and not 2^k."""
+    last = {group: at for at, group in enumerate(groups) if group}
+    free = [sum(not group for group in groups[at:]) for at in range(len(groups) + 1)]
+
+    def chosen(start: int, count: int, taken: Tuple[Tuple[int, ...], ...]) -> Iterator[List[Tuple[int, int]]]:
+        if count == 0:
+            yield []
+            return
+        for at in range(start, len(parts)):
+            if free[at] + sum(end >= at and group not in taken for group, end in last.items()) < count:
+                return
+            if groups[at] not in taken:
+                for rest in chosen(at + 1, count - 1, (*taken, groups[at]) if groups[at] else taken):
+                    yield [parts[at], *rest]
+
+    for count in range(1, free[0] + len(last) + 1):
+        yield from chosen(0, count, ())
 
 
 def _first(bits: int) -> int:

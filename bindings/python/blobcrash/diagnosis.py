@@ -7,7 +7,7 @@ from typing import Callable, Dict, FrozenSet, Iterable, Iterator, List, NamedTup
 
 from .called import Called
 from .causes import Cause, cause_of, dropped_cause
-from .crash_places import Place, State, Walk
+from .crash_places import Left, Place, State, Walk
 from .crash_units import Lost, count_outcomes, outcomes
 from .recorded_run import AddedSync, RecordedRun
 from .state_checks import Checks, Known, crash_state
@@ -38,19 +38,21 @@ class NothingLost(Exception):
 
 
 class Diagnosis:
-    """What is found out of a record. `told` is called with what is done next, and `tick` after each check."""
+    """What is found out about a record, with crashes from the line `since` on. `told` is called with what is done next, and `tick` after each
+    check."""
 
     def __init__(
         self,
         run: RecordedRun,
         checks: Checks,
         limit: Optional[int],
+        since: int,
         told: Callable[[str], object] = lambda _: None,
         tick: Callable[[], object] = lambda: None,
     ) -> None:
         self.run, self.called = run, Called(run)
-        self._checks, self._limit, self._told, self._tick = checks, limit, told, tick
-        self.crashes, self.is_complete = len(run.places()), True
+        self._checks, self._limit, self._since, self._told, self._tick = checks, limit, since, told, tick
+        self.crashes, self.is_complete = sum(line >= since for line in run.places()), True
         # The states of the record, and of the record with the syncs, each with the first line of a crash that leaves it.
         self.states: Dict[Known, int] = {}
         self.states_after: Dict[Known, int] = {}
@@ -58,6 +60,10 @@ class Diagnosis:
         self.causes: List[Cause] = []
         self.added: Added = ()
         self.superfluous: List[int] = []
+        # The functions in which a call was made, if they are known.
+        self.stack_of: Callable[[int], List[str]] = lambda _: []
+        # What the crashes of this record left. That no state fails with the added syncs is tried without it.
+        self._left: Optional[Left] = Left()
 
     def diagnose(self) -> None:
         """Finds the causes, and the syncs. Raises `NothingLost`."""
@@ -123,7 +129,7 @@ class Diagnosis:
             trial = place.canonical((*lost[:at], bits, *lost[at + 1 :]))
             if trial == lost:
                 return False
-            left = place.crash(trial)
+            left = place.crash(trial, self._left)
             if not self._checks.fails(self._checks.begin(place, left)):
                 return False
             lost, state = trial, left
@@ -138,24 +144,39 @@ class Diagnosis:
         return lost, state
 
     def _find_syncs(self) -> None:
-        """Adds what the lost calls suggest until no state fails, and takes away what isn't needed."""
+        """Adds syncs until no state fails, and takes away what isn't needed."""
         chosen: Set[AddedSync] = {sync for cause in self.causes for sync in cause.added}
+        while True:
+            self._add_until_none_fails(chosen)
+            self.added = self._fewest(tuple(sorted(chosen)))
+            if self._is_enough() or self._left is None:
+                break
+            # A crash left something else than the one that was made before in its place.
+            self._left = None
+        for cause in self.causes:
+            cause.syncs = tuple(sync for sync in self.added if sync in cause.added) or (self._own_syncs(cause) if cause.added else ())
+
+    def _add_until_none_fails(self, chosen: Set[AddedSync]) -> None:
+        """Adds what the lost calls suggest."""
         while True:
             self._told(f"{len(chosen)} syncs more")
             since = min((sync.before for sync in chosen), default=0)
             states = {known: line for known, line in self.states.items() if line < since}
             found = self._causes(tuple(sorted(chosen)), self.unfixed, since, states)
             if not found:
-                break
+                return
             for cause in found:
                 self._see_later(cause, chosen)
-        self.added = self._fewest(tuple(sorted(chosen)))
+
+    def _is_enough(self) -> bool:
+        """Whether no state fails with the added syncs, other than of the causes for which none helps. Makes each crash again."""
         since = min((sync.before for sync in self.added), default=0)
         self.states_after = {known: line for known, line in self.states.items() if line < since}
-        for _ in self._failing(self.added, NO_LINES, since, None, self.states_after):
-            pass
-        for cause in self.causes:
-            cause.syncs = tuple(sync for sync in self.added if sync in cause.added) or (self._own_syncs(cause) if cause.added else ())
+        left, self._left = self._left, None
+        failing = self._failing(self.added, NO_LINES, since, None, self.states_after)
+        is_enough = all(any(cause.is_in(found.place, found.lost) for cause in self.unfixed) for found in failing)
+        self._left = left
+        return is_enough
 
     def _own_syncs(self, cause: Cause) -> Added:
         """The fewest syncs with which no state fails of one cause alone, if those for all together aren't its own."""
@@ -210,18 +231,16 @@ class Diagnosis:
         self, added: Iterable[AddedSync], without: FrozenSet[int], since: int, only: Optional[Sequence[int]], states: Dict[Known, int]
     ) -> Iterator[Failing]:
         """Yields the failing states, each once, of the record with added syncs and without some lines."""
-        walk = Walk(self.run, added, without, since)
+        walk = Walk(self.run, added, without, max(since, self._since))
         for place in walk.places(only):
             begun: Dict[Known, Tuple[Lost, State]] = {}
-            for lost in outcomes(place.units, place.is_ordered, self._limit):
-                if place.is_old(lost):
-                    continue
-                state = place.crash(lost)
+            tried = (lost for lost in outcomes(place.units, place.alone_to, self._limit) if not place.is_old(lost))
+            for lost, state in place.crashes(tried, self._left, self._checks.jobs):
                 known = self._checks.begin(place, state)
                 self._tick()
                 states.setdefault(known, place.line)
                 begun.setdefault(known, (lost, state))
-            if self._limit is not None and count_outcomes(place.units, place.is_ordered) > self._limit:
+            if self._limit is not None and count_outcomes(place.units, place.alone_to) > self._limit:
                 self.is_complete = False
             for known, (lost, state) in begun.items():
                 if self._checks.fails(known):

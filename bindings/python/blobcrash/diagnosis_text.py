@@ -23,15 +23,25 @@ _WHY = {
 
 def as_text(diagnosis: Diagnosis, wrong: Optional[CrashState], kept: List[str]) -> List[str]:
     """The lines of the causes."""
-    fail = f"{len(diagnosis.failing)} {'fails' if len(diagnosis.failing) == 1 else 'fail'}"
-    lines = [f"{_count(diagnosis.crashes, 'crash')}, {_count(len(diagnosis.states), 'state')}; {fail}"]
+    lines = [counted(diagnosis)]
     if wrong is not None:
         return [_NO_LOSS, *_of_wrong(diagnosis, wrong), f"  kept: {kept[0]}"]
     for number, (cause, folder) in enumerate(zip(diagnosis.causes, kept), 1):
         later = " (once the syncs for those before are added)" if cause.is_later else ""
-        why = f": {_WHY[cause.kind]}" if cause.kind in _WHY else ""
+        why = f": {why_of(cause.kind)}" if why_of(cause.kind) else ""
         lines += [f"{number}. {cause.kind}{why}{later}", *_of_cause(diagnosis, cause), f"  state: {folder}"]
     return lines
+
+
+def counted(diagnosis: Diagnosis) -> str:
+    """How many crashes and states there are, and how many fail."""
+    fail = f"{len(diagnosis.failing)} {'fails' if len(diagnosis.failing) == 1 else 'fail'}"
+    return f"{_count(diagnosis.crashes, 'crash')}, {_count(len(diagnosis.states), 'state')}; {fail}"
+
+
+def why_of(kind: str) -> str:
+    """A class in other words. Empty for one that says all itself."""
+    return _WHY.get(kind, "")
 
 
 def summary(diagnosis: Diagnosis, wrong: Optional[CrashState], options: argparse.Namespace) -> List[str]:
@@ -140,7 +150,9 @@ def _shown(diagnosis: Diagnosis, line: int) -> int:
 
 def _named(diagnosis: Diagnosis, line: int) -> str:
     process = diagnosis.run.process(line)
-    return f"line {_shown(diagnosis, line)}, {diagnosis.called.text(line)}{f', by {process}' if process else ''}"
+    stack = ", ".join(diagnosis.stack_of(line))
+    by = f", by {process}{f', in {stack}' if stack else ''}" if process else ""
+    return f"line {_shown(diagnosis, line)}, {diagnosis.called.text(line)}{by}"
 
 
 def _call(diagnosis: Diagnosis, line: int) -> Optional[Dict[str, Any]]:
@@ -148,7 +160,10 @@ def _call(diagnosis: Diagnosis, line: int) -> Optional[Dict[str, Any]]:
         return None
     process = diagnosis.run.process(line)
     found: Dict[str, Any] = {"line": _shown(diagnosis, line), "call": diagnosis.called.text(line)}
-    return {**found, "process": process} if process else found
+    if process:
+        found["process"] = process
+    stack = diagnosis.stack_of(line)
+    return {**found, "stack": stack} if stack else found
 
 
 def _part(loss: Loss) -> str:

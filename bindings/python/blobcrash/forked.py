@@ -8,27 +8,37 @@ import pickle
 from typing import Any, Callable, Tuple
 
 
-def in_child(work: Callable[[], Any]) -> Tuple[Any, bytes]:
-    """Calls a function in a forked process. Returns a pair that it returned: its first item, and its second item pickled.
+class Child:
+    """A forked process that calls a function. It ends once its `result` or `drop` was called."""
 
-    Raises `RuntimeError` with the text of what the function raised, and `MemoryError` if the process was killed.
-    """
-    reader, writer = os.pipe()
-    pid = os.fork()
-    if pid == 0:
-        _serve(work, reader, writer)
-    os.close(writer)
-    try:
-        with open(reader, "rb") as pipe:
-            sent = pipe.read()
-    finally:
-        os.waitpid(pid, 0)
-    if not sent:
-        raise MemoryError
-    is_done, first, second = pickle.loads(sent)
-    if not is_done:
-        raise RuntimeError(first)
-    return first, second
+    def __init__(self, work: Callable[[], Any]) -> None:
+        self._reader, writer = os.pipe()
+        self._pid = os.fork()
+        if self._pid == 0:
+            _serve(work, self._reader, writer)
+        os.close(writer)
+
+    def result(self) -> Tuple[Any, bytes]:
+        """Returns a pair that the function returned: its first item, and its second item pickled.
+
+        Raises `RuntimeError` with the text of what the function raised, and `MemoryError` if the process was killed.
+        """
+        try:
+            with open(self._reader, "rb") as pipe:
+                sent = pipe.read()
+        finally:
+            os.waitpid(self._pid, 0)
+        if not sent:
+            raise MemoryError
+        is_done, first, second = pickle.loads(sent)
+        if not is_done:
+            raise RuntimeError(first)
+        return first, second
+
+    def drop(self) -> None:
+        """Takes no result."""
+        os.close(self._reader)
+        os.waitpid(self._pid, 0)
 
 
 def _serve(work: Callable[[], Any], reader: int, writer: int) -> None:

@@ -90,13 +90,21 @@ class RecordedRun:
 
     def process(self, line: int) -> Optional[str]:
         """Which process made a call, if the record says so."""
+        number, name = self._made_by_process(line)
+        return f"{name}[{number}]" if number else None
+
+    def thread(self, line: int) -> Optional[str]:
+        """The number of the process or thread that made a call, if the record has it."""
+        return self._made_by_process(line)[0] or None
+
+    def _made_by_process(self, line: int) -> Tuple[str, str]:
         if line and self.lines[line - 1].startswith("#"):
-            return None
+            return "", ""
         for text in reversed(self.lines[:line]):
             if text.startswith(_PROCESS):
                 number, _, name = text[len(_PROCESS) :].partition(" ")
-                return None if number == "0" else f"{name}[{number}]"
-        return None
+                return ("", "") if number == "0" else (number, name)
+        return "", ""
 
     def places(self) -> List[int]:
         """After which lines there is a crash: at the start, and after each call that may change what it leaves, and acknowledgement."""
@@ -105,6 +113,14 @@ class RecordedRun:
             if line.startswith(ACKNOWLEDGED) or not line.startswith("#") and self.way.changes(line):
                 found.append(number)
         return found
+
+    def settled_before(self, line: int) -> int:
+        """The last line up to this one after which nothing is unsynced: a `settle`, or the start."""
+        return max((at for at in range(1, line + 1) if self.is_files and self.word(at) == "settle" and not self.made[at - 1].is_refused), default=0)
+
+    def line_at(self, shown: int) -> int:
+        """The last line that isn't after this one of the file."""
+        return sum(place <= shown for place in self.shown)
 
     def syncs(self) -> List[int]:
         """The lines of the syncs that weren't refused."""

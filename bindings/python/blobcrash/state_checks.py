@@ -20,7 +20,7 @@ class Checks:
     """Runs the command of a check in a folder for each state that it doesn't know. What the command prints isn't shown."""
 
     def __init__(self, command: List[str], folder: str, jobs: int) -> None:
-        self._command, self._folder, self._jobs = command, folder, jobs
+        self._command, self._folder, self.jobs = command, folder, jobs
         self._fails: Dict[Known, bool] = {}
         self._under_way: Dict[Known, Tuple["subprocess.Popen[bytes]", str]] = {}
         self.count = 0
@@ -29,7 +29,7 @@ class Checks:
         """Begins the check of a state, once fewer than the jobs are under way, unless it is known."""
         known = (state.digest, place.run.acknowledged(place.line))
         if known not in self._fails and known not in self._under_way:
-            while len(self._under_way) >= self._jobs:
+            while len(self._under_way) >= self.jobs:
                 self.fails(next(iter(self._under_way)))
             self.count += 1
             folder = os.path.join(self._folder, str(self.count))

@@ -64,9 +64,9 @@ def page(script_text, replies_text, explain_text, title="What a crash left", cha
     if told != lines_of(replies_text):
         raise ValueError("the replies are not those of the explanation")
     model = Model(script)
-    style, program = _file("page.css"), "\n".join(_file(name) for name in SCRIPTS)
+    style, program = text_of("page.css"), "\n".join(text_of(name) for name in SCRIPTS)
     return PAGE.format(
-        policy=html.escape(f"default-src 'none'; style-src {_source(style)}; script-src {_source(program)}; base-uri 'none'; form-action 'none'"),
+        policy=html.escape(f"default-src 'none'; style-src {source_of(style)}; script-src {source_of(program)}; base-uri 'none'; form-action 'none'"),
         title=html.escape(title),
         style=style,
         summary=html.escape(summary(script)),
@@ -106,12 +106,13 @@ def _many(count, one, more=None):
     return f"{count} {one if count == 1 else more or one + 's'}"
 
 
-def _file(name):
+def text_of(name):
+    """A file of this package."""
     with open(os.path.join(os.path.dirname(os.path.abspath(__file__)), name), encoding="utf-8") as file:
         return file.read()
 
 
-def _source(text):
+def source_of(text):
     """What a policy says of one inline text: its checksum."""
     return "'sha256-" + base64.b64encode(hashlib.sha256(text.encode()).digest()).decode() + "'"
 

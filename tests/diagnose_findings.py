@@ -1,0 +1,74 @@
+"""`blobcrash diagnose` of the findings of docs/MOUNT.md that have records in tests/diagnosed: the sync that each program is known to lack is
+named. The checks are in tests/diagnosed/check.py, so that the programs aren't needed. diagnose.sh runs it. The last line is
+`N passed, M failed`. With the name of a test only that one is run."""
+
+import os
+import sys
+
+from diagnose import Diagnosed
+from passing import run_tests
+
+DIAGNOSED = os.path.join(os.path.dirname(os.path.abspath(__file__)), "diagnosed")
+with open(os.path.join(DIAGNOSED, "check.py"), encoding="utf-8") as source:
+    CHECK = source.read()
+
+
+def diagnosed(record, check=None):
+    with open(os.path.join(DIAGNOSED, f"{record}.script"), encoding="utf-8") as file:
+        return Diagnosed(file.read(), CHECK, "--whole", "--limit", "40", python=[check or record])
+
+
+def lacks(found, *syncs):
+    """Asserts that these syncs are missing, each before the acknowledgement."""
+    assert {cause["class"] for cause in found.causes} == {"acknowledged before durable"}, found.causes
+    assert found.counts["unfixed"] == 0 and sorted(sync["sync"] for sync in found.counts["syncs"]) == sorted(syncs), found.counts
+    first = next(number for number, line in enumerate(found.lines, 1) if line.startswith("# acknowledged "))
+    assert {sync["before"] for sync in found.counts["syncs"]} == {first}, found.counts
+
+
+def is_no_loss(found, call):
+    """Asserts that the check fails after this call already without a loss: no sync helps."""
+    assert [(cause["class"], cause["at"]["call"]) for cause in found.causes] == [("no loss", call)], found.causes
+
+
+def test_initdb():
+    """It syncs the cluster, and not the folder that the cluster is in."""
+    lacks(diagnosed("initdb"), "fsyncdir /")
+
+
+def test_a_start_of_postgresql():
+    """The lock file is empty between its creation and its sync. A server that is killed there leaves it too."""
+    is_no_loss(diagnosed("postgres_start"), "create /cluster/postmaster.pid")
+
+
+def test_redis_new():
+    """It makes `appendonlydir`, and never syncs the folder above it."""
+    lacks(diagnosed("redis_new"), "fsyncdir /")
+
+
+def test_redis_truncation():
+    """It truncates a torn log, and a manifest with the next log is durable before that is synced."""
+    found = diagnosed("redis_truncation")
+    log, manifest = "/appendonlydir/appendonly.aof.1.incr.aof", "/appendonlydir/appendonly.aof.manifest"
+    renamed = f"rename /appendonlydir/temp-appendonly.aof.manifest -> {manifest}"
+    found.is_cause(0, "order", [f"truncate {log} 60"], renamed, f"fsync {log}")
+    assert {cause["at"]["call"] for cause in found.causes} == {renamed} and found.counts["unfixed"] == 0, found.causes
+
+
+def test_lmdb_new():
+    """It never syncs its folder. The driver doesn't sync the one above it."""
+    lacks(diagnosed("lmdb_new"), "fsyncdir /", "fsyncdir /store")
+
+
+def test_etcd_new():
+    """It doesn't sync the folders in which it makes its data folder, `member` and the first log."""
+    lacks(diagnosed("etcd_new"), "fsyncdir /", "fsyncdir /data", "fsyncdir /data/member/wal")
+
+
+def test_a_start_of_etcd():
+    """Its log is durable before the first entry, which names the members. A server that is killed there leaves it too."""
+    is_no_loss(diagnosed("etcd_new", "etcd_start"), "rename /data/member/wal.tmp -> /data/member/wal")
+
+
+if __name__ == "__main__":
+    sys.exit(run_tests(globals(), sys.argv[1:]))
