@@ -237,6 +237,7 @@ done
 
 add python3 "$top/tests/mount_runs.py"
 add python3 "$top/tests/mount_signals.py"
+add python3 "$top/tests/mount_drivers.py"
 
 # SQLite deletes its journal after a commit, and syncs the folder only at EXTRA.
 crash_sqlite() {
@@ -267,6 +268,9 @@ program redis ext4 4 '[0-4] \| 0 \| 0 \| 0'
 program sqlite-wal posix 2 '[12] \| 0 \| 0 \| 0'
 program git-fsync ext4 3 '[0-3] \| 0 \| 0 \| 0'
 program git ext4 4 '[0-3] \| [0-9] \| [0-9] \| 0'
+program python-sqlite3 xfs 1 '[01] \| [01] \| 0 \| 0'
+program rsync ext4 1 '[01] \| [01] \| 0 \| 0'
+program tarantool xfs 1 '[01] \| [01] \| [01] \| 0'
 if has redis-server redis-cli; then
     run sh examples/mount_redis.sh
     ok "examples/mount_redis.sh: $(head -c 200 "$work/out")" [ "$(cat "$work/out")" = value ]

@@ -35,7 +35,7 @@ rows_of() {
 # near WORD: reads words, and prints the nearest one by edits of a character and swaps of two, if it is near enough.
 near() {
     command -v awk >/dev/null || return 0
-    given=$1 awk '
+    given=$1 LC_ALL=C awk '
         function least(a, b) { return a < b ? a : b }
         function distance(a, b,   i, j, cost) {
             for (i = 0; i <= length(a); i++) d[i, 0] = i

@@ -9,7 +9,8 @@ import subprocess
 import sys
 import time
 
-KEYS, OPERATIONS = 25, 120
+# The environment may name fewer operations, for a short record.
+KEYS, OPERATIONS = 25, int(os.environ.get("OPERATIONS", "120"))
 HELD, LOST, DAMAGED = 0, 1, 2
 
 MOUNT = os.environ.get("MOUNT", "")
@@ -34,13 +35,26 @@ def last_acknowledged():
         return max((int(line) for line in file), default=0)
 
 
-def work(put):
+def work(put, operations=OPERATIONS):
     """Makes the operations, each by `put`, which returns whether the program says that it is durable."""
-    for number in range(1, OPERATIONS + 1):
+    for number in range(1, min(operations, OPERATIONS) + 1):
         if not put(number):
             print(f"operation {number} failed")
             return LOST
         acknowledge(number)
+    return HELD
+
+
+def judge_numbers(numbers):
+    """The same for operations that each add a number, which `numbers` has in their order."""
+    last = last_acknowledged()
+    if numbers != list(range(1, len(numbers) + 1)) or len(numbers) > last + 1:
+        missing = [number for number in range(1, last + 1) if number not in numbers]
+        print(f"{'lost' if missing else 'damaged'}: of {last} acknowledged operations there are {numbers[-30:]}; missing are {missing[-10:]}")
+        return LOST if missing else DAMAGED
+    if len(numbers) < last:
+        print(f"lost: the operations {len(numbers) + 1} to {last}")
+        return LOST
     return HELD
 
 
@@ -70,6 +84,17 @@ def find_program(name, *patterns):
         print(f"there is no {name}")
         sys.exit(127)
     return found
+
+
+def run(*words, **how):
+    """Runs a program. Returns what it prints, or None if it fails, and then prints the end of that."""
+    # Debian's programs come first, and find Debian's Python.
+    how["env"] = {**how.get("env", os.environ), "PATH": f"/usr/sbin:/usr/bin:/sbin:/bin:{os.environ.get('PATH', '')}"}
+    ran = subprocess.run(words, **{"stdin": subprocess.DEVNULL, "stdout": subprocess.PIPE, "stderr": subprocess.STDOUT, "cwd": "/",
+                                   "encoding": "utf-8", "errors": "replace", **how})
+    if ran.returncode:
+        print(f"{words[0]} ended with {ran.returncode}: {ran.stdout[-400:]}")
+    return None if ran.returncode else ran.stdout
 
 
 def as_user(name):

@@ -1,0 +1,3 @@
+/* RocksDB: the interface of LevelDB under other names. */
+#define USE_ROCKSDB
+#include "leveldb.c"
