@@ -25,7 +25,7 @@ use std::alloc::{AllocError, Global};
 
 /// Reserves capacity for the result of replaying each list of a current incarnation. Returns an empty list of choices with capacity
 /// for the longest write. An overflowing length is reported as an allocation failure.
-fn reserve_all(
+pub(crate) fn reserve_all(
     inner: &mut blob_memory::Storage,
     alloc: Global,
     lists: &[Incarnation<Origin>],

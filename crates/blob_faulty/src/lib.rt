@@ -4,6 +4,7 @@
 mod admit;
 pub mod blob;
 mod crash;
+mod crashed;
 pub mod laws;
 pub mod names;
 mod open_admitted;

@@ -9,6 +9,7 @@ ghost use Rattle.blob_lab_store.specs.Tables.{images_of};
 
 mod applying;
 mod asking;
+mod crashing;
 pub mod handles;
 mod naming;
 mod opening;

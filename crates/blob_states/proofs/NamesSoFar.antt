@@ -10,9 +10,10 @@ use Rattle.blob_script.specs.Acts.{Act, act_of}
 use Rattle.blob_script.specs.Preambles.{Image, images_of}
 use Rattle.blob_lab_model.specs.Accepted.{opened_name}
 use Rattle.blob_choices.specs.Outcomes.{acts_of}
-use Rattle.blob_states.specs.Recorded.{HasImage, HasOpened, KeepsNames, Name, image_of, name_of, names_of}
+use Rattle.blob_states.specs.Recorded.{HasImage, HasOpened, HaveNames, KeepsNames, Name, first_images, image_of, name_of, names_of}
+use Rattle.blob_states.specs.declared.recorded.Recorded.{Recorded}
 
-acts_more : (calls : List Call) (call : Call) → acts_of (calls ++ call ∷ []) ≡ acts_of calls ++ act_of call ∷ []
+pub acts_more : (calls : List Call) (call : Call) → acts_of (calls ++ call ∷ []) ≡ acts_of calls ++ act_of call ∷ []
 acts_more [] call = refl
 acts_more (x ∷ calls) call = ap (λ (acts : List Act). act_of x ∷ acts) (acts_more calls call)
 
@@ -72,3 +73,9 @@ calls_more old new calls i x kept lt is here before =
     let shown : acts_of (take (i + 1) calls) ≡ acts_of (take i calls) ++ act_of x ∷ [] = ap acts_of more ∙ acts_more (take i calls) x in
     subst (AllByRecursion (λ act. HasOpened new (opened_name act))) (sym shown)
     (all_more (λ act. HasOpened new (opened_name act)) (acts_of (take i calls)) (act_of x) (acts_kept old new kept (acts_of (take i calls)) before) here)
+
+-- the names after one more call of a run
+pub names_more : (old new : List Name) (run : Recorded) (i : ℕ) (x : Call) → KeepsNames old new → i < length run.calls.items → x ≡ get_or run.calls.items i x → HasOpened new (opened_name (act_of x))
+    → HaveNames old run i → HaveNames new run (i + 1)
+names_more old new run i x kept below is here before =
+    (images_kept old new kept (first_images run) before.0, calls_more old new run.calls.items i x kept below is here before.1)

@@ -1,9 +1,9 @@
 -- The crashes that were printed.
-use Rattle.std.proofs.Common.{◌≡◌, ℕ, true, zero, suc, ◌+◌, ◌++◌, List, [], ◌∷◌, map, fold, length, Option, Some, None, refl, sym, ap, ◌∙◌, arith, append-nil}
-use Rattle.std.specs.List.{AllByRecursion, flat_map}
+use Rattle.std.proofs.Common.{◌≡◌, ℕ, true, zero, suc, ◌+◌, ◌++◌, List, [], ◌∷◌, fold, length, Option, Some, None, refl, sym, ap, ◌∙◌, arith, append-nil}
+use Rattle.std.specs.List.{flat_map}
 use Rattle.std.proofs.lemmas.List.{map-append}
 use Rattle.std.proofs.lemmas.List.Concat.{flat_map-append}
-use Rattle.blob_states.specs.Printed.{HasFewerCalls, HasNoStates, IsCrashOf, Point, calls_from, calls_of, point_text, total_of, with_point}
+use Rattle.blob_states.specs.Printed.{HasFewerCalls, HasNoStates, IsCrashOf, Point, PrintsCrashes, calls_from, calls_of, point_text, total_of, with_point}
 use Rattle.blob_states.specs.declared.print.Total.{Total}
 use Rattle.blob_states.specs.declared.recorded.Recorded.{Recorded}
 use Rattle.blob_states.specs.declared.script.RefusedScript.{RefusedScript}
@@ -23,15 +23,7 @@ folded f b (y ∷ xs) x = folded f (f b y) xs x
 pub total_more : (points : List Point) (point : Point) → total_of (points ++ point ∷ []) ≡ with_point (total_of points) point
 total_more points point = folded with_point (record { crashes = 0; outcomes = 0; states = 0; is_complete = true }) points point
 
--- the crashes from the first on that were printed so far
-pub record Printed (run : Recorded) (limit first count : ℕ) (text : List ℕ) (total : Total) : Type 0 where
-  pub points : List Point
-  pub calls : map calls_of points ≡ calls_from first count
-  pub each : AllByRecursion (IsCrashOf run limit) points
-  pub prints : text ≡ flat_map point_text points
-  pub total_is : total ≡ total_of points
-
-pub none_printed : (run : Recorded) (limit first count : ℕ) (text : List ℕ) (total : Total) → count ≡ 0 → text ≡ [] → total ≡ total_of [] → Printed run limit first count text total
+pub none_printed : (run : Recorded) (limit first count : ℕ) (text : List ℕ) (total : Total) → count ≡ 0 → text ≡ [] → total ≡ total_of [] → PrintsCrashes run limit first count text total
 none_printed run limit first count text total none empty is = record {
   points = [];
   calls = ap (calls_from first) (sym none);
@@ -40,9 +32,9 @@ none_printed run limit first count text total none empty is = record {
   total_is = is;
 }
 
-pub one_printed : (run : Recorded) (limit first count count' : ℕ) (text text' : List ℕ) (total total' : Total) (point : Point) → Printed run limit first count text total
+pub one_printed : (run : Recorded) (limit first count count' : ℕ) (text text' : List ℕ) (total total' : Total) (point : Point) → PrintsCrashes run limit first count text total
     → point.calls ≡ first + count → count' ≡ suc count → IsCrashOf run limit point → text' ≡ text ++ point_text point → total' ≡ with_point total point
-    → Printed run limit first count' text' total'
+    → PrintsCrashes run limit first count' text' total'
 one_printed run limit first count count' text text' total total' point before at more crash prints counts = record {
   points = before.points ++ point ∷ [];
   calls = map-append calls_of before.points (point ∷ []) ∙ ap (λ (ns : List ℕ). ns ++ point.calls ∷ []) before.calls ∙ ap (λ (n : ℕ). calls_from first count ++ n ∷ []) at

@@ -1,8 +1,6 @@
 -- The states that a crash leaves, by all its words.
-use Rattle.std.specs.Prelude.{◌≡◌, ◌≢◌, ◌≤◌, ℕ, Bool, true, List, [], ◌∷◌, ◌++◌, length, map, take, Option, Some, None, IfSome, if◌then◌else◌, String, Vec, string_bytes}
-use Rattle.std.specs.Global.{Global}
-use Rattle.std.specs.List.{All, AllPairs, Contains, list_any}
-use Rattle.std.specs.Str.{bytes_eq}
+use Rattle.std.specs.Prelude.{◌≡◌, ◌≢◌, ◌≤◌, ℕ, Bool, true, List, [], ◌∷◌, length, take, Option, Some, None, IfSome, string_bytes}
+use Rattle.std.specs.List.{All, AllPairs, Contains}
 use Rattle.rand_core.specs.Stream.{Stream}
 use Rattle.blob_distinct.specs.Found.{LeftState, lines_in, states_in}
 use Rattle.blob_header.specs.Refusals.{Memory}

@@ -86,6 +86,14 @@ pub record IsCrashOf (run : Recorded) (limit : ℕ) (point : Point) : Type 0 whe
 abbrev pub calls_of : Point → ℕ
 calls_of point = point.calls
 
+-- the crashes after `first` calls and more, as many as `count`: their states are the text, and the total has their counts
+pub record PrintsCrashes (run : Recorded) (limit first count : ℕ) (text : List ℕ) (total : Total) : Type 0 where
+  pub points : List Point
+  pub calls : map calls_of points ≡ calls_from first count
+  pub each : AllByRecursion (IsCrashOf run limit) points
+  pub prints : text ≡ flat_map point_text points
+  pub total_is : total ≡ total_of points
+
 -- The text has, for each crash of the run of this script, the states that it leaves.
 pub record PrintsStates (script : List ℕ) (at : Option ℕ) (limit : ℕ) (text : List ℕ) : Type 0 where
   pub run : Recorded

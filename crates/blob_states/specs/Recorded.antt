@@ -55,6 +55,10 @@ abbrev pub HaveEachName : List Name → List Image → List Act → Type 0
 HaveEachName names images acts =
     AllByRecursion (HasImage names) images × AllByRecursion (λ act. HasOpened names (opened_name act)) acts
 
+-- these are the names of the run's images, and those that its first calls open
+abbrev pub HaveNames : List Name → Recorded → ℕ → Type 0
+HaveNames names run count = HaveEachName names (first_images run) (first_acts run count)
+
 -- each name that has a file is one of these
 abbrev pub HaveEachFile : List Name → Files → Type 0
 HaveEachFile names f = (p n : List ℕ) → f.directory.file p n ≢ None → Contains names (p, n)

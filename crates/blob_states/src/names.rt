@@ -5,7 +5,7 @@ ghost use Rattle.std.specs.List.{Contains};
 ghost use Rattle.blob_header.specs.Refusals.{IsMemory};
 ghost use Rattle.blob_script.specs.Acts.{act_of};
 ghost use Rattle.blob_lab_model.specs.Accepted.{opened_name};
-ghost use Rattle.blob_states.specs.Recorded.{HasOpened, HaveEachName, KeepsNames, first_acts, first_images, names_of};
+ghost use Rattle.blob_states.specs.Recorded.{HasOpened, HaveNames, KeepsNames, names_of};
 
 use crate::recorded::Recorded;
 use blob_base::Error;
@@ -19,7 +19,7 @@ pub(crate) fn names_until(
     count: usize,
 ) -> Result<Vec<(String, Vec<u8>)>, Error>
     requires { count ≤ length run.now.calls.items }
-    ensures ok { IfOk result (λ names. HaveEachName (names_of names.items) (first_images run.now) (first_acts run.now count)) }
+    ensures ok { IfOk result (λ names. HaveNames (names_of names.items) run.now count) }
     ensures memory { OnErr result (IsMemory result) }
 {
     let mut names = Vec::new(alloc);
@@ -33,7 +33,7 @@ pub(crate) fn names_until(
 }
 
 /// Adds the name that a call opens, if it opens one.
-fn add_opened(names: &mut Vec<(String, Vec<u8>)>, call: &Call) -> Result<(), Error>
+pub(crate) fn add_opened(names: &mut Vec<(String, Vec<u8>)>, call: &Call) -> Result<(), Error>
     ensures opened { OnOk result (HasOpened (names_of names.new.items) (opened_name (act_of call.now))) }
     ensures kept { OnOk result (KeepsNames (names_of names.old.items) (names_of names.new.items)) }
     ensures memory { OnErr result (IsMemory result) }

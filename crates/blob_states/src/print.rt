@@ -1,16 +1,22 @@
 // The states of a recorded run, as lines.
-ghost use Rattle.std.specs.Prelude.{◌≡◌, [], IfOk, IfErr, IfSome, OnOk, length, string_bytes};
-ghost use Rattle.blob_states.specs.Printed.{Appends, HasFewerCalls, HasNoStates, IsCrashRange, PrintsStates};
+ghost use Rattle.std.specs.Prelude.{◌≡◌, ◌<◌, ◌≤◌, ◌+◌, ◌-◌, [], IfOk, IfErr, IfSome, OnOk, length, string_bytes};
+ghost use Rattle.blob_lab_store.specs.LabStands.{LabStandsFor};
+ghost use Rattle.blob_states.specs.Printed.{Appends, HasFewerCalls, HasNoStates, IsCrashRange, PrintsCrashes, PrintsStates};
 ghost use Rattle.blob_states.specs.Printed.{call_text, counted, limit_text, point_of, point_text, state_text, total_line, total_of, with_point, words_text};
+ghost use Rattle.blob_states.specs.Recorded.{state_after};
 ghost use Rattle.blob_distinct.specs.Found.{left_by};
 
+use crate::names::names_until;
 use crate::recorded::Recorded;
+use crate::replay::{go_on, replayed};
 use crate::script::{RefusedScript, read_script};
 use crate::states::{CrashStates, crash_states};
+use blob_base::Error;
+use blob_lab_store::Lab;
 use std::alloc::{AllocError, Global};
 
 /// Prints the states that crashes leave of the run of a script: of a crash before its first call and after each call, or only of
-/// that after call `at`. Tries at most `limit` outcomes of each crash.
+/// that after call `at`. Tries at most `limit` outcomes of each crash. The calls are made once.
 pub fn states_text(
     alloc: Global,
     text: &[u8],
@@ -23,19 +29,63 @@ pub fn states_text(
     let run = read_script(alloc, text)?;
     let (first, end) = crash_range(&run, at)?;
     let mut printed = String::new(alloc);
-    let mut total = Total::new();
-    'points: for calls in first..end {
-        let Ok(found) = crash_states(alloc, &run, calls, limit) else {
-            return Err(RefusedScript::NoMemory);
-        };
-        print_states(calls, &found, &mut printed)?;
-        let Some(more) = total.with(&found) else {
-            return Err(RefusedScript::NoMemory);
-        };
-        total = more;
-    }
+    let Ok(total) = print_crashes(alloc, &run, first, end, limit, &mut printed) else {
+        return Err(RefusedScript::NoMemory);
+    };
     print_total(total, &mut printed)?;
     Ok(printed)
+}
+
+/// Prints the states of the crashes after `first` calls and more, before `end`. Returns their counts.
+///
+/// The only error is `Memory`, also if a call was refused it or the counts don't fit.
+fn print_crashes(
+    alloc: Global,
+    run: &Recorded,
+    first: usize,
+    end: usize,
+    limit: u64,
+    printed: &mut String,
+) -> Result<Total, Error>
+    requires some { first < end }
+    requires within { end ≤ length run.now.calls.items + 1 }
+    requires empty { string_bytes printed.old ≡ [] }
+    ensures { IfOk result (PrintsCrashes run.now limit first (end - first) (string_bytes printed.new)) }
+{
+    let mut lab = replayed(alloc, run, first)?;
+    let total = print_along(alloc, run, &mut lab, first, end, limit, printed);
+    lab.end();
+    total
+}
+
+/// The same with a laboratory in which the first calls were made. It makes the others.
+fn print_along(
+    alloc: Global,
+    run: &Recorded,
+    lab: &mut Lab,
+    first: usize,
+    end: usize,
+    limit: u64,
+    printed: &mut String,
+) -> Result<Total, Error>
+    requires stands { LabStandsFor lab.old (state_after run.now first) }
+    requires some { first < end }
+    requires within { end ≤ length run.now.calls.items + 1 }
+    requires empty { string_bytes printed.old ≡ [] }
+    ensures { IfOk result (PrintsCrashes run.now limit first (end - first) (string_bytes printed.new)) }
+{
+    let mut names = names_until(alloc, run, first)?;
+    let mut total = Total::new();
+    'points: for calls in first..end {
+        let found = crash_states(alloc, lab, &names, limit)?;
+        print_states(calls, &found, printed)?;
+        let Some(more) = total.with(&found) else {
+            return Err(Error::Memory(AllocError));
+        };
+        total = more;
+        go_on(run, calls, end, lab, &mut names)?;
+    }
+    Ok(total)
 }
 
 /// Returns the first number of calls after which there is a crash, and the number after the last.

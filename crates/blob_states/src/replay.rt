@@ -1,51 +1,23 @@
-// A crash of a run that is made again.
-ghost use Rattle.std.specs.Prelude.{◌≡◌, ◌≢◌, ◌≤◌, Some, IfOk, OnErr, length, string_bytes};
+// The run, call by call.
+ghost use Rattle.std.specs.Prelude.{◌≡◌, ◌≢◌, ◌<◌, ◌≤◌, ◌+◌, Some, IfOk, OnErr, OnOk, length};
 ghost use Rattle.std.specs.Bool.{OnFalse, OnTrue};
 ghost use Rattle.blob_header.specs.Refusals.{IsMemory, Memory};
 ghost use Rattle.blob_script.specs.Told.{refused_by};
 ghost use Rattle.blob_lab_store.specs.LabRuns.{StartsAt};
+ghost use Rattle.blob_lab_store.specs.LabStands.{LabStandsFor};
 ghost use Rattle.blob_choices.specs.Outcomes.{NoneOutOfMemory};
-ghost use Rattle.blob_states.specs.CrashStates.{Leaves};
-ghost use Rattle.blob_states.specs.Recorded.{names_of, state_after};
+ghost use Rattle.blob_states.specs.Recorded.{HaveNames, names_of, state_after};
 
-use crate::images::image_lines;
+use crate::names::add_opened;
 use crate::recorded::{Recorded, copy_of};
 use blob_base::Error;
 use blob_faulty::Config;
 use blob_lab_store::Lab;
-use blob_script::{Call, Reply};
+use blob_script::Reply;
 use std::alloc::{AllocError, Global};
 
-/// Makes the first calls again, and crashes by these words and then zeros. Returns the lines of the files of these names, and the
-/// number of words left.
-///
-/// The only error is `Memory`, also if a call was refused it.
-pub(crate) fn crash_by(
-    alloc: Global,
-    run: &Recorded,
-    count: usize,
-    names: &[(String, Vec<u8>)],
-    words: Vec<u64>,
-) -> Result<(String, Option<usize>), Error>
-    requires { count ≤ length run.now.calls.items }
-    ensures ok { IfOk result (λ left. Leaves (state_after run.now count) (names_of names.now) words.items (string_bytes left.0) left.1) }
-    ensures memory { OnErr result (IsMemory result) }
-{
-    let mut lab = replayed(alloc, run, count)?;
-    lab.set_words(words);
-    let reply = lab.apply(&Call::Crash);
-    let left = lab.words_left();
-    let lines = image_lines(alloc, lab.wrapper().inner(), names);
-    lab.end();
-    if is_memory(&reply) {
-        return Err(Error::Memory(AllocError));
-    }
-    let lines = lines?;
-    Ok((lines, left))
-}
-
 /// Returns a laboratory in which the first calls were made. The only error is `Memory`, also if a call was refused it.
-fn replayed(alloc: Global, run: &Recorded, count: usize) -> Result<Lab, Error>
+pub(crate) fn replayed(alloc: Global, run: &Recorded, count: usize) -> Result<Lab, Error>
     requires { count ≤ length run.now.calls.items }
     ensures stands { StartsAt result (state_after run.now count) }
     ensures memory { OnErr result (IsMemory result) }
@@ -64,6 +36,42 @@ fn replayed(alloc: Global, run: &Recorded, count: usize) -> Result<Lab, Error>
         return Err(Error::Memory(AllocError));
     }
     Ok(lab)
+}
+
+/// Makes the call of this index and adds the name that it opens, if there is a crash after it: one before `end`.
+///
+/// The only error is `Memory`, also if the call was refused it.
+pub(crate) fn go_on(
+    run: &Recorded,
+    index: usize,
+    end: usize,
+    lab: &mut Lab,
+    names: &mut Vec<(String, Vec<u8>)>,
+) -> Result<(), Error>
+    requires more { index < end }
+    requires within { end ≤ length run.now.calls.items + 1 }
+    ensures stands { OnOk result (index + 1 < end → LabStandsFor lab.old (state_after run.now index) → LabStandsFor lab.new (state_after run.now (index + 1))) }
+    ensures names { OnOk result (index + 1 < end → HaveNames (names_of names.old.items) run.now index → HaveNames (names_of names.new.items) run.now (index + 1)) }
+    ensures memory { OnErr result (IsMemory result) }
+{
+    if index + 1 >= end {
+        return Ok(());
+    }
+    add_opened(names, &run.calls[index])?;
+    advance(lab, run, index)
+}
+
+/// Makes the call of this index. The only error is `Memory`, also if the call was refused it.
+fn advance(lab: &mut Lab, run: &Recorded, index: usize) -> Result<(), Error>
+    requires { index < length run.now.calls.items }
+    ensures ok { OnOk result (LabStandsFor lab.old (state_after run.now index) → LabStandsFor lab.new (state_after run.now (index + 1))) }
+    ensures memory { OnErr result (IsMemory result) }
+{
+    let replies = lab.run(&run.calls[index..index + 1])?;
+    if is_short(&replies) {
+        return Err(Error::Memory(AllocError));
+    }
+    Ok(())
 }
 
 fn is_memory(reply: &Reply) -> bool

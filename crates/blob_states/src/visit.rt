@@ -1,13 +1,15 @@
 // A crash along a path.
-ghost use Rattle.std.specs.Prelude.{◌≡◌, ◌≤◌, ◌-◌, ◌^◌, ◌++◌, ◌∷◌, [], IfOk, IfSome, OnErr, length};
+ghost use Rattle.std.specs.Prelude.{◌≡◌, ◌-◌, ◌^◌, ◌++◌, ◌∷◌, [], IfOk, IfSome, OnErr, string_bytes};
 ghost use Rattle.blob_header.specs.Refusals.{IsMemory};
-ghost use Rattle.blob_states.specs.CrashStates.{TakesPath};
-ghost use Rattle.blob_states.specs.Recorded.{names_of, state_after};
+ghost use Rattle.blob_lab_model.specs.States.{State};
+ghost use Rattle.blob_lab_store.specs.LabStands.{LabStandsFor};
+ghost use Rattle.blob_states.specs.CrashStates.{Leaves, TakesPath};
+ghost use Rattle.blob_states.specs.Recorded.{names_of};
 
-use crate::recorded::Recorded;
-use crate::replay::crash_by;
+use crate::images::image_lines;
 use blob_base::Error;
 use blob_choices::laws::taken_words;
+use blob_lab_store::Lab;
 use blob_tree::Explorer;
 use std::alloc::{AllocError, Global};
 
@@ -23,18 +25,16 @@ pub struct Leaf {
 /// The only error is `Memory`, also if a call was refused it.
 pub(crate) fn visit(
     alloc: Global,
-    run: &Recorded,
-    count: usize,
+    lab: &Lab,
     names: &[(String, Vec<u8>)],
     explorer: &Explorer,
     spare: &mut usize,
 ) -> Result<Leaf, Error>
-    requires { count ≤ length run.now.calls.items }
-    ensures ok { IfOk result (TakesPath (state_after run.now count) (names_of names.now) explorer.now) }
+    ensures ok { IfOk result (λ leaf. (v : State) → LabStandsFor lab.now v → TakesPath v (names_of names.now) explorer.now leaf) }
     ensures memory { OnErr result (IsMemory result) }
 {
     for _ in 0..64 {
-        match visit_within(alloc, run, count, names, explorer, *spare)? {
+        match visit_within(alloc, lab, names, explorer, *spare)? {
             Some(leaf) => return Ok(leaf),
             None => *spare = spare.saturating_mul(2),
         }
@@ -45,14 +45,13 @@ pub(crate) fn visit(
 /// The same with `spare` zeros. Returns `None` if these weren't enough.
 fn visit_within(
     alloc: Global,
-    run: &Recorded,
-    count: usize,
+    lab: &Lab,
     names: &[(String, Vec<u8>)],
     explorer: &Explorer,
     spare: usize,
 ) -> Result<Option<Leaf>, Error>
-    requires { count ≤ length run.now.calls.items }
-    ensures ok { IfOk result (λ found. IfSome found (TakesPath (state_after run.now count) (names_of names.now) explorer.now)) }
+    ensures ok { IfOk result (λ found. IfSome found (λ leaf.
+        (v : State) → LabStandsFor lab.now v → TakesPath v (names_of names.now) explorer.now leaf)) }
     ensures memory { OnErr result (IsMemory result) }
 {
     taken_words();
@@ -62,7 +61,7 @@ fn visit_within(
     };
     words.resize(len, 0)?;
     let given = with_last(alloc, &words)?;
-    let (lines, left) = crash_by(alloc, run, count, names, given)?;
+    let (lines, left) = crash_by(alloc, lab, names, given)?;
     match left {
         Some(left) if left > 0 => {
             words.truncate(len.saturating_sub(left - 1));
@@ -70,6 +69,22 @@ fn visit_within(
         }
         _ => Ok(None),
     }
+}
+
+/// Returns the lines of the files of these names after a crash by these words and then zeros, and the number of words left.
+fn crash_by(
+    alloc: Global,
+    lab: &Lab,
+    names: &[(String, Vec<u8>)],
+    words: Vec<u64>,
+) -> Result<(String, Option<usize>), Error>
+    ensures ok { IfOk result (λ left.
+        (v : State) → LabStandsFor lab.now v → Leaves v (names_of names.now) words.items (string_bytes left.0) left.1) }
+    ensures memory { OnErr result (IsMemory result) }
+{
+    let left = lab.crashed(words)?;
+    let lines = image_lines(alloc, left.inner(), names)?;
+    Ok((lines, left.rng().left()))
 }
 
 fn with_last(alloc: Global, words: &[u64]) -> Result<Vec<u64>, Error>
