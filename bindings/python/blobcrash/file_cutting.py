@@ -16,7 +16,7 @@ from .file_calls import FileCall, Found, file_line
 from .generator import words_of
 from .recorded import split_script
 from .replayed import Content, ReplayedFiles
-from .states import CrashState, CrashStates, _Crash
+from .states import CrashState, CrashStates
 
 # A check of what is left: the status for a state.
 Check = Callable[[CrashState], int]
@@ -242,9 +242,11 @@ class FileCutter:
 
     def _outcomes(self, text: str) -> Iterator[Tuple[str, Content]]:
         """The outcomes of a crash at the end: first all lost, then those of `CrashStates`."""
-        states = CrashStates(text, files=True)
-        crash = _Crash(states, states._recorded_words(), len(states._lines))
-        return chain(crash._new((), 2**64 - 1), crash.outcomes())
+        crash = CrashStates(text, files=True).crash_at_end()
+        try:
+            yield from chain(crash.all_lost(), crash)
+        finally:
+            crash.close()
 
 
 def texts_of(lines: List[str]) -> Iterator[int]:

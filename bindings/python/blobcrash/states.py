@@ -6,8 +6,8 @@
         log = Log(state.store())                   # recover from what the crash left
         assert log.records[: len(state.acknowledged)] == state.acknowledged
 
-A crash is put after each call that may change what it leaves. The calls before it are made as they were recorded, with their draws. Of the
-crash all draws are tried. With `proved=True` the program `blobcrash states` finds the states of each crash of a store.
+A crash is put after each call that may change what it leaves. The calls are made once, as they were recorded, with their draws. Of each
+crash all draws are tried that decide something. With `proved=True` the program `blobcrash states` finds the states of each crash of a store.
 """
 
 from __future__ import annotations
@@ -17,6 +17,7 @@ import subprocess
 from itertools import chain, islice
 from typing import Any, Dict, Iterator, List, NamedTuple, Optional, Set, Tuple
 
+from .crash_outcomes import CrashOutcomes, Forward, shown_words
 from .file_system import Files
 from .generator import words_of
 from .grammar import MAX, hex_of, unhex
@@ -86,8 +87,8 @@ class CrashStates:
     write is kept or lost as a whole. With `proved` the states of each crash are those that the program `blobcrash states` prints, of which it
     is proved that none is missing. They come in its order: depth first.
 
-    Iterating yields each `CrashState`. Meanwhile `crashes` counts the places of a crash, `outcomes` the crashes that were made, `states` the
-    states, and `complete` is whether no limit was reached; `places` is how many places there are, and `line` is that of the last. Raises `BadLine` for a line that is no call, and `ValueError` for `proved` with
+    Iterating yields each `CrashState`. Meanwhile `crashes` counts the places of a crash, `outcomes` the outcomes of their draws that were
+    tried, or leave what one that was tried leaves, `states` the states, and `complete` is whether no limit was reached; `places` is how many places there are, and `line` is that of the last. Raises `BadLine` for a line that is no call, and `ValueError` for `proved` with
     `files` or `limit`, and if there is no crash after the line `at`.
     """
 
@@ -126,17 +127,34 @@ class CrashStates:
         seen: Set[Any] = set()
         places = self._places()
         self.places = len(places)
-        for self.line in places:
-            line = self.line
-            self.crashes += 1
-            acknowledged = tuple(text[len(_ACKNOWLEDGED) :] for text in self._lines[:line] if text.startswith(_ACKNOWLEDGED))
-            crash = _Crash(self, words, line)
-            for script, content in self._printed(crash, line) if self._is_proved else crash.outcomes():
-                self.outcomes += 1
-                if (content, acknowledged) not in seen:
-                    seen.add((content, acknowledged))
-                    self.states += 1
-                    yield CrashState(line, script, acknowledged, content, self._is_files)
+        run = self._forward(words)
+        try:
+            for self.line in places:
+                line = self.line
+                self.crashes += 1
+                run.go_to(line)
+                acknowledged = tuple(text[len(_ACKNOWLEDGED) :] for text in self._lines[:line] if text.startswith(_ACKNOWLEDGED))
+                crash, before = CrashOutcomes(run, self._limit), self.outcomes
+                for script, content in self._printed(crash, line) if self._is_proved else crash:
+                    self.outcomes += 1
+                    if (content, acknowledged) not in seen:
+                        seen.add((content, acknowledged))
+                        self.states += 1
+                        yield CrashState(line, script, acknowledged, content, self._is_files)
+                if not self._is_proved:
+                    self.outcomes = before + crash.leaves
+                    self.complete = self.complete and crash.is_complete
+        finally:
+            run.close()
+
+    def crash_at_end(self) -> CrashOutcomes:
+        """The outcomes of a crash after the last line."""
+        run = self._forward(self._recorded_words())
+        run.go_to(len(self._lines))
+        return CrashOutcomes(run, self._limit)
+
+    def _forward(self, words: List[int]) -> Forward:
+        return Forward(self._way, self._parts.images, words, self._lines)
 
     def _places(self) -> List[int]:
         """After how many lines there is a crash: at the start, and after each call that changes something, with its acknowledgement."""
@@ -151,7 +169,7 @@ class CrashStates:
             raise ValueError(f"there is no crash after line {self._at}: there are crashes after the lines {shown}")
         return [self._at]
 
-    def _printed(self, crash: _Crash, line: int) -> Iterator[Tuple[str, Content]]:
+    def _printed(self, crash: CrashOutcomes, line: int) -> Iterator[Tuple[str, Content]]:
         """The script and the content of each state that the program prints. It counts the other outcomes."""
         parts = self._parts
         given = [f"words {shown_words(parts.words)}"] if parts.words else []
@@ -174,9 +192,8 @@ class CrashStates:
         # The program stops after a million outcomes of a crash.
         if not counts.endswith(" states, all of them") and not counts.endswith(" state, all of them"):
             self.complete = False
-        before = crash.words_before()
         for taken, blobs in states:
-            yield crash.script([*before, *taken]), tuple(sorted(blobs))
+            yield crash.script(taken), tuple(sorted(blobs))
         self.outcomes += int(counts.split()[3]) - len(states)
 
     def _recorded_words(self) -> List[int]:
@@ -201,103 +218,9 @@ class CrashStates:
         return session, len(words) - left if left else None
 
 
-class _Crash:
-    """A crash after some lines."""
-
-    def __init__(self, of: CrashStates, words: List[int], line: int) -> None:
-        self._of = of
-        self._words = words
-        self._line = line
-        self._room = _ROOM
-        # The draws of each outcome that was made, by those up to the last one that lost.
-        self._known: Dict[Words, Words] = {}
-
-    def outcomes(self) -> Iterator[Tuple[str, Content]]:
-        """The script and the content of each outcome: first those that lose least and most, then depth first."""
-        made = 0
-        limit = self._of._limit
-        kept = yield from self._new((), 0)
-        made += 1
-        for path, rest in self._extremes(kept):
-            if limit is not None and made >= limit:
-                break
-            before = len(self._known)
-            yield from self._new(path, rest)
-            made += len(self._known) - before
-        along: Optional[Words] = _next(self._known[()])
-        while along is not None:
-            taken = self._known.get(along)
-            if taken is None:
-                if limit is not None and made >= limit:
-                    self._of.complete = False
-                    return
-                taken = yield from self._new(along, 0)
-                made += 1
-            along = _next(taken)
-
-    def _extremes(self, kept: Words) -> Iterator[Tuple[Words, int]]:
-        for at in range(len(kept)):
-            yield (0,) * at + (MAX,), 0
-        yield (), MAX
-        for at in range(len(kept)):
-            yield (MAX,) * at + (0,), MAX
-
-    def _new(self, path: Words, rest: int) -> Any:
-        """Makes the crash whose first draws are a path, and then all kept or all lost. Yields it unless it was made before. Returns its
-        draws."""
-        while True:
-            session, used = self._of._replayed(self._words, self._line)
-            try:
-                given = [*path, *[rest] * self._room]
-                before = session.words_left() + len(given)
-                session.crash(given)
-                taken = tuple(given[: before - session.words_left()])
-                content = session.content()
-            finally:
-                session.close()
-            if len(taken) < len(given):
-                break
-            self._room *= 4
-        if _stem(taken) not in self._known:
-            self._known[_stem(taken)] = taken
-            yield self.script([*self._words[: used or 0], *taken]), content
-        return taken
-
-    def words_before(self) -> List[int]:
-        """The words that the calls before the crash take."""
-        session, used = self._of._replayed(self._words, self._line)
-        session.close()
-        return self._words[: used or 0]
-
-    def script(self, words: List[int]) -> str:
-        lines = [*self._of._parts.images, *([f"words {shown_words(words)}"] if words else []), *self._of._lines[: self._line], "crash"]
-        return "".join(f"{line}\n" for line in lines)
-
-
 def _words_in(printed: str) -> List[int]:
     """The words in a line `# crash after call N, words ..` or `.., no words`."""
     return [MAX if word == "max" else int(word) for word in printed.split(", ")[1].split() if word not in ("no", "words")]
-
-
-def shown_words(words: List[int]) -> str:
-    """The words as a line of a script has them."""
-    return " ".join("max" if word == MAX else str(word) for word in words)
-
-
-def _stem(taken: Words) -> Words:
-    """The draws up to the last one that lost."""
-    end = len(taken)
-    while end and not taken[end - 1]:
-        end -= 1
-    return taken[:end]
-
-
-def _next(taken: Words) -> Optional[Words]:
-    """The path of the next outcome, depth first."""
-    end = len(taken)
-    while end and taken[end - 1]:
-        end -= 1
-    return (*taken[: end - 1], MAX) if end else None
 
 
 def _whole(line: str) -> str:

@@ -1,0 +1,229 @@
+"""The outcomes of a crash after some lines of a script, by all its draws but those that decide nothing."""
+
+from __future__ import annotations
+
+import pickle
+from typing import Any, Dict, Iterator, List, NamedTuple, Optional, Sequence, Tuple
+
+from .crash_units import Row, rows_of
+from .forked import Child
+from .grammar import MAX
+from .replayed import Content, ReplayedFiles
+
+# How many words a crash is given at first.
+_ROOM = 256
+# Up to so many lines it is faster to make the calls again than to copy this process.
+_FEW_LINES = 500
+Words = Tuple[int, ...]
+
+
+class _Left(NamedTuple):
+    """A crash: the words that it took, what it kept of each unsynced write and unsettled edit, and what it left."""
+
+    taken: Words
+    rows: Tuple[Row, ...]
+    content: Content
+
+
+class Forward:
+    """A run of which each call is made once. What a crash leaves is found in a copy of this process."""
+
+    def __init__(self, way: Any, images: List[str], words: List[int], lines: List[str]) -> None:
+        self.images, self.words, self.lines, self.line = images, words, lines, 0
+        self._way = way
+        self._session = way(images, words)
+        # Which unsettled edits of files a crash keeps.
+        self._keeps = "prefix" if way is ReplayedFiles else "any"
+
+    def go_to(self, line: int) -> None:
+        """Makes the calls up to a line."""
+        for text in self.lines[self.line : line]:
+            self._make(self._session, text)
+            self._see(text.split())
+        self.line = line
+
+    @property
+    def taken(self) -> List[int]:
+        """The words that the calls have taken."""
+        return self.words[: len(self.words) - self._session.words_left()]
+
+    @property
+    def is_prefix(self) -> bool:
+        """Whether a crash keeps unsettled edits up to some point."""
+        return self._keeps == "prefix"
+
+    def crash(self, given: Sequence[int]) -> _Left:
+        """What a crash by these words leaves. The run stays where it is."""
+        if self.line > _FEW_LINES:
+            first, second = Child(lambda: self._crashed(self._session, given)).result()
+            return _Left(*first, pickle.loads(second))
+        session = self._way(self.images, self.words)
+        try:
+            for text in self.lines[: self.line]:
+                self._make(session, text)
+            first, content = self._crashed(session, given)
+            return _Left(*first, content)
+        finally:
+            session.close()
+
+    def close(self) -> None:
+        self._session.close()
+
+    @staticmethod
+    def _make(session: Any, text: str) -> None:
+        if not text.startswith("#"):
+            session.call(text)
+
+    def _see(self, tokens: List[str]) -> None:
+        """Notes which edits a crash keeps."""
+        if tokens[0] == "profile":
+            self._keeps = {"posix": "any", "btrfs": "logged"}.get(tokens[1], "prefix")
+        elif tokens[0] == "edits":
+            self._keeps = tokens[1]
+
+    @staticmethod
+    def _crashed(session: Any, given: Sequence[int]) -> Tuple[Tuple[Words, Tuple[Row, ...]], Content]:
+        before = session.words_left() + len(given)
+        reply = session.crash(list(given))
+        taken = tuple(given[: before - session.words_left()])
+        return (taken, tuple(sorted(rows_of(reply)))), session.content()
+
+
+class _Drawn(NamedTuple):
+    """What the draws of a crash are for, in order: an edit or a write. In the mode `prefix` a loss is the last draw of its write. An edit
+    that is always lost has none."""
+
+    is_edit: bool
+    draws: int
+    is_prefix: bool
+
+
+class CrashOutcomes:
+    """The outcomes of a crash where the run is. `leaves` counts those of its draws that were tried or are as one that was."""
+
+    def __init__(self, run: Forward, limit: Optional[int]) -> None:
+        self._run, self._limit = run, limit
+        self._taken = run.taken
+        self._room = _ROOM
+        # The draws of each outcome that was made, by those up to the last one that lost. A draw that decides nothing keeps.
+        self._known: Dict[Words, Words] = {}
+        self._drawn: Tuple[_Drawn, ...] = ()
+        self._rows: Tuple[Row, ...] = ()
+        self.is_complete = True
+
+    @property
+    def leaves(self) -> int:
+        return sum(1 << sum(self._idle(taken)) for taken in self._known.values())
+
+    def __iter__(self) -> Iterator[Tuple[str, Content]]:
+        """Yields the script and what is left: first those that lose least and most, then depth first."""
+        kept = yield from self._new((), 0)
+        yield from self._extremes(kept)
+        along: Optional[Words] = self._next(self._known[()])
+        while along is not None:
+            taken = self._known.get(along)
+            if taken is None:
+                if self._is_at_limit():
+                    self.is_complete = False
+                    return
+                taken = yield from self._new(along, 0)
+            along = self._next(taken)
+
+    def all_lost(self) -> Iterator[Tuple[str, Content]]:
+        """Yields the outcome that loses all."""
+        yield from self._new((), MAX)
+
+    def close(self) -> None:
+        """Ends the run."""
+        self._run.close()
+
+    def script(self, words: Sequence[int]) -> str:
+        """The script of the calls, and of a crash by these words."""
+        all_words = [*self._taken, *words]
+        given = [f"words {shown_words(all_words)}"] if all_words else []
+        return "".join(f"{line}\n" for line in [*self._run.images, *given, *self._run.lines[: self._run.line], "crash"])
+
+    def _extremes(self, kept: Words) -> Iterator[Tuple[str, Content]]:
+        """Each single loss, all lost, and each single draw kept."""
+        losses: List[_Left] = []
+        for at in range(len(kept)):
+            if self._is_at_limit():
+                return
+            yield from self._new((0,) * at + (MAX,), 0, losses)
+        self._drawn = self._drawn_by(losses)
+        for path in [(), *((MAX,) * at + (0,) for at in range(len(kept)))]:
+            if self._is_at_limit():
+                return
+            yield from self._new(path, MAX)
+
+    def _is_at_limit(self) -> bool:
+        return self._limit is not None and len(self._known) >= self._limit
+
+    def _new(self, path: Words, rest: int, seen: Optional[List[_Left]] = None) -> Any:
+        """Makes the crash whose first draws are a path, and then all kept or all lost. Yields it unless one like it was made before. Returns
+        its draws."""
+        while True:
+            given = [*path, *[rest] * self._room]
+            left = self._run.crash(given)
+            if len(left.taken) < len(given):
+                break
+            self._room *= 4
+        if not self._known:
+            self._rows = left.rows
+        if seen is not None:
+            seen.append(left)
+        taken = tuple(0 if idle else word for word, idle in zip(left.taken, self._idle(left.taken)))
+        if _stem(taken) not in self._known:
+            self._known[_stem(taken)] = taken
+            yield self.script(left.taken), left.content
+        return taken
+
+    def _drawn_by(self, losses: List[_Left]) -> Tuple[_Drawn, ...]:
+        """What each draw is for: the row in which its loss is seen. Only if there are draws that may decide nothing."""
+        if not self._run.is_prefix or sum(row.inode is None for row in self._rows) < 2:
+            return ()
+        count = len(losses)
+        draws, shorter = [0] * len(self._rows), [False] * len(self._rows)
+        for left in losses:
+            at = next(at for at, row in enumerate(self._rows) if row != left.rows[at])
+            draws[at] += 1
+            shorter[at] |= len(left.taken) < count
+        return tuple(_Drawn(row.inode is None, draws[at], shorter[at]) for at, row in enumerate(self._rows) if draws[at] or _is_lost(row))
+
+    def _idle(self, taken: Words) -> List[bool]:
+        """Of each draw whether it decides nothing: it is of an edit after a lost one, where a crash keeps edits up to some point."""
+        idle: List[bool] = []
+        is_after = False
+        for drawn in self._drawn:
+            own = taken[len(idle) : len(idle) + drawn.draws]
+            if drawn.is_prefix:
+                own = own[: next((at for at, word in enumerate(own, 1) if word), drawn.draws)]
+            idle += [drawn.is_edit and is_after] * len(own)
+            is_after = is_after or drawn.is_edit and any(own or (MAX,))
+        return idle + [False] * (len(taken) - len(idle))
+
+    def _next(self, taken: Words) -> Optional[Words]:
+        """The path of the next outcome, depth first."""
+        idle = self._idle(taken)
+        end = len(taken)
+        while end and (taken[end - 1] or idle[end - 1]):
+            end -= 1
+        return (*taken[: end - 1], MAX) if end else None
+
+
+def shown_words(words: Sequence[int]) -> str:
+    """The words as a line of a script has them."""
+    return " ".join("max" if word == MAX else str(word) for word in words)
+
+
+def _is_lost(row: Row) -> bool:
+    """Whether a crash that keeps what it can loses an edit all the same."""
+    return row.inode is None and "0" in row.kept
+
+
+def _stem(taken: Words) -> Words:
+    """The draws up to the last one that lost."""
+    end = len(taken)
+    while end and not taken[end - 1]:
+        end -= 1
+    return taken[:end]
