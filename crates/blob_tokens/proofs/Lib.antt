@@ -1,3 +1,4 @@
+pub mod Decimals
 pub mod HexDigits
 pub mod HexLanes
 pub mod HexParts

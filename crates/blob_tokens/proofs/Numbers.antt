@@ -1,5 +1,5 @@
 -- The test of a number.
-use Rattle.std.proofs.Common.{◌≡◌, ◌↔◌, ℕ, ◌<◌, ◌^◌, ◌&&◌, nat_lt, List, [], ◌∷◌, length, Bool, true, false, Option, Some, None, IsSome, IfSome, refl, ap, arith, cond}
+use Rattle.std.proofs.Common.{◌≡◌, ◌↔◌, ℕ, ◌<◌, ◌^◌, ◌&&◌, nat_lt, List, [], ◌∷◌, length, Bool, true, false, Option, Some, None, IsSome, IfSome, refl, sym, ap, subst, arith, cond}
 use Rattle.std.specs.Bool.{Decides}
 use Rattle.std.specs.Char.{is_digit, digit_value}
 use Rattle.std.specs.List.{list_all}
@@ -34,3 +34,18 @@ chosen false P value None decides is found = refl
 -- the two clauses of a parsed token determine the result
 pub number_read : (token : List ℕ) (found : Option ℕ) → IfSome found (λ v. v ≡ digits_value 10 token) → (IsSome found ↔ IsNumber token) → found ≡ number_of token
 number_read token found is some = chosen (is_number token) (IsNumber token) (digits_value 10 token) found (is_number_decides token) is some
+
+some_value : (test : Bool) (value : ℕ) → IfSome (cond test (Some value) None) (λ v. v ≡ value)
+some_value true value = refl
+some_value false value = tt
+
+some_found : (test : Bool) (P : Type 0) (value : ℕ) → Decides test P → IsSome (cond test (Some value) None) ↔ P
+some_found true P value decides = (λ _. decides.0 refl, λ _. refl)
+some_found false P value decides = (λ h. cc, λ p. let yes : false ≡ true = decides.1 p in cc)
+
+-- and the result determines them
+pub read_value : (token : List ℕ) (found : Option ℕ) → found ≡ number_of token → IfSome found (λ v. v ≡ digits_value 10 token)
+read_value token found is = subst (λ f. IfSome f (λ v. v ≡ digits_value 10 token)) (sym is) (some_value (is_number token) (digits_value 10 token))
+
+pub read_found : (token : List ℕ) (found : Option ℕ) → found ≡ number_of token → IsSome found ↔ IsNumber token
+read_found token found is = subst (λ f. IsSome f ↔ IsNumber token) (sym is) (some_found (is_number token) (IsNumber token) (digits_value 10 token) (is_number_decides token))

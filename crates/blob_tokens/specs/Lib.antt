@@ -1,3 +1,4 @@
+pub mod Digits
 pub mod Forms
 pub mod Pairs
 pub mod Tokens

@@ -1,6 +1,7 @@
 //! The tokens of a script's line: texts, numbers, and bytes as hex digits.
 #![tactic(auto)]
 
+mod digits;
 mod hex_text;
 pub mod refused_line;
 pub mod token;

@@ -4,6 +4,7 @@ ghost use Rattle.std.specs.Str.Parse.{digits_value};
 ghost use Rattle.blob_tokens.specs.Forms.{text, hex, digits};
 ghost use Rattle.blob_tokens.specs.Tokens.{tokens, bytes_of, number_of, IsNumber};
 
+use crate::digits::parse;
 use crate::hex_text::decode_hex;
 use crate::refused_line::RefusedLine;
 use std::alloc::Global;
@@ -67,13 +68,9 @@ impl<'a> Tokens<'a> {
         ensures bad { OnErr result (digits self.old ≡ None) }
     {
         let token = self.next().ok_or(RefusedLine::BadCall)?;
-        // The library's parser accepts a sign. The first byte is compared, since `starts_with` takes a call.
-        if !token.is_empty() && token.as_bytes()[0] == b'+' {
-            return Err(RefusedLine::BadCall);
-        }
-        match token.parse() {
-            Ok(number) => Ok(number),
-            Err(_) => Err(RefusedLine::BadCall),
+        match parse(token.as_bytes()) {
+            Some(number) => Ok(number),
+            None => Err(RefusedLine::BadCall),
         }
     }
 
@@ -130,11 +127,7 @@ pub fn number(token: &str) -> Option<u64>
     ensures found { IsSome result ↔ IsNumber token.now }
     ensures read { result ≡ number_of token.now }
 {
-    // The library's parser accepts a sign.
-    if token.starts_with('+') {
-        return None;
-    }
-    token.parse().ok()
+    parse(token.as_bytes())
 }
 
 /// Parses bytes: an even number of hex digits, or `-` for none.
