@@ -1,6 +1,5 @@
 use crate::Error;
 use crate::foreign::Kind;
-use crate::power::Effect;
 use crate::shared::{Opened, Shared, State};
 use std::ops::BitOr;
 use std::sync::{Arc, MutexGuard};
@@ -208,7 +207,7 @@ impl Blob {
     /// ```
     pub fn read_at(&self, offset: u64, len: usize) -> Result<Vec<u8>, Error> {
         let mut state = self.usable()?;
-        state.permit(Effect::Reads)?;
+        state.permit(Kind::Read)?;
         state.session.read_vec(self.handle, offset, len)
     }
 
@@ -228,7 +227,7 @@ impl Blob {
     /// ```
     pub fn read_at_buf(&self, offset: u64, into: &mut [u8]) -> Result<(), Error> {
         let mut state = self.usable()?;
-        state.permit(Effect::Reads)?;
+        state.permit(Kind::Read)?;
         state.session.read(self.handle, offset, into)
     }
 
@@ -251,7 +250,7 @@ impl Blob {
     /// ```
     pub fn write_at(&self, offset: u64, bytes: &[u8], options: WriteOptions) -> Result<(), Error> {
         let mut state = self.usable()?;
-        state.permit(Effect::Changes)?;
+        state.permit(Kind::Write)?;
         let sync = options.contains(WriteOptions::SYNC);
         state.session.write(self.handle, offset, bytes, sync)?;
         if !sync && !bytes.is_empty() && state.limits.is_search() {

@@ -1,5 +1,6 @@
 //! The calls of the registry of durability debt, in numbers.
 use crate::Error;
+use crate::error::REFUSALS;
 use crate::foreign::{BAD_CALL, DONE};
 
 /// A call of the registry of durability debt. A failure has no texts.
@@ -60,25 +61,13 @@ pub(crate) struct DebtReply {
 /// The status of the refusal of a name that is open.
 const BLOB_ALREADY_OPEN: u32 = 21;
 
-/// The failures without texts, by their statuses.
-pub(crate) const PLAIN_FAILURES: [(u32, Error); 8] = [
-    (16, Error::OffsetOverflow),
-    (17, Error::BlobInsufficientLength),
-    (25, Error::Closed),
-    (26, Error::ReadFailed),
-    (27, Error::WriteFailed),
-    (28, Error::Injected),
-    (29, Error::Memory),
-    (30, Error::GenerationsExhausted),
-];
-
 impl DebtCall {
     /// The numbers of the call. A failure with texts has no status, and the library refuses it.
     pub(crate) fn raw(&self) -> RawDebtCall {
         let of = |failure: Option<&Error>| match failure {
             None => DONE,
             Some(failure) => {
-                let row = PLAIN_FAILURES.iter().find(|row| row.1 == *failure);
+                let row = REFUSALS.iter().find(|row| row.1 == *failure);
                 row.map_or(u32::MAX, |row| row.0)
             }
         };
@@ -117,10 +106,7 @@ impl DebtReply {
             BAD_CALL => Err(Error::Argument(
                 "a failure with texts isn't kept".to_owned(),
             )),
-            other => {
-                let row = PLAIN_FAILURES.into_iter().find(|row| row.0 == other);
-                Err(row.map_or(Error::NoHandle, |row| row.1))
-            }
+            other => Err(Error::of(other, "")),
         }
     }
 }
@@ -161,9 +147,5 @@ mod tests {
             assert_eq!(call.raw().kind as usize, at);
         }
         assert_eq!(header["E_BLOB_ALREADY_OPEN"], BLOB_ALREADY_OPEN);
-        for (status, error) in PLAIN_FAILURES {
-            let name = format!("E_{}", upper(&format!("{error:?}")));
-            assert_eq!(header.get(name.as_str()), Some(&status), "{name}");
-        }
     }
 }

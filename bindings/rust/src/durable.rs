@@ -1,5 +1,6 @@
 //! The durable bytes of blobs.
 use crate::header::{self, Layout};
+use crate::limits::is_power_off;
 use crate::storage::BlobVersion;
 use crate::{Config, Error, Store};
 
@@ -78,7 +79,7 @@ impl Store {
             return Err(Error::Argument(text.to_owned()));
         };
         let mut state = self.shared.lock();
-        if state.limits.power.is_off() {
+        if is_power_off(&mut state.session) {
             return Err(Error::PowerLoss);
         }
         let config = state.config();

@@ -1,3 +1,4 @@
+use crate::foreign::{BAD_CALL, NO_MEMORY, NO_ROOM, UNPRINTED};
 use std::fmt;
 use std::io;
 
@@ -102,45 +103,64 @@ pub enum Error {
     Unknown(String),
 }
 
+/// The refusals without texts, by their statuses.
+pub(crate) const REFUSALS: [(u32, Error); 22] = [
+    (16, Error::OffsetOverflow),
+    (17, Error::BlobInsufficientLength),
+    (25, Error::Closed),
+    (26, Error::ReadFailed),
+    (27, Error::WriteFailed),
+    (28, Error::Injected),
+    (29, Error::Memory),
+    (30, Error::GenerationsExhausted),
+    (31, Error::NoHandle),
+    (32, Error::EmptyRange),
+    (64, Error::Exists),
+    (65, Error::NotFound),
+    (66, Error::NotEmpty),
+    (67, Error::IsDirectory),
+    (68, Error::NotDirectory),
+    (69, Error::NameTooLong),
+    (70, Error::InvalidName),
+    (71, Error::TooManyLinks),
+    (72, Error::StaleHandle("the file is from before a crash")),
+    (73, Error::NoSpace),
+    (74, Error::Loop),
+    (75, Error::Crashed),
+];
+
 impl Error {
-    /// The error of a reply line that begins with `error`.
-    pub(crate) fn of(line: &str) -> Error {
-        Error::parsed(line).unwrap_or_else(|| Error::Unknown(line.to_owned()))
+    /// The error of a status that isn't `DONE`. `reply` is the line of the reply, which has the texts of some refusals.
+    #[cold]
+    pub(crate) fn of(status: u32, reply: &str) -> Error {
+        if let Some((_, error)) = REFUSALS.iter().find(|row| row.0 == status) {
+            return error.clone();
+        }
+        Error::with_texts(status, reply)
+            .unwrap_or_else(|| Error::Unknown(format!("status {status} {reply}")))
     }
 
-    fn parsed(line: &str) -> Option<Error> {
-        let mut fields = line.splitn(5, ' ');
-        if fields.next()? != "error" {
-            return None;
-        }
-        let name = fields.next()?;
+    fn with_texts(status: u32, reply: &str) -> Option<Error> {
+        let mut fields = reply.splitn(5, ' ').skip(2);
         let mut field = || fields.next().map(str::to_owned);
         // An empty text is printed as `-`, which is no hex and a partition name that isn't refused.
         let or_empty = |text: String| if text == "-" { String::new() } else { text };
-        Some(match name {
-            "OffsetOverflow" => Error::OffsetOverflow,
-            "BlobInsufficientLength" => Error::BlobInsufficientLength,
-            "PartitionNameInvalid" => Error::PartitionNameInvalid(or_empty(field()?)),
-            "PartitionMissing" => Error::PartitionMissing(field()?),
-            "BlobMissing" => Error::BlobMissing(field()?, or_empty(field()?)),
-            "BlobAlreadyOpen" => Error::BlobAlreadyOpen(field()?, or_empty(field()?)),
-            "BlobCorrupt" => Error::BlobCorrupt(field()?, or_empty(field()?), field()?),
-            "BlobLayoutMismatch" => Error::BlobLayoutMismatch {
+        Some(match status {
+            BAD_CALL => Error::Argument("a number isn't allowed in this call".to_owned()),
+            NO_MEMORY | NO_ROOM | UNPRINTED => Error::OutOfMemory,
+            18 => Error::PartitionNameInvalid(or_empty(field()?)),
+            19 => Error::PartitionMissing(field()?),
+            20 => Error::BlobMissing(field()?, or_empty(field()?)),
+            21 => Error::BlobAlreadyOpen(field()?, or_empty(field()?)),
+            22 => Error::BlobCorrupt(field()?, or_empty(field()?), field()?),
+            23 => Error::BlobLayoutMismatch {
                 expected: (field()?, field()?),
                 found: field()?,
             },
-            "BlobVersionMismatch" => Error::BlobVersionMismatch {
+            24 => Error::BlobVersionMismatch {
                 expected: (field()?.parse().ok()?, field()?.parse().ok()?),
                 found: field()?.parse().ok()?,
             },
-            "Closed" => Error::Closed,
-            "ReadFailed" => Error::ReadFailed,
-            "WriteFailed" => Error::WriteFailed,
-            "Injected" => Error::Injected,
-            "Memory" => Error::Memory,
-            "GenerationsExhausted" => Error::GenerationsExhausted,
-            "NoHandle" => Error::NoHandle,
-            "EmptyRange" => Error::EmptyRange,
             _ => return None,
         })
     }
@@ -262,7 +282,8 @@ impl From<Error> for io::Error {
 
 #[cfg(test)]
 mod tests {
-    use super::Error;
+    use super::{Error, REFUSALS};
+    use crate::foreign::tests::{enumerators, header, upper};
 
     #[test]
     fn replies_are_parsed() {
@@ -277,30 +298,65 @@ mod tests {
             text("626c6f62"),
             text("invalid header checksum"),
         );
-        for (line, error) in [
-            ("error Injected", Error::Injected),
-            ("error BlobAlreadyOpen partition 626c6f62", already),
-            ("error BlobVersionMismatch 3 7 10", version),
+        for (name, line, error) in [
+            ("INJECTED", "error Injected", Error::Injected),
             (
+                "BLOB_ALREADY_OPEN",
+                "error BlobAlreadyOpen partition 626c6f62",
+                already,
+            ),
+            (
+                "BLOB_VERSION_MISMATCH",
+                "error BlobVersionMismatch 3 7 10",
+                version,
+            ),
+            (
+                "BLOB_CORRUPT",
                 "error BlobCorrupt image 626c6f62 invalid header checksum",
                 corrupt,
             ),
             (
+                "BLOB_MISSING",
                 "error BlobMissing p -",
                 Error::BlobMissing(text("p"), text("")),
             ),
             (
+                "PARTITION_MISSING",
                 "error PartitionMissing -",
                 Error::PartitionMissing(text("-")),
             ),
             (
+                "PARTITION_NAME_INVALID",
                 "error PartitionNameInvalid -",
                 Error::PartitionNameInvalid(text("")),
             ),
-            ("error Frob", Error::Unknown(text("error Frob"))),
-            ("ok", Error::Unknown(text("ok"))),
         ] {
-            assert_eq!(Error::of(line), error);
+            let status = header()[format!("E_{name}").as_str()];
+            assert_eq!(Error::of(status, line), error);
         }
+        let unknown = Error::Unknown(text("status 15 ok"));
+        assert_eq!(Error::of(15, "ok"), unknown);
+    }
+
+    #[test]
+    fn refusals_are_those_of_the_headers() {
+        let files = enumerators(include_str!("../../c/blobcrash_files.h"));
+        for (status, error) in REFUSALS {
+            let text = match error {
+                Error::StaleHandle(_) => "Stale".to_owned(),
+                other => format!("{other:?}"),
+            };
+            let name = upper(&text);
+            let found = header()
+                .get(format!("E_{name}").as_str())
+                .or(files.get(format!("F_{name}").as_str()))
+                .copied();
+            assert_eq!(found, Some(status), "{name}");
+        }
+        // None is left out: seven have texts.
+        let is_refusal = |name: &str| name.starts_with("E_");
+        let of_stores = header().keys().filter(|name| is_refusal(name)).count();
+        let of_files = files.values().filter(|number| **number >= 64).count();
+        assert_eq!(REFUSALS.len() + 7, of_stores + of_files);
     }
 }

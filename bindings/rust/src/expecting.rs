@@ -1,6 +1,7 @@
 //! Restarts of an explored run in a state that an earlier run came to as well.
 use crate::choices::end_run;
 use crate::foreign::Choice;
+use crate::limits::Recorded;
 use crate::script::{tokens, unhex};
 use crate::{Error, Run, Store};
 use std::any::Any;
@@ -28,7 +29,8 @@ pub(crate) struct State {
     settings: String,
     crashes: usize,
     losses: u64,
-    power: String,
+    /// How many more calls have power, if they are counted.
+    power: u64,
 }
 
 /// What a body expected, and the choices by which its run came.
@@ -175,6 +177,6 @@ fn state_of(store: &Store, at: &'static Location<'static>, losses: u64) -> Resul
         settings: format!("{:?}", inner.config()),
         crashes,
         losses,
-        power: format!("{:?}", inner.limits.power),
+        power: inner.session.power().left,
     })
 }

@@ -7,10 +7,18 @@ pub(crate) const ENDLESS: u32 = 1;
 pub(crate) const BAD_LINE: u32 = 2;
 pub(crate) const NO_MEMORY: u32 = 3;
 pub(crate) const NO_ROOM: u32 = 4;
+pub(crate) const UNPRINTED: u32 = 7;
 pub(crate) const BAD_CALL: u32 = 8;
+pub(crate) const POWER_LOSS: u32 = 9;
 /// Below this a status isn't a refusal.
 pub(crate) const FIRST_REFUSAL: u32 = 16;
 pub(crate) const BLOB_MISSING: u32 = 20;
+
+/// The bit of an effect: what a crash leaves may differ after the call.
+pub(crate) const CHANGES: u32 = 1;
+/// The tables of words: of the lines of a store, and of profiles.
+pub(crate) const KINDS: u32 = 0;
+pub(crate) const PROFILES: u32 = 3;
 
 /// Why a header region is refused. Any other status is `TRUNCATED`.
 pub(crate) const INVALID_MAGIC: u32 = 48;
@@ -45,11 +53,25 @@ pub(crate) struct ScriptRan {
 
 /// A typed call without its bytes.
 #[repr(C)]
+#[derive(Clone, Copy, Debug)]
 pub(crate) struct Asked {
     pub(crate) kind: u32,
     pub(crate) number: usize,
     pub(crate) first: u64,
     pub(crate) last: u64,
+}
+
+/// The supply of power of a session.
+#[repr(C)]
+pub struct PowerState {
+    status: u32,
+    pub(crate) is_off: bool,
+    /// The store has crashed while the power was off, and hasn't reopened.
+    pub(crate) has_crashed: bool,
+    pub(crate) is_counting: bool,
+    changes: u64,
+    /// If they are counted, how many more calls are made before the power goes off.
+    pub(crate) left: u64,
 }
 
 /// The numbers of a reply. Those that a reply doesn't have are 0.
@@ -64,7 +86,7 @@ pub(crate) struct TypedReply {
     pub(crate) size: u64,
 }
 
-/// The kinds of typed calls that this crate makes.
+/// The kinds of calls.
 #[derive(Clone, Copy, Debug, PartialEq, Eq)]
 #[repr(u32)]
 pub(crate) enum Kind {
@@ -79,6 +101,13 @@ pub(crate) enum Kind {
     Finish = 8,
     RemoveBlob = 9,
     RemovePartition = 10,
+    Scan = 11,
+    Crash = 12,
+    Reopen = 13,
+    Read = 14,
+    Write = 15,
+    WriteSync = 16,
+    Configure = 17,
 }
 
 /// A run of bytes of one write that a crash kept.
@@ -179,6 +208,28 @@ unsafe extern "C" {
         name: *const u8,
         name_len: usize,
     ) -> TypedReply;
+    pub(crate) fn blobcrash_last(session: *mut RawSession) -> TypedReply;
+    pub(crate) fn blobcrash_name(
+        session: *mut RawSession,
+        index: usize,
+        name: *mut u8,
+        capacity: usize,
+    ) -> Ran;
+    pub(crate) fn blobcrash_kept_run(session: *mut RawSession, row: usize, from: usize) -> KeptRun;
+    pub(crate) fn blobcrash_effect(kind: u32) -> u32;
+    pub(crate) fn blobcrash_word(table: u32, number: u32, into: *mut u8, capacity: usize) -> Ran;
+    pub(crate) fn blobcrash_line_of(
+        asked: *const Asked,
+        partition: *const u8,
+        partition_len: usize,
+        name: *const u8,
+        name_len: usize,
+        into: *mut u8,
+        capacity: usize,
+    ) -> Ran;
+    pub(crate) fn blobcrash_power_off_after(session: *mut RawSession, calls: u64) -> u32;
+    pub(crate) fn blobcrash_power_on(session: *mut RawSession) -> u32;
+    pub(crate) fn blobcrash_power(session: *mut RawSession) -> PowerState;
     pub(crate) fn blobcrash_words_left(session: *mut RawSession) -> Ran;
     pub(crate) fn blobcrash_push_words(
         session: *mut RawSession,
@@ -299,7 +350,12 @@ pub(crate) mod tests {
             ("BAD_LINE", BAD_LINE),
             ("NO_MEMORY", NO_MEMORY),
             ("NO_ROOM", NO_ROOM),
+            ("UNPRINTED", UNPRINTED),
             ("BAD_CALL", BAD_CALL),
+            ("POWER_LOSS", POWER_LOSS),
+            ("CHANGES", CHANGES),
+            ("W_KINDS", KINDS),
+            ("W_PROFILES", PROFILES),
             ("E_BLOB_MISSING", BLOB_MISSING),
             ("H_INVALID_MAGIC", INVALID_MAGIC),
             ("H_UNSUPPORTED_LAYOUT_VERSION", UNSUPPORTED_LAYOUT_VERSION),
@@ -329,6 +385,13 @@ pub(crate) mod tests {
             Kind::Finish,
             Kind::RemoveBlob,
             Kind::RemovePartition,
+            Kind::Scan,
+            Kind::Crash,
+            Kind::Reopen,
+            Kind::Read,
+            Kind::Write,
+            Kind::WriteSync,
+            Kind::Configure,
         ];
         for (at, kind) in kinds.into_iter().enumerate() {
             let name = upper(&format!("{kind:?}"));

@@ -1,5 +1,5 @@
 use crate::library::Session;
-use crate::limits::Limits;
+use crate::limits::{Limits, Recorded};
 use crate::script::first_word;
 use crate::shared::{Shared, State};
 use crate::{Error, Store};
@@ -31,12 +31,13 @@ impl Store {
     /// # }
     /// ```
     pub fn fork(&self) -> Result<Store, Error> {
-        let state = self.shared.lock();
+        let mut state = self.shared.lock();
+        let power = state.session.power();
         let refused = |text: &str| Error::Argument(text.to_owned());
         let Some(script) = &state.session.script else {
             return Err(refused("a store without a script can't be forked"));
         };
-        if !state.limits.permit_all() {
+        if power.is_off || power.is_counting || state.limits.choices.is_some() {
             let text = "a store of an explored run, or with a limited power, can't be forked";
             return Err(refused(text));
         }

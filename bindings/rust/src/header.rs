@@ -11,9 +11,9 @@
 //! assert_eq!(resolved, Ok(Some((4, version, 4096))));
 //! ```
 use crate::Error;
-use crate::foreign::{self, Accepts};
+use crate::foreign::{self, Accepts, Kind};
 use crate::library::{self, Session};
-use crate::script::{hex, image_line, number};
+use crate::script::{hex, image_line};
 use crate::storage::BlobVersion;
 use std::fmt;
 use std::ops::RangeInclusive;
@@ -374,13 +374,8 @@ fn found(image: &[u8]) -> Result<Option<(u64, BlobVersion)>, Error> {
 /// Opens an image for the versions up to the last one. Returns its size and version.
 fn opened(image: &[u8], last: u16) -> Result<(u64, u16), Error> {
     let mut session = Session::open(&image_line("image", b"blob", image)?)?;
-    let reply = session.call(&format!("loose image {} 0 {last}", hex(b"blob")))?;
-    let mut words = reply.split(' ');
-    let found = match (words.next(), words.nth(1), words.next()) {
-        (Some("opened"), size, version) => number(size).zip(number(version)),
-        _ => None,
-    };
-    found.ok_or_else(|| Error::of(reply))
+    let reply = session.by_name(Kind::OpenLoose, "image", b"blob", [0, last])?;
+    Ok((reply.size, reply.version as u16))
 }
 
 /// The CRC32C of bytes.

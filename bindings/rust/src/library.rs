@@ -1,10 +1,10 @@
 //! Safe functions over those of the library. No other file calls an `unsafe` function.
-use crate::Error;
 use crate::debt_calls::{DebtCall, DebtReply};
 use crate::foreign::*;
 use crate::limits::Recorded;
-use crate::script::{Script, unhex};
-use std::ptr;
+use crate::script::{Script, first_word};
+use crate::{Error, Selections};
+use std::{mem, ptr};
 
 /// An open session of the library, which is closed when it is dropped.
 ///
@@ -15,6 +15,8 @@ pub(crate) struct Session {
     reply: Vec<u8>,
     /// The calls that were made, if they are recorded.
     pub(crate) script: Option<Script>,
+    /// Whether a call wasn't made since the power went off.
+    has_lost: bool,
 }
 
 // SAFETY: nothing of a session belongs to a thread. The library has no thread-local data and no global data that changes, and its
@@ -34,6 +36,7 @@ impl Session {
             },
             reply: vec![0; 256],
             script: None,
+            has_lost: false,
         };
         // SAFETY: the session is all zeros, and the text is borrowed for the call.
         let ran = unsafe { blobcrash_open(&mut session.raw, preamble.as_ptr(), preamble.len()) };
@@ -66,7 +69,7 @@ impl Session {
         std::str::from_utf8(&self.reply[..len]).expect("replies to UTF-8 lines are UTF-8")
     }
 
-    /// Makes a typed call through a handle or a started sync.
+    /// Makes a typed call through a handle or a started sync, or one of the whole store.
     #[inline(always)]
     pub(crate) fn by_number(
         &mut self,
@@ -74,11 +77,7 @@ impl Session {
         number: usize,
         len: u64,
     ) -> Result<TypedReply, Error> {
-        let reply = self.applied(kind, number, [len, 0], "", b"");
-        if self.script.is_some() && is_applied(reply.status) {
-            self.record(|script| script.push_numbered(kind, number, len));
-        }
-        self.taken(reply)
+        self.applied(kind, number, [len, 0], "", b"")
     }
 
     /// Makes a typed call of a partition and a name, with the versions that an open accepts.
@@ -90,15 +89,13 @@ impl Session {
         versions: [u16; 2],
     ) -> Result<TypedReply, Error> {
         let reply = self.applied(kind, 0, versions.map(u64::from), partition, name);
-        if self.script.is_some() && is_applied(reply.status) {
-            self.record(|script| script.push_named(kind, partition, name, versions));
-        }
-        self.taken(reply).map_err(|error| match error {
+        reply.map_err(|error| match error {
             Error::PartitionNameInvalid(_) => Error::PartitionNameInvalid(partition.to_owned()),
             other => other,
         })
     }
 
+    /// Makes a typed call. Returns the numbers of its reply, or the refusal.
     #[inline(always)]
     fn applied(
         &mut self,
@@ -107,7 +104,7 @@ impl Session {
         [first, last]: [u64; 2],
         partition: &str,
         name: &[u8],
-    ) -> TypedReply {
+    ) -> Result<TypedReply, Error> {
         let asked = Asked {
             kind: kind as u32,
             number,
@@ -115,32 +112,45 @@ impl Session {
             last,
         };
         let (of, of_len) = (partition.as_ptr(), partition.len());
+        let raw = &mut self.raw;
         // SAFETY: as for `call`; the numbers and the names are borrowed for the call.
-        unsafe {
-            let raw = &mut self.raw;
-            blobcrash_apply(raw, &asked, of, of_len, name.as_ptr(), name.len())
-        }
+        let reply = unsafe { blobcrash_apply(raw, &asked, of, of_len, name.as_ptr(), name.len()) };
+        self.took(reply.status, asked, partition, name)?;
+        Ok(reply)
     }
 
-    /// Returns the numbers of a reply, or the refusal.
+    /// Records a typed call that was made. Returns its refusal.
     #[inline(always)]
-    fn taken(&mut self, reply: TypedReply) -> Result<TypedReply, Error> {
-        if reply.status == DONE {
-            return Ok(reply);
+    fn took(&mut self, status: u32, asked: Asked, of: &str, name: &[u8]) -> Result<(), Error> {
+        if self.script.is_some() && (status == DONE || status >= FIRST_REFUSAL) {
+            self.record(|script| script.push(asked, of.as_bytes(), name));
         }
-        Err(self.refusal(reply.status))
+        if status == DONE {
+            return Ok(());
+        }
+        Err(self.refusal(status))
     }
 
     #[cold]
     fn refusal(&mut self, status: u32) -> Error {
-        if status < FIRST_REFUSAL {
-            return Error::OutOfMemory;
+        if status == POWER_LOSS {
+            return self.lost_power();
         }
         let unread = Ran {
             status: NO_ROOM,
             len: 0,
         };
-        self.told(unread).map_or_else(|e| e, Error::of)
+        self.told(unread)
+            .map_or_else(|e| e, |reply| Error::of(status, reply))
+    }
+
+    /// Notes the first call that isn't made since the power is off.
+    #[cold]
+    fn lost_power(&mut self) -> Error {
+        if !mem::replace(&mut self.has_lost, true) && !self.power().has_crashed {
+            self.note("power loss");
+        }
+        Error::PowerLoss
     }
 
     #[cold]
@@ -148,6 +158,13 @@ impl Session {
         if let Some(script) = &mut self.script {
             push(script);
         }
+    }
+
+    /// Returns the refusal of the last call, whose reply line has this many bytes. `None` if it was done.
+    pub(crate) fn last_refusal(&mut self, len: usize) -> Option<Error> {
+        // SAFETY: as for `call`.
+        let status = unsafe { blobcrash_last(&mut self.raw) }.status;
+        (status != DONE).then(|| Error::of(status, self.text(len)))
     }
 
     /// Makes the call of a line and records nothing.
@@ -158,6 +175,7 @@ impl Session {
         match ran.status {
             BAD_LINE => Err(Error::BadLine(line.to_owned())),
             NO_MEMORY => Err(Error::OutOfMemory),
+            POWER_LOSS => Err(self.lost_power()),
             _ => Ok(ran),
         }
     }
@@ -174,10 +192,8 @@ impl Session {
         let (at, len) = (bytes.as_ptr(), bytes.len());
         // SAFETY: as for `call`; the bytes are borrowed for the call.
         let status = unsafe { blobcrash_write(&mut self.raw, handle, offset, at, len, sync) };
-        if self.script.is_some() && is_applied(status) {
-            self.record(|script| script.push_write(handle, offset, bytes, sync));
-        }
-        self.done(status)
+        let kind = if sync { Kind::WriteSync } else { Kind::Write };
+        self.took(status, moved(kind, handle, offset, 0), "", bytes)
     }
 
     /// Returns `len` bytes that are read through a handle. Doesn't allocate for a length that the blob doesn't have.
@@ -188,10 +204,9 @@ impl Session {
         len: usize,
     ) -> Result<Vec<u8>, Error> {
         if len > SMALL && !self.has(handle, offset, len) {
-            let line = format!("read {handle} {offset} {len}");
-            let reply = self.call(&line)?;
-            let bytes = reply.strip_prefix("bytes ").and_then(unhex);
-            return bytes.ok_or_else(|| Error::of(reply));
+            let line = line_of(&moved(Kind::Read, handle, offset, len), b"", b"");
+            let len = self.call(&line)?.len();
+            return Err(self.last_refusal(len).unwrap_or(Error::OutOfMemory));
         }
         let mut bytes = Vec::new();
         bytes
@@ -204,9 +219,9 @@ impl Session {
 
     /// Returns whether a blob has bytes up to the end of a range, by the size that the handle tracks.
     fn has(&mut self, handle: usize, offset: u64, len: usize) -> bool {
-        let reply = self.applied(Kind::Size, handle, [0, 0], "", b"");
         let end = offset.checked_add(len as u64);
-        reply.status == DONE && end.is_some_and(|end| end <= reply.size)
+        let size = self.tracked_size(handle);
+        end.zip(size).is_some_and(|(end, size)| end <= size)
     }
 
     /// Fills `into` with bytes that are read through a handle.
@@ -220,10 +235,7 @@ impl Session {
         let (at, len) = (into.as_mut_ptr(), into.len());
         // SAFETY: as for `call`; the buffer is borrowed for the call.
         let status = unsafe { blobcrash_read(&mut self.raw, handle, offset, at, len) };
-        if self.script.is_some() && is_applied(status) {
-            self.record(|script| script.push_read(handle, offset, len));
-        }
-        self.done(status)
+        self.took(status, moved(Kind::Read, handle, offset, len), "", b"")
     }
 
     /// Inserts words before those that the generator gives next.
@@ -262,28 +274,35 @@ impl Session {
             name.as_ptr(),
             name.len(),
         );
-        let mut bytes = vec![0; SMALL];
-        loop {
-            let (at, capacity) = (bytes.as_mut_ptr(), bytes.len());
-            let raw = &mut self.raw;
-            // SAFETY: as for `call`; the texts and the buffer are borrowed for the call, and don't overlap.
-            let ran = unsafe {
-                blobcrash_durable_blob(raw, of, of_len, named, named_len, with_header, at, capacity)
-            };
-            match ran.status {
-                NO_ROOM => {
-                    let reserved = bytes.try_reserve_exact(ran.len - capacity);
-                    reserved.map_err(|_| Error::OutOfMemory)?;
-                    bytes.resize(ran.len, 0);
-                }
-                DONE => {
-                    bytes.truncate(ran.len);
-                    return Ok(Some(bytes));
-                }
-                BLOB_MISSING => return Ok(None),
-                _ => return Err(Error::OutOfMemory),
-            }
+        let raw = &mut self.raw;
+        // SAFETY: as for `call`; the texts and the buffer are borrowed for the call, and don't overlap.
+        let copied = copied(SMALL, |at, capacity| unsafe {
+            blobcrash_durable_blob(raw, of, of_len, named, named_len, with_header, at, capacity)
+        });
+        match copied {
+            Ok(bytes) => Ok(Some(bytes)),
+            Err(BLOB_MISSING) => Ok(None),
+            Err(_) => Err(Error::OutOfMemory),
         }
+    }
+
+    /// Returns the name with an index in the last reply, that of a scan.
+    pub(crate) fn name(&mut self, index: usize) -> Result<Vec<u8>, Error> {
+        let raw = &mut self.raw;
+        // SAFETY: as for `call`; the buffer is borrowed for the call.
+        let copied = copied(256, |at, room| unsafe {
+            blobcrash_name(raw, index, at, room)
+        });
+        copied.map_err(|status| Error::of(status, ""))
+    }
+
+    /// Returns what a crash with this many rows, the last call, kept of each write.
+    pub(crate) fn kept(&mut self, rows: u64) -> Selections {
+        let raw = &mut self.raw;
+        // SAFETY: as for `call`.
+        selections(rows, |row, from| unsafe {
+            blobcrash_kept_run(raw, row, from)
+        })
     }
 
     /// Returns the digest of all durable blobs.
@@ -296,15 +315,6 @@ impl Session {
             "an open session has a digest of four bytes"
         );
         digest
-    }
-
-    /// Returns the result of a read or a write.
-    #[inline(always)]
-    fn done(&mut self, status: u32) -> Result<(), Error> {
-        if status == DONE {
-            return Ok(());
-        }
-        Err(self.refusal(status))
     }
 
     /// Returns the reply line of a call that was made. Grows the buffer if the reply doesn't fit.
@@ -340,11 +350,108 @@ impl Recorded for Session {
             }
         }
     }
+
+    fn power(&mut self) -> PowerState {
+        // SAFETY: as for `call`.
+        unsafe { blobcrash_power(&mut self.raw) }
+    }
+
+    fn set_power(&mut self, calls: Option<u64>) {
+        self.has_lost = false;
+        // SAFETY: as for `call`.
+        unsafe {
+            blobcrash_power_on(&mut self.raw);
+            if let Some(calls) = calls {
+                blobcrash_power_off_after(&mut self.raw, calls);
+            }
+        }
+    }
+
+    fn has_lost(&self) -> bool {
+        self.has_lost
+    }
 }
 
-/// Returns whether a typed call with this status was made.
-fn is_applied(status: u32) -> bool {
-    status == DONE || status >= FIRST_REFUSAL
+/// A read or a write.
+fn moved(kind: Kind, handle: usize, offset: u64, len: usize) -> Asked {
+    Asked {
+        kind: kind as u32,
+        number: handle,
+        first: offset,
+        last: len as u64,
+    }
+}
+
+/// Returns what a function of the library copies to a buffer, or the status for which it doesn't. `capacity` is tried first.
+pub(crate) fn copied(
+    capacity: usize,
+    mut copy: impl FnMut(*mut u8, usize) -> Ran,
+) -> Result<Vec<u8>, u32> {
+    let mut bytes = vec![0; capacity];
+    loop {
+        let ran = copy(bytes.as_mut_ptr(), bytes.len());
+        match ran.status {
+            DONE => {
+                bytes.truncate(ran.len);
+                return Ok(bytes);
+            }
+            NO_ROOM => {
+                let more = ran.len.saturating_sub(bytes.len());
+                bytes.try_reserve_exact(more).map_err(|_| NO_MEMORY)?;
+                bytes.resize(ran.len, 0);
+            }
+            other => return Err(other),
+        }
+    }
+}
+
+/// Returns what a function of the library copies to a buffer, a text; an empty one if there is none.
+pub(crate) fn text_of(capacity: usize, copy: impl FnMut(*mut u8, usize) -> Ran) -> String {
+    let text = copied(capacity, copy).unwrap_or_default();
+    String::from_utf8(text).expect("the library's texts are UTF-8")
+}
+
+/// Returns the line of a call.
+pub(crate) fn line_of(asked: &Asked, partition: &[u8], name: &[u8]) -> String {
+    let (of, of_len) = (partition.as_ptr(), partition.len());
+    // SAFETY: the call, the names and the buffer are borrowed for the call, and don't overlap.
+    text_of(96 + of_len + 2 * name.len(), |at, room| unsafe {
+        blobcrash_line_of(asked, of, of_len, name.as_ptr(), name.len(), at, room)
+    })
+}
+
+/// Returns whether what a crash leaves may differ after a call of a kind.
+pub(crate) fn changes(kind: u32) -> bool {
+    // SAFETY: the function takes a number.
+    unsafe { blobcrash_effect(kind) & CHANGES != 0 }
+}
+
+/// Returns the word of a number in a table, or an empty text.
+pub(crate) fn word(table: u32, number: u32) -> String {
+    // SAFETY: the buffer is borrowed for the call.
+    text_of(16, |at, room| unsafe { blobcrash_word(table, number, at, room) })
+}
+
+/// Returns the kind of a line's call. Of a line that is none it is that of a setting.
+pub(crate) fn kind_of(line: &str) -> u32 {
+    let (first, last) = (first_word(line), Kind::Configure as u32);
+    let found = (0..last).find(|kind| word(KINDS, *kind) == first);
+    found.unwrap_or(last)
+}
+
+/// Returns the choices of a crash's rows, each by its runs of kept bytes at or after an index.
+pub(crate) fn selections(rows: u64, mut run: impl FnMut(usize, usize) -> KeptRun) -> Selections {
+    let mut row = |row| {
+        let mut found = run(row, 0);
+        let (write, mut kept) = (found.write, vec![false; found.bytes]);
+        while found.status == DONE && found.len > 0 {
+            let end = found.start.saturating_add(found.len).min(kept.len());
+            kept[found.start.min(end)..end].fill(true);
+            found = run(row, end);
+        }
+        (write, kept)
+    };
+    (0..rows as usize).map(&mut row).collect()
 }
 
 impl Drop for Session {

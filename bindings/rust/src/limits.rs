@@ -1,8 +1,8 @@
-//! What may stop the calls of a run: its power, and the choices of an exploration. Stores and files have the same.
+//! What may stop the calls of a run: the power of its session, and the choices of an exploration. Stores and files have the same.
 use crate::Error;
 use crate::choices::{Choices, too_long};
+use crate::foreign::PowerState;
 use crate::paths::Kind;
-use crate::power::{Effect, Power};
 use crate::unsynced::Unsynced;
 
 /// A session of the library that draws words and records its calls.
@@ -12,6 +12,30 @@ pub trait Recorded {
 
     /// Adds a comment to the record of the calls, a line for each of the text's.
     fn note(&mut self, text: &str);
+
+    /// Returns the supply of power.
+    fn power(&mut self) -> PowerState;
+
+    /// Turns the power on. With a number it goes off after as many calls that may change what a crash leaves.
+    fn set_power(&mut self, calls: Option<u64>);
+
+    /// Returns whether a call wasn't made since the power was set.
+    fn has_lost(&self) -> bool;
+}
+
+/// Returns whether the power is off. It isn't yet if no call has found it off, and no crash.
+pub(crate) fn is_power_off(session: &mut impl Recorded) -> bool {
+    let power = session.power();
+    power.is_off && (power.has_crashed || session.has_lost())
+}
+
+/// Turns the power off after this number of calls that may change something. Returns `PowerLoss` if it is off.
+pub(crate) fn cut_after(session: &mut impl Recorded, calls: u64) -> Result<(), Error> {
+    if is_power_off(session) {
+        return Err(Error::PowerLoss);
+    }
+    session.set_power(Some(calls));
+    Ok(())
 }
 
 /// What has limits: a store or files.
@@ -25,10 +49,9 @@ pub trait Limited {
     fn record(&self) -> String;
 }
 
-/// The power and the choices of a run.
+/// The choices of a run.
 #[derive(Debug, Default)]
 pub struct Limits {
-    pub(crate) power: Power,
     /// The choices of an explored run.
     pub(crate) choices: Option<Choices>,
     /// The state of the generator from which a run with a seed chooses.
@@ -59,11 +82,6 @@ impl Limits {
         self.choices.is_some() || self.chooser.is_some()
     }
 
-    /// Whether neither the power nor the choices can stop a call.
-    pub(crate) fn permit_all(&self) -> bool {
-        !self.power.is_limited() && self.choices.is_none()
-    }
-
     /// Counts a call of an explored run, or a use that is refused without one. If there are too many, unwinds to the exploration: no error
     /// would end a loop that retries. While a panic unwinds already, returns `PowerLoss`.
     pub(crate) fn count_call(&mut self) -> Result<(), Error> {
@@ -74,34 +92,16 @@ impl Limits {
         Ok(())
     }
 
-    /// Returns `PowerLoss` if the power is off, or goes off now.
-    pub(crate) fn permit(
-        &mut self,
-        effect: Effect,
-        session: &mut dyn Recorded,
-    ) -> Result<(), Error> {
-        if self.power.permits(effect) {
-            return Ok(());
-        }
-        if self.power.is_off() {
-            return Err(Error::PowerLoss);
-        }
-        if self.power.is_used_up() || (effect == Effect::Changes && self.power_fails(session)) {
-            self.power.turn_off();
-            session.note("power loss");
-            return Err(Error::PowerLoss);
-        }
-        self.power.count(effect);
-        Ok(())
-    }
-
-    /// Whether the path of an explored run turns the power off now.
-    fn power_fails(&mut self, session: &mut dyn Recorded) -> bool {
-        if !self.choices.as_ref().is_some_and(Choices::has_losses) {
-            return false;
+    /// Turns the power off before a call that may change what a crash leaves, if the path of an explored run does so.
+    pub(crate) fn permit(&mut self, session: &mut dyn Recorded, changes: impl FnOnce() -> bool) {
+        let has_losses = self.choices.as_ref().is_some_and(Choices::has_losses);
+        if !has_losses || session.power().is_off || !changes() {
+            return;
         }
         self.count_draws(session);
-        self.choices.as_mut().is_some_and(Choices::power_fails)
+        if self.choices.as_mut().is_some_and(Choices::power_fails) {
+            session.set_power(Some(0));
+        }
     }
 
     /// Counts the draws that an explored run has made.

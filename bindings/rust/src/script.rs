@@ -2,22 +2,9 @@
 //!
 //! No text of a caller is put into a line before it is known to be one token of its kind.
 use crate::Error;
-use crate::foreign::Kind;
+use crate::foreign::{Asked, Kind};
+use crate::library::line_of;
 use std::fmt::Write;
-use std::str::FromStr;
-
-/// One token that is no partition name, so that a call with it makes the draw and gets the refusal of every such name.
-const NO_NAME: &str = "!";
-
-/// The token of a partition. For a text that is no partition name it is one that is refused as that name is.
-pub(crate) fn partition_word(partition: &str) -> &str {
-    let is_part = |byte: u8| byte.is_ascii_alphanumeric() || byte == b'-' || byte == b'_';
-    if !partition.is_empty() && partition.bytes().all(is_part) {
-        partition
-    } else {
-        NO_NAME
-    }
-}
 
 /// The line of a raw blob. Its partition may be no partition name, but it must be one token.
 pub(crate) fn image_line(partition: &str, name: &[u8], raw: &[u8]) -> Result<String, Error> {
@@ -46,9 +33,10 @@ pub(crate) fn one_line(line: &str) -> Result<(), Error> {
 }
 
 pub(crate) fn hex(bytes: &[u8]) -> String {
-    let mut text = String::with_capacity(2 * bytes.len());
-    push_hex(&mut text, bytes);
-    text
+    if bytes.is_empty() {
+        return "-".to_owned();
+    }
+    bytes.iter().map(|byte| format!("{byte:02x}")).collect()
 }
 
 pub(crate) fn unhex(word: &str) -> Option<Vec<u8>> {
@@ -75,43 +63,6 @@ pub(crate) fn first_word(line: &str) -> &str {
     }
 }
 
-/// The number that a word of a reply is.
-pub(crate) fn number<N: FromStr>(word: Option<&str>) -> Option<N> {
-    word?.parse().ok()
-}
-
-/// A row of a crash: a number, a colon and the choices, as `3:0110`.
-pub(crate) fn selection(word: &str) -> Option<(u64, Vec<bool>)> {
-    let (write, choices) = word.split_once(':')?;
-    let kept = choices.bytes().map(|choice| choice == b'1').collect();
-    Some((number(Some(write))?, kept))
-}
-
-pub(crate) fn push_hex(text: &mut String, bytes: &[u8]) {
-    if bytes.is_empty() {
-        text.push('-');
-    }
-    for byte in bytes {
-        let _ = write!(text, "{byte:02x}");
-    }
-}
-
-/// The first word of a typed call's line.
-fn word_of(kind: Kind) -> &'static str {
-    match kind {
-        Kind::Open => "open",
-        Kind::OpenLoose => "loose",
-        Kind::Admit => "admit",
-        Kind::Close => "close",
-        Kind::Resize => "resize",
-        Kind::Size => "size",
-        Kind::Sync => "sync",
-        Kind::StartSync => "startsync",
-        Kind::Finish => "finish",
-        Kind::RemoveBlob | Kind::RemovePartition => "remove",
-    }
-}
-
 /// The calls that were made, as lines of a script.
 #[derive(Clone, Debug, Default)]
 pub(crate) struct Script {
@@ -120,28 +71,18 @@ pub(crate) struct Script {
     /// The words after those, the next one last: so a push costs the same however many words weren't taken.
     ahead: Vec<u64>,
     calls: Vec<Call>,
-    /// The bytes of all writes, one after another.
-    written: Vec<u8>,
+    /// The partitions and the names, or the bytes of writes, of all typed calls, one after another.
+    bytes: Vec<u8>,
 }
 
 #[derive(Clone, Debug)]
 enum Call {
     Line(String),
-    Numbered {
-        kind: Kind,
-        number: usize,
-        len: u64,
-    },
-    Read {
-        handle: usize,
-        offset: u64,
-        len: usize,
-    },
-    Write {
-        handle: usize,
-        offset: u64,
-        len: usize,
-        sync: bool,
+    Typed {
+        asked: Asked,
+        /// How many bytes its partition and its name have.
+        partition: usize,
+        name: usize,
     },
 }
 
@@ -165,46 +106,15 @@ impl Script {
         self.calls.push(Call::Line(line.to_owned()));
     }
 
-    /// Adds a call through a handle or a started sync.
-    pub(crate) fn push_numbered(&mut self, kind: Kind, number: usize, len: u64) {
-        self.calls.push(Call::Numbered { kind, number, len });
-    }
-
-    /// Adds a call of a partition and a name.
-    pub(crate) fn push_named(
-        &mut self,
-        kind: Kind,
-        partition: &str,
-        name: &[u8],
-        [first, last]: [u16; 2],
-    ) {
-        let mut line = format!("{} {}", word_of(kind), partition_word(partition));
-        if kind != Kind::RemovePartition {
-            line.push(' ');
-            push_hex(&mut line, name);
-        }
-        if kind == Kind::Open || kind == Kind::OpenLoose {
-            let _ = write!(line, " {first} {last}");
-        }
-        self.calls.push(Call::Line(line));
-    }
-
-    pub(crate) fn push_read(&mut self, handle: usize, offset: u64, len: usize) {
-        self.calls.push(Call::Read {
-            handle,
-            offset,
-            len,
-        });
-    }
-
-    pub(crate) fn push_write(&mut self, handle: usize, offset: u64, bytes: &[u8], sync: bool) {
-        self.written.extend_from_slice(bytes);
-        let len = bytes.len();
-        self.calls.push(Call::Write {
-            handle,
-            offset,
-            len,
-            sync,
+    /// Adds a typed call. The bytes of a write are its name.
+    pub(crate) fn push(&mut self, asked: Asked, partition: &[u8], name: &[u8]) {
+        self.bytes.extend_from_slice(partition);
+        self.bytes.extend_from_slice(name);
+        let (partition, name) = (partition.len(), name.len());
+        self.calls.push(Call::Typed {
+            asked,
+            partition,
+            name,
         });
     }
 
@@ -220,34 +130,23 @@ impl Script {
                 .collect();
             text = words_line(&words) + "\n";
         }
-        let mut written = self.written.as_slice();
+        let mut bytes = self.bytes.as_slice();
         for call in &self.calls {
             match call {
                 Call::Line(line) => text.push_str(line),
-                Call::Numbered { kind, number, len } => {
-                    let _ = write!(text, "{} {number}", word_of(*kind));
-                    if *kind == Kind::Resize {
-                        let _ = write!(text, " {len}");
+                Call::Typed {
+                    asked,
+                    partition,
+                    name,
+                } => {
+                    let (of, rest) = bytes.split_at(*partition);
+                    let (named, rest) = rest.split_at(*name);
+                    text.push_str(&line_of(asked, of, named));
+                    // The library leaves these out, since an open without versions accepts 0 alone.
+                    if asked.kind <= Kind::OpenLoose as u32 && (asked.first, asked.last) == (0, 0) {
+                        text.push_str(" 0 0");
                     }
-                }
-                Call::Read {
-                    handle,
-                    offset,
-                    len,
-                } => {
-                    let _ = write!(text, "read {handle} {offset} {len}");
-                }
-                Call::Write {
-                    handle,
-                    offset,
-                    len,
-                    sync,
-                } => {
-                    let word = if *sync { "writes" } else { "write" };
-                    let (bytes, rest) = written.split_at(*len);
-                    let _ = write!(text, "{word} {handle} {offset} ");
-                    push_hex(&mut text, bytes);
-                    written = rest;
+                    bytes = rest;
                 }
             }
             text.push('\n');

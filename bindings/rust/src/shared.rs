@@ -1,14 +1,12 @@
 //! What a store shares with its clones, its blobs and its started syncs: one session, which a lock protects.
 use crate::foreign::{Kind, TypedReply};
-use crate::library::Session;
-use crate::limits::Limits;
-use crate::power::Effect;
+use crate::library::{Session, changes, kind_of};
+use crate::limits::{Limits, Recorded};
 use crate::script::{tokens, unhex};
 use crate::storage::BlobVersion;
 use crate::{Config, Error};
 use std::collections::BTreeMap;
 use std::hash::{DefaultHasher, Hash, Hasher};
-use std::str::Split;
 use std::sync::atomic::{AtomicBool, Ordering};
 use std::sync::{Arc, Mutex, MutexGuard, OnceLock, PoisonError};
 
@@ -33,7 +31,7 @@ pub(crate) struct State {
     /// Whether the session's settings aren't `config`: setting them was cut short.
     is_unset: bool,
     pub(crate) limits: Limits,
-    /// Whether no call can be refused by the settings or the limits: `permit` then has nothing to do.
+    /// Whether nothing is to be done before a call.
     permits_all: bool,
 }
 
@@ -126,35 +124,24 @@ impl State {
             reopens: 0,
             config,
             is_unset: false,
-            permits_all: limits.permit_all(),
+            permits_all: limits.choices.is_none(),
             limits,
         }
     }
 
-    /// Turns the power off after this number of calls that may change something.
-    pub(crate) fn cut_after(&mut self, calls: u64) -> Result<(), Error> {
-        self.limits.power.cut_after(calls)?;
-        self.follow_limits();
-        Ok(())
-    }
-
-    fn follow_limits(&mut self) {
-        self.permits_all = !self.is_unset && self.limits.permit_all();
+    fn follow_settings(&mut self) {
+        self.permits_all = !self.is_unset && self.limits.choices.is_none();
     }
 
     /// Makes the call of a line, and returns its reply line, of a refused call too.
     pub(crate) fn call(&mut self, line: &str) -> Result<&str, Error> {
-        let effect = Effect::of(line);
-        self.permit(effect)?;
+        if !self.permits_all {
+            self.permit_limited(kind_of(line))?;
+        }
         let resize = self.resize_of(line);
         let len = self.session.call(line)?.len();
         self.count_size(resize);
-        let reply = self.session.text(len);
-        if !reply.starts_with("error ") {
-            self.limits.power.follow(effect);
-            self.permits_all = !self.is_unset && self.limits.permit_all();
-        }
-        Ok(reply)
+        Ok(self.session.text(len))
     }
 
     /// Makes a typed call through a handle or a started sync.
@@ -165,7 +152,7 @@ impl State {
         number: usize,
         len: u64,
     ) -> Result<TypedReply, Error> {
-        self.permit(Effect::of_kind(kind))?;
+        self.permit(kind)?;
         if kind != Kind::Resize || self.limits.choices.is_none() {
             return self.session.by_number(kind, number, len);
         }
@@ -212,43 +199,28 @@ impl State {
         name: &[u8],
         versions: [u16; 2],
     ) -> Result<TypedReply, Error> {
-        self.permit(Effect::of_kind(kind))?;
+        self.permit(kind)?;
         self.session.by_name(kind, partition, name, versions)
     }
 
-    /// Makes the call of a line, and takes what it returns from the words of its reply.
-    pub(crate) fn asked<T>(
-        &mut self,
-        line: &str,
-        read: impl FnOnce(Split<'_, char>) -> Option<T>,
-    ) -> Result<T, Error> {
-        let reply = self.call(line)?;
-        if reply.starts_with("error ") {
-            return Err(Error::of(reply));
-        }
-        read(reply.split(' ')).ok_or_else(|| Error::Unknown(reply.to_owned()))
-    }
-
-    pub(crate) fn done(&mut self, line: &str) -> Result<(), Error> {
-        self.asked(line, |_| Some(()))
-    }
-
-    /// Returns `PowerLoss` if a call may not be made, and `OutOfMemory` if the settings aren't complete.
+    /// Does what precedes a call: sets the settings if they aren't complete, which may return `OutOfMemory`, and follows the path of an
+    /// explored run.
     #[inline(always)]
-    pub(crate) fn permit(&mut self, effect: Effect) -> Result<(), Error> {
+    pub(crate) fn permit(&mut self, kind: Kind) -> Result<(), Error> {
         if self.permits_all {
             return Ok(());
         }
-        self.permit_limited(effect)
+        self.permit_limited(kind as u32)
     }
 
     #[cold]
-    fn permit_limited(&mut self, effect: Effect) -> Result<(), Error> {
+    fn permit_limited(&mut self, kind: u32) -> Result<(), Error> {
         self.limits.count_call()?;
-        if self.is_unset && effect != Effect::Nothing {
+        if self.is_unset && kind != Kind::Configure as u32 {
             self.set(self.config)?;
         }
-        self.limits.permit(effect, &mut self.session)
+        self.limits.permit(&mut self.session, || changes(kind));
+        Ok(())
     }
 
     /// Replaces the settings, or leaves the earlier ones. If these can't be set again, the next call that the store makes sets them
@@ -265,15 +237,15 @@ impl State {
 
     fn set(&mut self, config: Config) -> Result<(), Error> {
         self.is_unset = true;
-        self.follow_limits();
-        self.done("config clear")?;
+        self.follow_settings();
+        self.call("config clear")?;
         for line in config.lines() {
-            self.done(&line)?;
+            self.call(&line)?;
         }
         self.config = config;
         self.limits.unsynced.set(&config);
         self.is_unset = false;
-        self.follow_limits();
+        self.follow_settings();
         Ok(())
     }
 
@@ -281,8 +253,24 @@ impl State {
         self.config
     }
 
-    /// Removes a blob, if there is one, and makes it again with this version and these bytes, which are durable. The power isn't asked.
+    /// Removes a blob, if there is one, and makes it again with this version and these bytes, which are durable. The power is on meanwhile.
     pub(crate) fn replace_blob(
+        &mut self,
+        partition: &str,
+        name: &[u8],
+        version: BlobVersion,
+        bytes: &[u8],
+    ) -> Result<(), Error> {
+        let power = self.session.power();
+        self.session.set_power(None);
+        let replaced = self.replace_powered(partition, name, version, bytes);
+        let calls = if power.is_off { 0 } else { power.left };
+        let is_limited = power.is_off || power.is_counting;
+        self.session.set_power(is_limited.then_some(calls));
+        replaced
+    }
+
+    fn replace_powered(
         &mut self,
         partition: &str,
         name: &[u8],
@@ -391,6 +379,7 @@ impl State {
 
 #[cfg(test)]
 mod tests {
+    use crate::foreign::Kind;
     use crate::{Config, Error, Probability, Store};
 
     #[test]
@@ -399,8 +388,9 @@ mod tests {
         let mut state = store.shared.lock();
         state.config = Config::default().scan(Probability::ONE);
         state.is_unset = true;
-        state.follow_limits();
-        assert_eq!(state.done("scan p"), Err(Error::Injected));
+        state.follow_settings();
+        let scanned = state.by_name(Kind::Scan, "p", b"", [0, 0]);
+        assert_eq!(scanned.err(), Some(Error::Injected));
         assert!(!state.is_unset);
     }
 }

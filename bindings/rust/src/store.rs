@@ -1,10 +1,9 @@
 use crate::foreign::Kind;
 use crate::limits::Recorded;
-use crate::script::{one_line, partition_word, selection, unhex};
+use crate::script::one_line;
 use crate::shared::{Opened, Shared, State};
 use crate::{Blob, Builder, Config, Error};
 use std::ops::RangeInclusive;
-use std::str::Split;
 use std::sync::Arc;
 
 /// What a crash chose: for each write with draws its number and, byte by byte, whether it was kept.
@@ -182,11 +181,10 @@ impl Store {
     /// # }
     /// ```
     pub fn scan(&self, partition: &str) -> Result<Vec<Vec<u8>>, Error> {
-        let line = format!("scan {}", partition_word(partition));
         let mut state = self.shared.lock();
-        of_partition(&mut state, partition, &line, |words| {
-            words.skip(1).map(unhex).collect()
-        })
+        let names = state.by_name(Kind::Scan, partition, b"", [0, 0])?.size;
+        let names = 0..names as usize;
+        names.map(|index| state.session.name(index)).collect()
     }
 
     /// Loses what isn't durable, except what the draws keep, and returns the draws. Every handle is then stale. Fails only with
@@ -358,28 +356,14 @@ impl Store {
 }
 
 fn crash(state: &mut State) -> Result<Selections, Error> {
-    let selections = state.asked("crash", |words| {
-        words.skip(1).map(selection).collect::<Option<Selections>>()
-    })?;
+    let rows = state.by_number(Kind::Crash, 0, 0)?.size;
+    let selections = state.session.kept(rows);
     state.has_crashed();
     Ok(selections)
 }
 
 fn reopen(state: &mut State) -> Result<(), Error> {
-    state.done("reopen")?;
+    state.by_number(Kind::Reopen, 0, 0)?;
     state.was_reopened();
     Ok(())
-}
-
-/// Makes a call that names a partition. The refusal of its name has the caller's text.
-fn of_partition<T>(
-    state: &mut State,
-    partition: &str,
-    line: &str,
-    read: impl FnOnce(Split<'_, char>) -> Option<T>,
-) -> Result<T, Error> {
-    state.asked(line, read).map_err(|error| match error {
-        Error::PartitionNameInvalid(_) => Error::PartitionNameInvalid(partition.to_owned()),
-        other => other,
-    })
 }

@@ -3,6 +3,8 @@ use super::library::Session;
 use super::record::Record;
 use super::state::{Shared, State};
 use crate::choices::Choices;
+use crate::foreign::PROFILES;
+use crate::library::word;
 use crate::limits::Limits;
 use crate::unsynced::TORN_WRITES;
 use crate::{Config, Error, Explorable, Probability};
@@ -29,7 +31,7 @@ pub enum Profile {
 
 impl fmt::Display for Profile {
     fn fmt(&self, f: &mut fmt::Formatter<'_>) -> fmt::Result {
-        f.write_str(&self.line()["profile ".len()..])
+        f.write_str(&word(PROFILES, *self as u32))
     }
 }
 
@@ -41,15 +43,6 @@ impl Profile {
     /// assert_eq!(Profile::ALL.len(), 4);
     /// ```
     pub const ALL: [Profile; 4] = [Profile::Ext4, Profile::Xfs, Profile::Btrfs, Profile::Posix];
-
-    fn line(self) -> &'static str {
-        match self {
-            Profile::Ext4 => "profile ext4",
-            Profile::Xfs => "profile xfs",
-            Profile::Btrfs => "profile btrfs",
-            Profile::Posix => "profile posix",
-        }
-    }
 }
 
 /// Which of the edits that nothing settled, changes of names and truncations, a crash may keep.
@@ -386,7 +379,7 @@ impl Builder {
         let space = self
             .space
             .map(|[bytes, files]| format!("space {bytes} {files}"));
-        self.base.lines.push(self.profile.line().to_owned());
+        self.base.lines.push(format!("profile {}", self.profile));
         let edits = self.edits.map(|edits| match edits {
             Edits::Prefix => "edits prefix".to_owned(),
             Edits::Any => "edits any".to_owned(),

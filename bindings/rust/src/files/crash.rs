@@ -1,7 +1,7 @@
 //! Crashes, power losses, settings, and the record of the calls.
 use super::Files;
 use super::foreign::Kind;
-use crate::limits::Recorded;
+use crate::limits::{Recorded, cut_after, is_power_off};
 use crate::{Config, Error, Selections};
 
 /// What a crash kept.
@@ -122,8 +122,7 @@ impl Files {
     }
 
     /// Turns the power off after `calls` more calls that may change what a crash leaves, whatever they return. These are all but opens of
-    /// existing files without a truncation, reads, look-ups, `settle` and `commit`. A close counts only if an open has truncated a file since the
-    /// last crash.
+    /// existing files without a truncation, closes, reads, look-ups, `settle` and `commit`.
     ///
     /// From then on every call returns `PowerLoss`, except `configure`, until the files have crashed. Returns `PowerLoss` if the power is
     /// off already.
@@ -142,7 +141,7 @@ impl Files {
     /// # }
     /// ```
     pub fn crash_after(&self, calls: u64) -> Result<(), Error> {
-        self.lock().limits.power.cut_after(calls)
+        cut_after(&mut self.lock().session, calls)
     }
 
     /// Returns whether the power is off.
@@ -157,7 +156,7 @@ impl Files {
     /// ```
     #[must_use]
     pub fn is_power_off(&self) -> bool {
-        self.lock().limits.power.is_off()
+        is_power_off(&mut self.lock().session)
     }
 
     /// Crashes, calls `step` and returns what that returns. Does both again if the power fails meanwhile. Returns the error of a crash.

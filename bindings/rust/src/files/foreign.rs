@@ -1,7 +1,5 @@
 //! The files of the library as they are declared in `bindings/c/blobcrash_files.h`. `library` alone calls the functions.
-use crate::Error;
-use crate::debt_calls::PLAIN_FAILURES;
-use crate::foreign::{BAD_CALL, KeptRun, NO_MEMORY, Ran, ScriptRan};
+use crate::foreign::{KeptRun, PowerState, Ran, ScriptRan};
 use std::ffi::c_void;
 
 /// Files, which belong to the library.
@@ -14,6 +12,7 @@ pub(crate) struct RawFiles {
 
 /// A call without its bytes.
 #[repr(C)]
+#[derive(Clone, Copy, Debug)]
 pub(crate) struct RawCall {
     pub(crate) kind: u32,
     pub(crate) number: u64,
@@ -51,42 +50,12 @@ pub(crate) enum Kind {
     Sync = 35,
     SyncData = 36,
     InodeOf = 37,
+    Read = 38,
+    Write = 39,
     SyncAll = 48,
     Settle = 49,
     Crash = 50,
     Commit = 52,
-}
-
-/// Why the file of a descriptor can't be used.
-const STALE: &str = "the file is from before a crash";
-
-/// The refusals of calls on files, by their statuses.
-const REFUSALS: [(u32, Error); 12] = [
-    (64, Error::Exists),
-    (65, Error::NotFound),
-    (66, Error::NotEmpty),
-    (67, Error::IsDirectory),
-    (68, Error::NotDirectory),
-    (69, Error::NameTooLong),
-    (70, Error::InvalidName),
-    (71, Error::TooManyLinks),
-    (72, Error::StaleHandle(STALE)),
-    (73, Error::NoSpace),
-    (74, Error::Loop),
-    (75, Error::Crashed),
-];
-
-/// Returns the error of a status that isn't DONE.
-#[cold]
-pub(crate) fn refusal(status: u32) -> Error {
-    let found = REFUSALS.iter().chain(&PLAIN_FAILURES);
-    let mut found = found.filter(|row| row.0 == status);
-    match (found.next(), status) {
-        (Some(row), _) => row.1.clone(),
-        (None, NO_MEMORY) => Error::OutOfMemory,
-        (None, BAD_CALL) => Error::Argument("a number isn't allowed in this call".to_owned()),
-        (None, _) => Error::Unknown(format!("status {status}")),
-    }
 }
 
 unsafe extern "C" {
@@ -135,6 +104,19 @@ unsafe extern "C" {
     ) -> KeptRun;
     pub(crate) fn blobcrash_files_kept_place(files: *mut RawFiles, row: usize) -> Reply;
     pub(crate) fn blobcrash_files_kept_edit(files: *mut RawFiles, index: usize) -> Ran;
+    pub(crate) fn blobcrash_files_effect(kind: u32) -> u32;
+    pub(crate) fn blobcrash_files_line_of(
+        asked: *const RawCall,
+        path: *const u8,
+        path_len: usize,
+        to: *const u8,
+        to_len: usize,
+        into: *mut u8,
+        capacity: usize,
+    ) -> Ran;
+    pub(crate) fn blobcrash_files_power_off_after(files: *mut RawFiles, calls: u64) -> u32;
+    pub(crate) fn blobcrash_files_power_on(files: *mut RawFiles) -> u32;
+    pub(crate) fn blobcrash_files_power(files: *mut RawFiles) -> PowerState;
     pub(crate) fn blobcrash_files_words_left(files: *mut RawFiles) -> Ran;
     pub(crate) fn blobcrash_files_close(files: *mut RawFiles);
 }
@@ -145,7 +127,7 @@ mod tests {
     use crate::foreign::tests::{enumerators, upper};
 
     #[test]
-    fn kinds_and_refusals_are_those_of_the_header() {
+    fn kinds_are_those_of_the_header() {
         let header = enumerators(include_str!("../../../c/blobcrash_files.h"));
         for kind in [
             Kind::Create,
@@ -165,6 +147,8 @@ mod tests {
             Kind::Sync,
             Kind::SyncData,
             Kind::InodeOf,
+            Kind::Read,
+            Kind::Write,
             Kind::SyncAll,
             Kind::Settle,
             Kind::Crash,
@@ -173,20 +157,5 @@ mod tests {
             let name = format!("F_{}", upper(&format!("{kind:?}")));
             assert_eq!(header.get(name.as_str()), Some(&(kind as u32)), "{name}");
         }
-        for (status, error) in REFUSALS {
-            let text = match error {
-                Error::StaleHandle(_) => "Stale".to_owned(),
-                other => format!("{other:?}"),
-            };
-            let name = format!("F_{}", upper(&text));
-            assert_eq!(header.get(name.as_str()), Some(&status), "{name}");
-            assert!(refusal(status) != Error::Unknown(String::new()), "{name}");
-        }
-        // None is left out.
-        let refusals = header
-            .values()
-            .filter(|number| **number >= REFUSALS[0].0)
-            .count();
-        assert_eq!(refusals, REFUSALS.len());
     }
 }

@@ -2,10 +2,11 @@
 use super::crash::{Crash, Place};
 use super::foreign::*;
 use super::record::{Call, Record};
-use crate::foreign::{BAD_LINE, DONE, ENDLESS, KeptRun, NO_MEMORY, NO_ROOM};
+use crate::foreign::{BAD_LINE, CHANGES, DONE, ENDLESS, NO_MEMORY, POWER_LOSS, PowerState, Ran};
+use crate::library::{copied, selections, text_of};
 use crate::limits::Recorded;
 use crate::{Error, Selections};
-use std::ptr;
+use std::{mem, ptr};
 
 /// Open files of the library, which are closed when this is dropped.
 ///
@@ -15,6 +16,8 @@ pub(crate) struct Session {
     raw: RawFiles,
     /// The calls that were made, if they are recorded.
     pub(crate) record: Option<Record>,
+    /// Whether a call wasn't made since the power went off.
+    has_lost: bool,
 }
 
 // SAFETY: as for a session of a store.
@@ -35,6 +38,7 @@ impl Session {
                 is_open: false,
             },
             record: None,
+            has_lost: false,
         };
         let (at, len) = (preamble.as_ptr(), preamble.len());
         // SAFETY: the files are all zeros, and the text is borrowed for the call.
@@ -60,32 +64,33 @@ impl Session {
         }
     }
 
-    /// Makes a call.
+    /// Makes a call, and records it.
+    pub(crate) fn call(&mut self, call: &Call<'_>) -> Result<Reply, Error> {
+        let outcome = self.apply(call);
+        let opened = outcome.as_ref().map(|reply| call.opened(reply.number));
+        self.push(call, opened);
+        outcome
+    }
+
+    /// Makes a call, and doesn't record it.
     pub(crate) fn apply(&mut self, call: &Call<'_>) -> Result<Reply, Error> {
-        let asked = RawCall {
-            kind: call.kind as u32,
-            number: call.number,
-            first: call.first,
-            last: 0,
-        };
+        let asked = call.raw();
         let (path, len) = (call.path.as_ptr(), call.path.len());
         let (to, to_len) = (call.to.as_ptr(), call.to.len());
         // SAFETY: as for `configure`; the numbers and the paths are borrowed for the call.
         let reply = unsafe { blobcrash_files_apply(&mut self.raw, &asked, path, len, to, to_len) };
-        match reply.status {
-            DONE => Ok(reply),
-            status => Err(refusal(status)),
-        }
+        self.done(reply.status).map(|()| reply)
     }
 
     /// Writes bytes at an offset of a file.
     pub(crate) fn write(&mut self, file: u64, offset: u64, bytes: &[u8]) -> Result<(), Error> {
         let (at, len) = (bytes.as_ptr(), bytes.len());
         // SAFETY: as for `configure`; the bytes are borrowed for the call.
-        match unsafe { blobcrash_files_write(&mut self.raw, file, offset, at, len) } {
-            DONE => Ok(()),
-            status => Err(refusal(status)),
-        }
+        let status = unsafe { blobcrash_files_write(&mut self.raw, file, offset, at, len) };
+        let outcome = self.done(status);
+        let call = Call::moved(Kind::Write, file, [offset, 0], bytes);
+        self.push(&call, outcome.as_ref().map(|()| None));
+        outcome
     }
 
     /// Fills a part of `into` with the bytes of a file from an offset on. Returns how many there were.
@@ -93,60 +98,77 @@ impl Session {
         let (at, capacity) = (into.as_mut_ptr(), into.len());
         // SAFETY: as for `configure`; the buffer is borrowed for the call.
         let ran = unsafe { blobcrash_files_read(&mut self.raw, file, offset, at, capacity) };
-        match ran.status {
-            DONE => Ok(ran.len.min(capacity)),
-            status => Err(refusal(status)),
+        let outcome = self.done(ran.status);
+        let call = Call::moved(Kind::Read, file, [offset, capacity as u64], b"");
+        self.push(&call, outcome.as_ref().map(|()| None));
+        outcome.map(|()| ran.len.min(capacity))
+    }
+
+    /// Returns the error of a status.
+    fn done(&mut self, status: u32) -> Result<(), Error> {
+        match status {
+            DONE => Ok(()),
+            POWER_LOSS => Err(self.lost_power()),
+            other => Err(Error::of(other, "")),
+        }
+    }
+
+    /// Notes the first call that isn't made since the power is off.
+    fn lost_power(&mut self) -> Error {
+        if !mem::replace(&mut self.has_lost, true) {
+            self.note("power loss");
+        }
+        Error::PowerLoss
+    }
+
+    /// Returns `PowerLoss` if the power is off.
+    pub(crate) fn check_power(&mut self) -> Result<(), Error> {
+        if self.power().is_off {
+            return Err(self.lost_power());
+        }
+        Ok(())
+    }
+
+    fn push(&mut self, call: &Call<'_>, outcome: Result<Option<u64>, &Error>) {
+        if let (Some(record), true) = (&mut self.record, outcome != Err(&Error::PowerLoss)) {
+            record.push_call(call, outcome);
         }
     }
 
     /// Returns the name with an index of the last call, a `List`, or `None` if it has no such name.
     pub(crate) fn name(&mut self, index: usize) -> Result<Option<Name>, Error> {
-        let mut bytes = vec![0; NAME_MAX];
-        loop {
-            let (at, capacity) = (bytes.as_mut_ptr(), bytes.len());
+        let raw = &mut self.raw;
+        let (mut number, mut is_directory) = (0, false);
+        let name = copied(NAME_MAX, |at, capacity| {
             // SAFETY: as for `configure`; the buffer is borrowed for the call.
-            let reply = unsafe { blobcrash_files_name(&mut self.raw, index, at, capacity) };
-            match reply.status {
-                DONE => {
-                    bytes.truncate(reply.size as usize);
-                    return Ok(Some((bytes, reply.number, reply.kind == 1)));
-                }
-                NO_ROOM => bytes.resize(reply.size as usize, 0),
-                NO_MEMORY => return Err(Error::OutOfMemory),
-                _ => return Ok(None),
-            }
+            let reply = unsafe { blobcrash_files_name(raw, index, at, capacity) };
+            (number, is_directory) = (reply.number, reply.kind == 1);
+            let (status, len) = (reply.status, reply.size as usize);
+            Ran { status, len }
+        });
+        match name {
+            Ok(name) => Ok(Some((name, number, is_directory))),
+            Err(NO_MEMORY) => Err(Error::OutOfMemory),
+            Err(_) => Ok(None),
         }
     }
 
     /// Returns what the last call, a `Crash` with this reply, kept.
     pub(crate) fn kept(&mut self, reply: &Reply) -> Crash {
         Crash {
-            writes: self.kept_bytes(reply.size),
+            writes: self.kept_writes(reply.size),
             edits: self.kept_edits(reply.number),
             places: self.kept_places(reply.size),
         }
     }
 
     /// Returns which bytes of each pending write the last call, a `Crash`, kept.
-    fn kept_bytes(&mut self, rows: u64) -> Selections {
-        let rows = 0..rows as usize;
-        rows.map(|row| self.kept_row(row)).collect()
-    }
-
-    fn kept_row(&mut self, row: usize) -> (u64, Vec<bool>) {
-        let mut run = self.kept_run(row, 0);
-        let (write, mut kept) = (run.write, vec![false; run.bytes]);
-        while run.status == DONE && run.len > 0 {
-            let end = run.start.saturating_add(run.len).min(kept.len());
-            kept[run.start.min(end)..end].fill(true);
-            run = self.kept_run(row, end);
-        }
-        (write, kept)
-    }
-
-    fn kept_run(&mut self, row: usize, from: usize) -> KeptRun {
+    fn kept_writes(&mut self, rows: u64) -> Selections {
+        let raw = &mut self.raw;
         // SAFETY: as for `configure`.
-        unsafe { blobcrash_files_kept_run(&mut self.raw, row, from) }
+        selections(rows, |row, from| unsafe {
+            blobcrash_files_kept_run(raw, row, from)
+        })
     }
 
     /// Returns where each of these writes of the last call, a `Crash`, was.
@@ -189,6 +211,41 @@ impl Recorded for Session {
             record.note(text);
         }
     }
+
+    fn power(&mut self) -> PowerState {
+        // SAFETY: as for `configure`.
+        unsafe { blobcrash_files_power(&mut self.raw) }
+    }
+
+    fn set_power(&mut self, calls: Option<u64>) {
+        self.has_lost = false;
+        // SAFETY: as for `configure`.
+        unsafe {
+            blobcrash_files_power_on(&mut self.raw);
+            if let Some(calls) = calls {
+                blobcrash_files_power_off_after(&mut self.raw, calls);
+            }
+        }
+    }
+
+    fn has_lost(&self) -> bool {
+        self.has_lost
+    }
+}
+
+/// Returns the line of a call.
+pub(crate) fn line_of(asked: &RawCall, path: &[u8], to: &[u8]) -> String {
+    let (at, len) = (path.as_ptr(), path.len());
+    // SAFETY: the call, the paths and the buffer are borrowed for the call, and don't overlap.
+    text_of(96 + 4 * len + 4 * to.len(), |into, room| unsafe {
+        blobcrash_files_line_of(asked, at, len, to.as_ptr(), to.len(), into, room)
+    })
+}
+
+/// Returns whether what a crash leaves may differ after a call.
+pub(crate) fn changes(kind: Kind) -> bool {
+    // SAFETY: the function takes a number.
+    unsafe { blobcrash_files_effect(kind as u32) & CHANGES != 0 }
 }
 
 impl Drop for Session {

@@ -5,7 +5,6 @@ use super::record::Call;
 use super::state::State;
 use super::{Files, bytes_of};
 use crate::Error;
-use crate::power::Effect;
 use std::path::Path;
 
 impl Files {
@@ -144,7 +143,8 @@ impl Files {
     pub fn create_dir_all(&self, path: impl AsRef<Path>) -> Result<(), Error> {
         let path = bytes_of(&path);
         let mut state = self.lock();
-        state.permit(Effect::Reads)?;
+        state.permit(Kind::Find)?;
+        state.session.check_power()?;
         let ends = (1..=path.len()).filter(|end| path.get(*end).is_none_or(|byte| *byte == b'/'));
         for above in ends.map(|end| &path[..end]).filter(|above| !is_root(above)) {
             let is_wanted = above.len() == path.len() && !state.is_directory(above);

@@ -1,9 +1,7 @@
 //! Calls on files, and the record of those that were made: a line for each, as `blobcrash files` reads it.
-use super::foreign::{Kind, Reply};
-use crate::power::Effect;
-use crate::script::push_hex;
+use super::foreign::{Kind, RawCall};
+use super::library::line_of;
 use crate::{Error, Selections};
-use std::fmt::Write;
 
 /// A call with the numbers and the paths that its kind uses.
 #[derive(Debug)]
@@ -11,6 +9,7 @@ pub(crate) struct Call<'a> {
     pub(crate) kind: Kind,
     pub(crate) number: u64,
     pub(crate) first: u64,
+    pub(crate) last: u64,
     pub(crate) path: &'a [u8],
     pub(crate) to: &'a [u8],
 }
@@ -27,6 +26,7 @@ impl Call<'_> {
             kind,
             number: 0,
             first,
+            last: 0,
             path,
             to,
         }
@@ -38,92 +38,43 @@ impl Call<'_> {
             kind,
             number,
             first,
+            last: 0,
             path: b"",
             to: b"",
         }
     }
 
-    /// What the call does to the state that a crash leaves.
-    pub(crate) fn effect(&self) -> Effect {
-        match self.kind {
-            Kind::Open | Kind::List | Kind::Find => Effect::Reads,
-            Kind::Size | Kind::InodeOf | Kind::Settle | Kind::Commit => Effect::Reads,
-            Kind::Close => Effect::Closes,
-            Kind::Crash => Effect::Crashes,
-            _ => Effect::Changes,
+    /// A read or a write of a file. The bytes of a write are the path.
+    pub(crate) fn moved(
+        kind: Kind,
+        number: u64,
+        [first, last]: [u64; 2],
+        bytes: &[u8],
+    ) -> Call<'_> {
+        Call {
+            kind,
+            number,
+            first,
+            last,
+            path: bytes,
+            to: b"",
         }
     }
 
-    fn word(&self) -> &'static str {
-        match self.kind {
-            Kind::Create => "create",
-            Kind::Open => "open",
-            Kind::OpenTruncated => "open_truncated",
-            Kind::Link => "link",
-            Kind::Unlink => "unlink",
-            Kind::Rename => "rename",
-            Kind::MakeDirectory => "mkdir",
-            Kind::RemoveDirectory => "rmdir",
-            Kind::List => "listdir",
-            Kind::SyncDirectory => "fsyncdir",
-            Kind::Find => "find",
-            Kind::Close => "close",
-            Kind::Truncate => "truncate",
-            Kind::Size => "size",
-            Kind::Sync => "fsync",
-            Kind::SyncData => "fdatasync",
-            Kind::InodeOf => "inode_of",
-            Kind::SyncAll => "sync",
-            Kind::Settle => "settle",
-            Kind::Commit => "commit",
-            Kind::Crash => "crash",
+    /// The numbers of the call.
+    pub(crate) fn raw(&self) -> RawCall {
+        RawCall {
+            kind: self.kind as u32,
+            number: self.number,
+            first: self.first,
+            last: self.last,
         }
     }
 
-    fn line(&self) -> String {
-        let mut line = self.word().to_owned();
-        match self.kind as u32 {
-            0..=10 => push_path(&mut line, self.path),
-            32..=37 => line += &format!(" {}", self.number),
-            _ => {}
-        }
-        match (self.kind, self.first) {
-            (Kind::Link, _) | (Kind::Rename, 0) => push_path(&mut line, self.to),
-            (Kind::Rename, how) => {
-                push_path(&mut line, self.to);
-                line += if how == 1 { " noreplace" } else { " exchange" };
-            }
-            (Kind::Truncate, len) => line += &format!(" {len}"),
-            _ => {}
-        }
-        line
-    }
-
-    fn opens(&self) -> bool {
-        matches!(self.kind, Kind::Create | Kind::Open | Kind::OpenTruncated)
-    }
-}
-
-/// Adds a path as one token, with `\xNN` for a byte that isn't printable ASCII, a space, a number sign or a backslash.
-fn push_path(line: &mut String, path: &[u8]) {
-    line.push(' ');
-    for byte in path {
-        let is_plain = byte.is_ascii_graphic() && *byte != b'\\' && *byte != b'#';
-        let _ = match is_plain {
-            true => write!(line, "{}", *byte as char),
-            false => write!(line, "\\x{byte:02x}"),
-        };
-    }
-    if path.is_empty() {
-        line.push_str("\"\"");
-    }
-}
-
-/// What a comment at the end of a line says of a reply: a number, or the name of a refusal.
-fn told<T>(outcome: &Result<T, Error>, number: impl FnOnce(&T) -> Option<u64>) -> String {
-    match outcome {
-        Err(error) => format!(" # is {error:?}"),
-        Ok(reply) => number(reply).map_or_else(String::new, |number| format!(" # is {number}")),
+    /// Returns the number that a call returned which opens a file.
+    pub(crate) fn opened(&self, number: u64) -> Option<u64> {
+        let opens = matches!(self.kind, Kind::Create | Kind::Open | Kind::OpenTruncated);
+        opens.then_some(number)
     }
 }
 
@@ -131,17 +82,19 @@ fn told<T>(outcome: &Result<T, Error>, number: impl FnOnce(&T) -> Option<u64>) -
 #[derive(Clone, Debug, Default)]
 pub(crate) struct Record {
     lines: Vec<Line>,
-    /// The bytes of all writes, one after another.
-    written: Vec<u8>,
+    /// The paths, and the bytes of writes, of all calls, one after another.
+    bytes: Vec<u8>,
 }
 
 #[derive(Clone, Debug)]
 enum Line {
     Text(String),
-    Write {
-        file: u64,
-        offset: u64,
-        len: usize,
+    Call {
+        asked: RawCall,
+        /// How many bytes its two paths have.
+        path: usize,
+        to: usize,
+        /// The comment at the end of the line.
         told: String,
     },
 }
@@ -157,21 +110,20 @@ impl Record {
     /// The text of all lines.
     pub(crate) fn text(&self) -> String {
         let mut text = String::new();
-        let mut written = self.written.as_slice();
+        let mut bytes = self.bytes.as_slice();
         for line in &self.lines {
             match line {
                 Line::Text(line) => text.push_str(line),
-                Line::Write {
-                    file,
-                    offset,
-                    len,
+                Line::Call {
+                    asked,
+                    path,
+                    to,
                     told,
                 } => {
-                    let (bytes, rest) = written.split_at(*len);
-                    let _ = write!(text, "write {file} {offset} ");
-                    push_hex(&mut text, bytes);
-                    text.push_str(told);
-                    written = rest;
+                    let (one, rest) = bytes.split_at(*path);
+                    let (other, rest) = rest.split_at(*to);
+                    text = text + &line_of(asked, one, other) + told;
+                    bytes = rest;
                 }
             }
             text.push('\n');
@@ -188,34 +140,20 @@ impl Record {
             .for_each(|line| self.push(format!("# {line}")));
     }
 
-    pub(crate) fn push_call(&mut self, call: &Call<'_>, outcome: &Result<Reply, Error>) {
-        let told = told(outcome, |reply| call.opens().then_some(reply.number));
-        self.push(call.line() + &told);
-    }
-
-    pub(crate) fn push_read<T>(
-        &mut self,
-        file: u64,
-        [offset, len]: [u64; 2],
-        outcome: &Result<T, Error>,
-    ) {
-        let told = told(outcome, |_| None);
-        self.push(format!("read {file} {offset} {len}{told}"));
-    }
-
-    pub(crate) fn push_write(
-        &mut self,
-        file: u64,
-        offset: u64,
-        bytes: &[u8],
-        outcome: &Result<(), Error>,
-    ) {
-        self.written.extend_from_slice(bytes);
-        self.lines.push(Line::Write {
-            file,
-            offset,
-            len: bytes.len(),
-            told: told(outcome, |()| None),
+    /// Adds a call. A comment says which file it opened, or why it was refused.
+    pub(crate) fn push_call(&mut self, call: &Call<'_>, outcome: Result<Option<u64>, &Error>) {
+        let told = match outcome {
+            Ok(Some(number)) => format!(" # is {number}"),
+            Ok(None) => String::new(),
+            Err(error) => format!(" # is {error:?}"),
+        };
+        self.bytes.extend_from_slice(call.path);
+        self.bytes.extend_from_slice(call.to);
+        self.lines.push(Line::Call {
+            asked: call.raw(),
+            path: call.path.len(),
+            to: call.to.len(),
+            told,
         });
     }
 

@@ -1,10 +1,9 @@
 //! What files share with their clones and their open files: one session, which a lock protects.
 use super::crash::Crash;
 use super::foreign::{Kind, Reply};
-use super::library::{Name, Session};
+use super::library::{Name, Session, changes};
 use super::record::{Call, Record};
 use crate::limits::Limits;
-use crate::power::Effect;
 use crate::{Config, Error};
 use std::sync::{Mutex, MutexGuard, PoisonError};
 
@@ -54,30 +53,36 @@ impl State {
         }
     }
 
-    /// Returns `PowerLoss` if a call may not be made.
-    pub(crate) fn permit(&mut self, effect: Effect) -> Result<(), Error> {
+    /// Does what precedes a call: sets the faults if they aren't complete, and follows the path of an explored run.
+    pub(crate) fn permit(&mut self, kind: Kind) -> Result<(), Error> {
         self.limits.count_call()?;
         if self.is_unset {
             self.set(self.config)?;
         }
-        self.limits.permit(effect, &mut self.session)
+        self.limits.permit(&mut self.session, || changes(kind));
+        Ok(())
     }
 
     /// Makes a call.
     pub(crate) fn call(&mut self, call: &Call<'_>) -> Result<Reply, Error> {
-        self.permit(call.effect())?;
-        let outcome = self.session.apply(call);
-        self.record(|record| record.push_call(call, &outcome));
-        match call.kind {
-            Kind::Sync | Kind::SyncData if outcome.is_ok() && !self.syncs_lie => {
-                let inode = self.inode_of(call.number);
-                self.limits.unsynced.sync(inode);
-            }
-            Kind::SyncAll if outcome.is_ok() && !self.syncs_lie => self.limits.unsynced.clear(),
-            Kind::Settle if outcome.is_ok() => self.limits.unsynced.clear(),
+        self.permit(call.kind)?;
+        let inode = match call.kind {
+            Kind::Sync | Kind::SyncData => self.searched_inode(call.number),
+            _ => None,
+        };
+        let reply = self.session.call(call)?;
+        match (call.kind, inode) {
+            (_, Some(inode)) if !self.syncs_lie => self.limits.unsynced.sync(inode),
+            (Kind::SyncAll, _) if !self.syncs_lie => self.limits.unsynced.clear(),
+            (Kind::Settle, _) => self.limits.unsynced.clear(),
             _ => {}
         }
-        outcome
+        Ok(reply)
+    }
+
+    /// Returns the inode of an open file of a search's run, before the power may go off at a call of it.
+    fn searched_inode(&mut self, file: u64) -> Option<u64> {
+        self.limits.is_search().then(|| self.inode_of(file))
     }
 
     /// Returns the inode of an open file. Not recorded.
@@ -97,25 +102,21 @@ impl State {
     }
 
     pub(crate) fn write(&mut self, file: u64, offset: u64, bytes: &[u8]) -> Result<(), Error> {
-        self.permit(Effect::Changes)?;
-        let outcome = self.session.write(file, offset, bytes);
-        self.record(|record| record.push_write(file, offset, bytes, &outcome));
-        if outcome.is_ok() && self.limits.is_search() {
-            let inode = self.inode_of(file);
+        self.permit(Kind::Write)?;
+        let inode = self.searched_inode(file);
+        self.session.write(file, offset, bytes)?;
+        if let Some(inode) = inode {
             self.limits.unsynced.write(inode);
         }
-        outcome
+        Ok(())
     }
 
     pub(crate) fn read(&mut self, file: u64, offset: u64, into: &mut [u8]) -> Result<usize, Error> {
-        self.permit(Effect::Reads)?;
-        let outcome = self.session.read(file, offset, into);
-        let len = into.len() as u64;
-        self.record(|record| record.push_read(file, [offset, len], &outcome));
-        outcome
+        self.permit(Kind::Read)?;
+        self.session.read(file, offset, into)
     }
 
-    /// Returns whether nothing has a path. Not recorded, and made without power too.
+    /// Returns whether nothing has a path. Not recorded.
     pub(crate) fn is_missing(&mut self, path: &[u8]) -> bool {
         let found = self.session.apply(&Call::of_path(Kind::Find, path));
         matches!(found, Err(Error::NotFound))
@@ -137,8 +138,6 @@ impl State {
         let kept = self.session.kept(&reply);
         self.record(|record| record.push_kept(&kept.writes, &kept.edits));
         self.limits.unsynced.crash();
-        self.limits.power.follow(Effect::Crashes);
-        self.limits.power.follow(Effect::Reopens);
         self.life += 1;
         Ok(kept)
     }
