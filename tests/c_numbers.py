@@ -13,7 +13,6 @@ sys.path.insert(0, os.path.join(TOP, "bindings", "python"))
 
 from blobcrash import foreign
 from blobcrash.calls import Call
-from blobcrash.power import CHANGES
 
 HEADERS = os.path.join(TOP, "bindings", "c")
 CRATES = os.path.join(TOP, "crates")
@@ -28,8 +27,10 @@ OTHERWISE = {"E_BLOB_CLOSED": "E_CLOSED", "DEBT_CLOSE_OPEN": "DEBT_CLOSE"}
 # The kinds of typed calls that have other words in a script.
 KINDS = {"loose": "OPEN_LOOSE", "startsync": "START_SYNC", "remove": "REMOVE_BLOB", "remove partition": "REMOVE_PARTITION"}
 KINDS.update({"writes": "WRITE_SYNC", "config": "CONFIGURE"})
+# The calls that may change what a crash leaves, by their words.
+CHANGES = {"open", "loose", "admit", "write", "writes", "resize", "sync", "startsync", "finish", "remove"}
 # A call of each kind.
-CALLS = [Call(word, 7, 1, 2, "a-B_9", b"\0n\xff") for word in foreign.KINDS if word not in ("config", "remove")]
+CALLS = [Call(word, 7, 1, 2, "a-B_9", b"\0n\xff") for word in foreign.kinds(foreign.W_KINDS) if word not in ("config", "remove")]
 CALLS += [Call("remove", partition="p", name=b""), Call("remove", partition="p"), Call("scan", partition="no name"), Call("admit", name=b"")]
 STRUCTS = {
     "blobcrash_session": foreign.Session,
@@ -40,6 +41,7 @@ STRUCTS = {
     "blobcrash_branch": foreign.Branch,
     "blobcrash_asked": foreign.Asked,
     "blobcrash_typed_reply": foreign.TypedReply,
+    "blobcrash_power_state": foreign.PowerState,
 }
 
 
@@ -119,7 +121,7 @@ def word_of(table, number):
 
 def line_of(call):
     """The line of a call, as the library has it."""
-    kind = foreign.REMOVE_PARTITION if call.word == "remove" and call.name is None else foreign.KINDS[call.word]
+    kind = foreign.REMOVE_PARTITION if call.word == "remove" and call.name is None else foreign.kinds(foreign.W_KINDS)[call.word]
     asked, room = foreign.Asked(kind, call.number, call.first or 0, call.last or 0), ctypes.create_string_buffer(256)
     partition, name = call.partition.encode(), call.name or b""
     ran = foreign.function("line_of")(asked, partition, len(partition), name, len(name), room, len(room))
@@ -128,13 +130,11 @@ def line_of(call):
 
 def main():
     checks = [(f"{name} is {value}", numbers_of("blobcrash.h").get(name) == value) for name, value in named().items()]
-    checks.append(("ten numbers are compared", len(checks) == 10))
-    own = {**foreign.KINDS, "remove partition": foreign.REMOVE_PARTITION}
+    checks.append(("fifteen numbers are compared", len(checks) == 15))
+    own = {**foreign.kinds(foreign.W_KINDS), "remove partition": foreign.REMOVE_PARTITION}
     kinds = {KINDS.get(word, word.upper()): number for word, number in own.items()}
-    checks.append(("the kinds", {name: numbers_of("blobcrash.h").get(name) for name in kinds} == kinds))
-    checks.append(("the words of kinds", [word_of(0, number) for number in foreign.KINDS.values()] == list(foreign.KINDS)))
-    changes = {word for word, number in foreign.KINDS.items() if foreign.function("effect")(number) & 1}
-    checks.append(("which calls change what a crash leaves", changes == CHANGES))
+    checks.append(("the kinds", len(kinds) == 18 and {name: numbers_of("blobcrash.h").get(name) for name in kinds} == kinds))
+    checks.append(("which calls change what a crash leaves", {word for word in foreign.kinds(foreign.W_KINDS) if foreign.changes(word)} == CHANGES))
     checks.append(("the lines of calls", len(CALLS) == 19 and [str(call) for call in CALLS] == list(map(line_of, CALLS))))
     for crates, header in (
         ({"blob_statuses": STATUSES, "blob_sessions": SESSIONS, "blob_file_sessions": WORDS, "blob_tree": TREES}, "blobcrash.h"),

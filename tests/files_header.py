@@ -33,7 +33,9 @@ def test_the_numbers_of_the_header():
     with open(os.path.join(TOP, "bindings", "c", "blobcrash.h"), encoding="utf-8") as file:
         text += file.read()
     numbers = {name: int(value) for name, value in re.findall(r"^ *BLOBCRASH_(\w+) = (\d+)", text, re.M)}
-    for word, number in foreign_files.KINDS.items():
+    kinds = foreign.kinds(foreign.W_FILE_KINDS)
+    assert len(kinds) == 35, kinds
+    for word, number in kinds.items():
         of, at = word[: -len("_at")] if word.endswith("_at") else word, "_AT" if word.endswith("_at") else ""
         assert numbers["F_" + NAMES.get(of, of.upper()) + at] == number, word
     for number, refusal in foreign_files.REFUSALS.items():
@@ -44,8 +46,7 @@ def test_the_numbers_of_the_header():
 
 
 def test_the_words_of_the_library():
-    for table, words in ((1, foreign_files.KINDS), (3, {name: number for number, name in enumerate(PROFILES)})):
-        assert {word: word_of(table, number) for word, number in words.items()} == {word: word for word in words}
+    assert tuple(word_of(3, number) for number in range(len(PROFILES))) == PROFILES
     assert all(word_of(2, number) == refusal.name for number, refusal in foreign_files.REFUSALS.items())
     assert word_of(3, len(PROFILES)) is None and word_of(5, foreign_files.REFUSES) == "noreplace"
 

@@ -27,6 +27,8 @@ class Blob:
         self._of = (partition, name)
         self._stale = ""
         self.allow_stale = store._allow_stale
+        # The record of the store.
+        self._lines = store._lines
         # The function by which the library writes, and its session, if no layer is between and the handle isn't stale.
         direct = store._direct
         self._put, self._at = (None, None) if direct is None else (direct.untyped_write, direct.at)
@@ -81,7 +83,8 @@ class Blob:
             raise
         if status:
             store._refuse(store._write_call(self._handle, offset, data, sync), status)
-        store._lines += (self._handle, offset, data, sync)
+        lines = self._lines
+        lines += (self._handle, offset, data, sync)
         store._owner = store._thread
 
     def _write(self, offset: int, data: bytes, sync: bool) -> None:

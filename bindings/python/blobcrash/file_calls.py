@@ -8,8 +8,8 @@ from functools import lru_cache
 from typing import Any, List, NamedTuple, Optional, Tuple
 
 from .errors import BadLine
-from .foreign import Asked, check, function
-from .foreign_files import EXCHANGES, KINDS, REFUSES, REPLACES, Refusal
+from .foreign import W_FILE_KINDS, Asked, check, function, kinds
+from .foreign_files import EXCHANGES, REFUSES, REPLACES, Refusal
 from .foreign_files import refusal_of as refusal_of
 from .grammar import unhex
 from .shapes import MAX
@@ -53,7 +53,7 @@ class FileCall(NamedTuple):
         """The line of the call, by the library."""
         if self.word == "configure":
             return self.path.decode()
-        asked, room = Asked(KINDS[self.word], self.number, self.first, self.last), create_string_buffer(128 + 4 * len(self.path + self.to))
+        asked, room = Asked(kinds(W_FILE_KINDS)[self.word], self.number, self.first, self.last), create_string_buffer(128 + 4 * len(self.path + self.to))
         ran = function("files_line_of")(asked, self.path, len(self.path), self.to, len(self.to), room, len(room))
         check(ran.status)
         return room.raw[: ran.len].decode()

@@ -7,8 +7,8 @@ from typing import Any, List, Optional, Tuple, Union
 
 from .errors import BadLine
 from .file_calls import FileCall, Found, Kept, refusal_of
-from .foreign import BAD_LINE
-from .foreign_files import KINDS, Refusal
+from .foreign import BAD_LINE, W_FILE_KINDS
+from .foreign_files import Refusal
 from .layers import InProcess, Library, Program
 
 # A read of more bytes asks for the size first, so that no more are allocated than the file has.
@@ -29,7 +29,7 @@ def files_way(by: Any = None) -> Any:
 class FilesLibrary(InProcess):
     """The calls of files. `apply` returns what a call returns, or a `Refusal`."""
 
-    _functions, _named = "files_", "files are"
+    _functions, _named, _table = "files_", "files are", W_FILE_KINDS
 
     def apply(self, asked: FileCall) -> Any:
         """Makes a call. Returns the bytes of a read, the names of a list, a `Kept` of a crash, nothing of a write or a setting, and `Found`
@@ -41,7 +41,7 @@ class FilesLibrary(InProcess):
             return self._read(asked.number, asked.first, asked.last)
         if word == "configure":
             return self._configure(asked.path)
-        reply = self._applied(KINDS[word], asked.number, asked.first, asked.last, asked.path, asked.to)
+        reply = self._applied(self._kinds[word], asked.number, asked.first, asked.last, asked.path, asked.to)
         if reply.status:
             return self._refused(reply.status)
         if word in ("listdir", "listdir_at"):

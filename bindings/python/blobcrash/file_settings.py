@@ -2,7 +2,7 @@
 
 from __future__ import annotations
 
-from typing import Any, Iterable, List, Literal, Optional, Sequence, Tuple
+from typing import Any, Iterable, List, Literal, Optional, Sequence, Tuple, Union, get_args
 
 from .errors import BadLine
 from .grammar import needs_draws, setting_tokens, text_of
@@ -10,8 +10,8 @@ from .shapes import MAX
 
 Profile = Literal["ext4", "xfs", "btrfs", "posix"]
 # What a search may be asked for.
-Asked = Literal["ext4", "xfs", "btrfs", "posix", "all"]
-PROFILES: Tuple[Profile, ...] = ("ext4", "xfs", "btrfs", "posix")
+Asked = Union[Profile, Literal["all"]]
+PROFILES: Tuple[Profile, ...] = get_args(Profile)
 # Asks a search for a run of each.
 ALL = "all"
 # What the files of a search begin with, as a mount does, if no setting is one of writes: a crash keeps half of the unsynced sectors.

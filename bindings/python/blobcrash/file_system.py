@@ -298,6 +298,8 @@ class Files(Session):
 
     def _call(self, asked: FileCall, path: Any = None, is_shown: bool = True, to: Any = None) -> Any:
         """Makes a call, and returns its reply. Raises the error of a refusal, which names the paths."""
+        if self._is_search:
+            self._unsynced.before_call(asked, self._layer)
         reply = self._apply(asked, is_shown)
         if isinstance(reply, Refusal):
             raise error_of(reply, path, to)

@@ -5,15 +5,16 @@ from __future__ import annotations
 from typing import Any, Callable, Iterable, List, Optional, Tuple
 
 from .bounds import Bounded, Bounds, RunEnded
-from .calls import Call, Reply
+from .calls import Reply
 from .file_library import files_way
 from .file_settings import torn_unless_set
 from .file_system import Files
+from .foreign import changes
 from .grammar import MAX, number_of_branches
 from .layers import Library
 from .met import Met, State, blobs_of, durable_blobs, frozen, place, settings_of
 from .paths import CHOICE, DRAW, POWER, SIZE, Choice, draws_of
-from .power import PowerLoss, Supply
+from .power import PowerLoss, powered
 from .store import Store
 from .traversal import Traversal
 
@@ -91,11 +92,9 @@ class Run:
         return branch
 
     def fails(self) -> bool:
-        """Whether the power goes off at a call."""
-        if self.losses == 0 or not self.choose(POWER, 2):
-            return False
-        self.losses -= 1
-        return True
+        """Chooses whether the power goes off at a call."""
+        self.losses -= (off := self.choose(POWER, 2))
+        return bool(off)
 
     def arrive(self, state: State) -> None:
         """Ends the run if an earlier one came to this state by other choices.
@@ -141,32 +140,42 @@ def _named(choice: Choice) -> str:
 
 
 class _Followed:
-    """A layer that counts calls and draws."""
+    """A layer that counts calls and draws, and of which the power goes off as the run says."""
 
-    def __init__(self, layer: Any, run: Run) -> None:
+    def __init__(self, layer: Any, run: Run, of_files: bool) -> None:
         self._layer = layer
         self._run = run
+        self._of_files = of_files
 
     def apply(self, asked: Any) -> Any:
         """Makes a call. If a resize of a blob fails and the size is another one, that was drawn from those between the old one and the
         new."""
-        run, sizes = self._run, 0
+        run, layer = self._run, self._layer
+        if run.losses and changes(asked.word, self._of_files) and not layer.is_off and run.fails():
+            layer.cut_after(0)
         run.calls.append(asked)
-        if run.seed is not None:
-            return self._layer.apply(asked)
-        before = self._layer.apply(Call("size", asked.number)) if asked.word == "resize" else None
-        reply = self._layer.apply(asked)
-        if type(before) is int and reply == Reply("error Injected"):
-            after = self._layer.apply(Call("size", asked.number))
-            sizes = 0 if after == before else abs(asked.first - before) - 1
-        run.count(self._layer.words_left(), sizes)
+        follows = run.seed is None
+        before = layer.tracked_size(asked.number) if follows and asked.word == "resize" else None
+        try:
+            reply = layer.apply(asked)
+        except PowerLoss:
+            run.calls.pop()
+            raise
+        if follows:
+            run.count(layer.words_left(), self._sizes(asked, before, reply))
         return reply
+
+    def _sizes(self, asked: Any, before: Optional[int], reply: Any) -> int:
+        """Returns among how many sizes a resize drew one."""
+        if before is None or reply != Reply("error Injected") or self._layer.tracked_size(asked.number) == before:
+            return 0
+        return abs(asked.first - before) - 1
 
     def state(self, images: Iterable[Tuple[str, bytes, bytes]]) -> State:
         """The durable bytes of all blobs, and the settings."""
         calls = self._run.calls
         crashes = sum(call.word == "crash" for call in calls)
-        return durable_blobs(self._layer, blobs_of(calls, images)), settings_of(calls), crashes, self._run.losses
+        return durable_blobs(self._layer, blobs_of(calls, images)), settings_of(calls), crashes, self._run.losses, self._layer.left
 
     def __getattr__(self, name: str) -> Any:
         return getattr(self._layer, name)
@@ -181,7 +190,7 @@ class OnPath(Bounded):
     def _follow_run(self, run: Run, way: Any) -> Any:
         """Takes a run. Returns the way of its calls, over another one."""
         self._run, self._bounds = run, run.bounds
-        return lambda preamble: Supply(_Followed(way(preamble), run), self._of_files, run.fails if run.losses else None)
+        return lambda preamble: _Followed(powered(way(preamble)), run, self._of_files)
 
     @property
     def script(self) -> List[str]:

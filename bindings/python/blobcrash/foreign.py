@@ -5,7 +5,8 @@ from __future__ import annotations
 import ctypes
 import os
 import subprocess
-from typing import Any, Optional
+from functools import lru_cache
+from typing import Any, Dict, Optional
 
 from .errors import LibraryMissing, NotMade
 
@@ -19,29 +20,14 @@ INSIDE = os.path.join(_HERE, "libblobcrash.so")
 BUILT = os.path.join(TOP, "out", "libblobcrash.so")
 
 # How a call ended. tests/c_numbers.py compares each of these numbers with the C header.
-DONE, ENDLESS, BAD_LINE, NO_MEMORY, NO_ROOM, CLOSED, OTHER_REPLY, UNPRINTED = range(8)
+DONE, ENDLESS, BAD_LINE, NO_MEMORY, NO_ROOM, CLOSED, OTHER_REPLY, UNPRINTED, BAD_CALL, POWER_LOSS = range(10)
 E_BLOB_MISSING = 20
-# The kinds of typed calls of stores by their words in a script. A `remove` without a name removes a partition.
-KINDS = {
-    "open": 0,
-    "loose": 1,
-    "admit": 2,
-    "close": 3,
-    "resize": 4,
-    "size": 5,
-    "sync": 6,
-    "startsync": 7,
-    "finish": 8,
-    "remove": 9,
-    "scan": 11,
-    "crash": 12,
-    "reopen": 13,
-    "read": 14,
-    "write": 15,
-    "writes": 16,
-    "config": 17,
-}
+# The kind that has the word `remove` too: without a name, it removes a partition.
 REMOVE_PARTITION = 10
+# The bit of an effect: what a crash leaves may differ after the call.
+CHANGES = 1
+# The tables of words: those of the kinds of calls on stores and on files.
+W_KINDS, W_FILE_KINDS = range(2)
 
 
 class Session(ctypes.Structure):
@@ -82,6 +68,14 @@ class KeptRun(ctypes.Structure):
     ]
 
 
+class PowerState(ctypes.Structure):
+    _fields_ = [
+        ("status", ctypes.c_uint32),
+        *((name, ctypes.c_bool) for name in ("is_off", "has_crashed", "is_counting")),
+        *((name, ctypes.c_uint64) for name in ("changes", "left")),
+    ]
+
+
 class Choice(ctypes.Structure):
     _fields_ = [("kind", ctypes.c_uint32), ("branch", ctypes.c_uint64), ("among", ctypes.c_uint64)]
 
@@ -107,8 +101,12 @@ _OF_SESSIONS = {
     "durable_blob": (Ran, *_bytes, *_bytes, ctypes.c_bool, _room, _size),
     "write": (_status, _size, _number, *_bytes, ctypes.c_bool),
     "read": (_status, _size, _number, _room, _size),
+    "tracked_size": (TypedReply, _size),
     "words_left": (Ran,),
     "push_words": (_status, _words, _size),
+    "power_off_after": (_status, _number),
+    "power_on": (_status,),
+    "power": (PowerState,),
     "close": (None,),
     "files_open": (ScriptRan, *_bytes),
     "files_configure": (_status, *_bytes),
@@ -121,6 +119,9 @@ _OF_SESSIONS = {
     "files_kept_edit": (Ran, _size),
     "files_words_left": (Ran,),
     "files_push_words": (_status, _words, _size),
+    "files_power_off_after": (_status, _number),
+    "files_power_on": (_status,),
+    "files_power": (PowerState,),
     "files_close": (None,),
 }
 # The same of the other functions, with all that they take.
@@ -191,16 +192,35 @@ def function(name: str) -> Any:
     return found
 
 
+@lru_cache(maxsize=None)
 def untyped(name: str) -> Any:
-    """Returns a function that returns a status, without the types of its arguments: so a call takes half as long. It keeps the
-    interpreter's lock.
+    """Returns a function without the types of its arguments: so a call takes half as long. It keeps the interpreter's lock.
 
     Pass a session and a buffer by `byref`, bytes as `bytes`, and a number below 2^31 as it is: it is passed as an `int`, which libffi
     extends to the 64 bits of its register. Pass a greater one as a `c_uint64`.
     """
     found = ctypes.PyDLL(None, handle=loaded()._handle)[f"blobcrash_{name}"]
-    found.restype = ctypes.c_uint32
+    found.restype = _TYPES[name][0]
     return found
+
+
+@lru_cache(maxsize=None)
+def kinds(table: int) -> Dict[str, int]:
+    """Returns the numbers of the kinds of calls by their words in a script, the lower number for a word of two."""
+    found: Dict[str, int] = {}
+    room = ctypes.create_string_buffer(32)
+    for kind in range(64):
+        ran = function("word")(table, kind, room, len(room))
+        if ran.status == DONE:
+            found.setdefault(room.raw[: ran.len].decode(), kind)
+    return found
+
+
+@lru_cache(maxsize=None)
+def changes(word: str, of_files: bool = False) -> bool:
+    """Returns whether what a crash leaves may differ after a call. A setting of files has no kind."""
+    kind = kinds(W_FILE_KINDS if of_files else W_KINDS).get(word)
+    return kind is not None and bool(function("files_effect" if of_files else "effect")(kind) & CHANGES)
 
 
 def check(status: int, what: str = "store is") -> None:

@@ -5,43 +5,6 @@ from __future__ import annotations
 import errno
 from typing import Dict, NamedTuple
 
-# The kinds of calls by their words in a script. tests/files_header.py compares each of these numbers with the C header.
-KINDS = {
-    "create": 0,
-    "open": 1,
-    "open_truncated": 2,
-    "link": 3,
-    "unlink": 4,
-    "rename": 5,
-    "mkdir": 6,
-    "rmdir": 7,
-    "listdir": 8,
-    "fsyncdir": 9,
-    "find": 10,
-    "create_at": 16,
-    "link_at": 17,
-    "unlink_at": 18,
-    "rename_at": 19,
-    "mkdir_at": 20,
-    "rmdir_at": 21,
-    "listdir_at": 22,
-    "fsyncdir_at": 23,
-    "find_at": 24,
-    "open_inode": 25,
-    "open_inode_truncated": 26,
-    "close": 32,
-    "truncate": 33,
-    "size": 34,
-    "fsync": 35,
-    "fdatasync": 36,
-    "inode_of": 37,
-    "read": 38,
-    "write": 39,
-    "sync": 48,
-    "settle": 49,
-    "crash": 50,
-    "commit": 52,
-}
 # What a rename does if the new name is taken.
 REPLACES, REFUSES, EXCHANGES = range(3)
 # The kind of a reply.

@@ -11,15 +11,35 @@ import signal
 import subprocess
 import weakref
 from contextlib import suppress
+from struct import Struct
 from typing import Any, List, Optional, Union
 
 from .calls import Call, Line, Opened, Reply, made, reply_of
 from .checking import check as faults_of
 from .errors import BadLine, Interrupted, LibraryMissing, ProgramEnded
-from .foreign import BAD_LINE, DONE, INSIDE, KINDS, NO_ROOM, REMOVE_PARTITION, TOP, UNPRINTED, Asked, Ran, Session, check, function, untyped
+from .foreign import (
+    BAD_LINE,
+    DONE,
+    INSIDE,
+    NO_ROOM,
+    POWER_LOSS,
+    REMOVE_PARTITION,
+    TOP,
+    UNPRINTED,
+    W_KINDS,
+    Ran,
+    Session,
+    check,
+    function,
+    kinds,
+    untyped,
+)
 from .grammar import MAX, data_of
+from .power import InLibrary
 
 _LINE_FEED = 10
+# The numbers of a typed call: `blobcrash_asked` and `blobcrash_file_call`.
+_ASKED = Struct("@I4xQQQ")
 # How many bytes the first buffer for replies has.
 _ROOM = 4096
 # The least status of a call that was made and refused.
@@ -183,18 +203,18 @@ def _leave_programs() -> None:
 os.register_at_fork(after_in_child=_leave_programs)
 
 
-class InProcess:
+class InProcess(InLibrary):
     """A session of the library in this process."""
 
-    # How its functions begin, and a message that names it.
-    _functions, _named = "", "store is"
+    # How its functions begin, a message that names it, and the table of its words.
+    _functions, _named, _table = "", "store is", W_KINDS
     # Whether `close` has anything to end.
     _is_open = False
 
     def __init__(self, preamble: bytes = b"") -> None:
         preamble = data_of(preamble, "a preamble")
-        self._apply = function(f"{self._functions}apply")
-        self._session, self._asked = Session(), Asked()
+        self._apply, self._kinds = untyped(f"{self._functions}apply"), kinds(self._table)
+        self._session, self._asked = Session(), ctypes.create_string_buffer(_ASKED.size)
         self.at, self._asked_at = ctypes.byref(self._session), ctypes.byref(self._asked)
         self.room: Any = ctypes.create_string_buffer(_ROOM)
         self._is_open = True
@@ -229,11 +249,15 @@ class InProcess:
 
     def _applied(self, kind: int, number: int, first: int, last: int, one: bytes, other: bytes) -> Any:
         """Makes a typed call, and returns its reply."""
-        fields = self._asked
-        fields.kind, fields.number, fields.first, fields.last = kind, number, first, last
-        return self._apply(self.at, self._asked_at, one, len(one), other, len(other))
+        _ASKED.pack_into(self._asked, 0, kind, number, first, last)
+        if (len(one) | len(other)) >> INT_BITS:
+            raise MemoryError
+        # The last one is passed on the stack, where an `int` isn't extended.
+        return self._apply(self.at, self._asked_at, one, len(one), other, ctypes.c_size_t(len(other)))
 
     def _check(self, status: int) -> None:
+        if status == POWER_LOSS:
+            self._lose_power()
         check(status, self._named)
 
     def _bad_preamble(self, preamble: bytes, line: int) -> BadLine:
@@ -257,6 +281,11 @@ class Library(InProcess):
             raise _bad(line)
         return self._printed(ran)
 
+    def tracked_size(self, handle: int) -> Optional[int]:
+        """Returns the size that a handle tracks, without a call; `None` if there is no such handle."""
+        reply = self._call("tracked_size", handle)
+        return None if reply.status != DONE else int(reply.size)
+
     def apply(self, asked: Call) -> Any:
         """Makes a typed call, and returns its value, or the `Reply` of a refusal. That of a `Line` is the words of its reply."""
         word = asked.word
@@ -266,12 +295,11 @@ class Library(InProcess):
             return self.read(asked.number, asked.first or 0, asked.last or 0)
         if word in ("write", "writes"):
             return self.write(asked.number, asked.first or 0, asked.name or b"", word == "writes")
-        kind = KINDS[word] if asked.name is not None or word != "remove" else REMOVE_PARTITION
+        kind = self._kinds[word] if asked.name is not None or word != "remove" else REMOVE_PARTITION
         partition = asked.partition.encode("utf-8", "replace")
         reply = self._applied(kind, asked.number, asked.first or 0, asked.last or 0, partition, asked.name or b"")
-        if reply.status != DONE:
-            return self.refused(reply.status)
-        return self._value(word, reply)
+        status = reply.status
+        return self.refusal(status) if status else self._value(word, reply)
 
     def read(self, handle: int, offset: int, length: int) -> Union[bytes, Reply]:
         """Returns exactly `length` bytes, or the reply that says why not."""
@@ -282,7 +310,7 @@ class Library(InProcess):
             found: Union[bytes, Reply] = made(asked, self.call(str(asked).encode()).decode())
             return found
         status = self._call("read", handle, offset, self.room, length)
-        return self.room[:length] if status == DONE else self.refused(status)
+        return self.room[:length] if status == DONE else self.refusal(status)
 
     def write(self, handle: int, offset: int, data: bytes, sync: bool = False) -> Optional[Reply]:
         """Writes bytes. Returns the reply if it isn't `ok`."""
@@ -290,7 +318,7 @@ class Library(InProcess):
         if not 0 <= handle <= MAX or not 0 <= offset <= MAX:
             raise ValueError(_NO_NUMBER)
         status = self._call("write", handle, offset, data, len(data), sync)
-        return None if status == DONE else self.refused(status)
+        return None if status == DONE else self.refusal(status)
 
     def _value(self, word: str, reply: Any) -> Any:
         """What a typed call returned."""
@@ -315,13 +343,13 @@ class Library(InProcess):
 
     def _has_grown(self, handle: int, offset: int, length: int) -> bool:
         """Grows the buffer for a read that ends within the blob. For any other length it doesn't allocate."""
-        size = self.apply(Call("size", handle))
-        if isinstance(size, Reply) or offset + length > size:
+        size = self.tracked_size(handle)
+        if size is None or offset + length > size:
             return False
         self.room = ctypes.create_string_buffer(length)
         return True
 
-    def refused(self, status: int) -> Reply:
+    def refusal(self, status: int) -> Reply:
         """The reply of a call that was refused."""
         if status < _FIRST_REFUSAL:
             self._check(status)

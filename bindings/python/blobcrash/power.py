@@ -1,25 +1,14 @@
-"""Which calls change what a crash leaves, and a power loss at one of them."""
+"""Power losses."""
 
 from __future__ import annotations
 
-from functools import lru_cache
-from typing import Any, Callable, Optional
+from typing import Any, Optional
 
 from .calls import Reply
-from .foreign import function
-from .foreign_files import KINDS, Refusal
+from .foreign import changes
 
-# The calls of a store that may change what a crash leaves, by their words. tests/c_numbers.py compares them with the library.
-CHANGES = frozenset(("open", "loose", "admit", "write", "writes", "resize", "sync", "startsync", "finish", "remove"))
-# The bit of an effect that says so.
-_CHANGES = 1
 _OFF = "the power is off: catch `PowerLoss`, and let the store crash and reopen, by `restart` or `recover`"
-
-
-@lru_cache(maxsize=None)
-def changes_files(word: str) -> bool:
-    """Returns whether a call of files may change what a crash leaves."""
-    return bool(function("files_effect")(KINDS[word]) & _CHANGES)
+_OFF_ALREADY = "the power is off already: let the store crash and reopen first"
 
 
 class PowerLoss(BaseException):
@@ -34,63 +23,88 @@ class PowerLoss(BaseException):
         self.is_first = is_first
 
 
+class InLibrary:
+    """A session whose supply of power is the library's."""
+
+    # Whether a call wasn't made since the power went off.
+    _has_lost = False
+
+    def _call(self, name: str, *arguments: Any) -> Any:
+        raise NotImplementedError
+
+    @property
+    def is_off(self) -> bool:
+        """Whether the power is off, also if no call has found it off yet."""
+        return bool(self._call("power").is_off)
+
+    @property
+    def left(self) -> Optional[int]:
+        """How many more changing calls have power. Without a number it stays on."""
+        power = self._call("power")
+        return int(power.left) if power.is_counting else None
+
+    def cut_after(self, calls: int) -> None:
+        """Turns the power off after this number of calls that may change what a crash leaves."""
+        power = self._call("power")
+        if power.is_off and (self._has_lost or power.has_crashed):
+            raise ValueError(_OFF_ALREADY)
+        self._has_lost = False
+        self._call("power_on")
+        self._call("power_off_after", calls)
+
+    def _lose_power(self) -> None:
+        """Raises `PowerLoss`, for a call that wasn't made."""
+        is_first = not (self._has_lost or self._call("power").has_crashed)
+        self._has_lost = True
+        raise PowerLoss(is_first=is_first)
+
+
 class Supply:
-    """A layer with a power supply. While the power is off each call raises `PowerLoss`, except settings and `crash`. The power of files is
-    on again after the crash, that of a store after the reopen; between the two, `close` is made too.
+    """A supply of power for a program. While the power is off each call raises `PowerLoss`, except settings and a crash, and after the crash
+    `close` and the reopening, which turns it on again."""
 
-    `fails` decides at each call that may change what a crash leaves whether the power goes off in place of the call.
-    """
-
-    def __init__(self, layer: Any, of_files: bool = False, fails: Optional[Callable[[], bool]] = None) -> None:
+    def __init__(self, layer: Any) -> None:
         self._layer = layer
-        self._fails = fails
-        self._of_files = of_files
-        # How many more such calls are made. Without a number the power stays on.
-        self._left: Optional[int] = None
-        self._is_off = False
+        self.left: Optional[int] = None
+        self.is_off = False
         self._has_crashed = False
 
     def cut_after(self, calls: int) -> None:
         """Turns the power off after this number of calls that may change what a crash leaves."""
-        if self._is_off:
-            raise ValueError("the power is off already: let the store crash and reopen first")
-        self._left = calls
+        if self.is_off:
+            raise ValueError(_OFF_ALREADY)
+        self.left = calls
 
     def apply(self, asked: Any) -> Any:
         """Makes a call."""
         word = asked.word
-        is_crash = word == "crash"
-        if is_crash or (word == "reopen" and self._has_crashed == self._is_off):
-            reply = self._layer.apply(asked)
-            if not isinstance(reply, (Reply, Refusal)):
-                self._crashed() if is_crash else self._reopened()
-            return reply
-        if word not in ("config", "configure") and not (word == "close" and self._has_crashed):
-            self._spend(changes_files(word) if self._of_files else word in CHANGES)
-        return self._layer.apply(asked)
-
-    def state(self, images: Any) -> Any:
-        """What follows depends on, right after a restart."""
-        return self._left, self._layer.state(images)
+        is_end = word == "crash" or (word == "reopen" and self._has_crashed == self.is_off)
+        if not is_end and word != "config" and not (word == "close" and self._has_crashed):
+            self._spend(changes(word))
+        reply = self._layer.apply(asked)
+        if is_end and not isinstance(reply, Reply):
+            self._end(word == "crash")
+        return reply
 
     def __getattr__(self, name: str) -> Any:
         return getattr(self._layer, name)
 
-    def _crashed(self) -> None:
-        if self._left == 0:
-            self._is_off, self._left = True, None
-        self._has_crashed = self._is_off
-        if self._of_files:
-            self._reopened()
+    def _end(self, is_crash: bool) -> None:
+        """Takes a crash or a reopening that was done."""
+        if is_crash and self.left == 0:
+            self.is_off, self.left = True, None
+        self._has_crashed = self.is_off = is_crash and self.is_off
 
-    def _reopened(self) -> None:
-        self._is_off = self._has_crashed = False
-
-    def _spend(self, changes: bool) -> None:
-        if self._is_off:
+    def _spend(self, is_change: bool) -> None:
+        if self.is_off:
             raise PowerLoss
-        if self._left == 0 or (changes and self._fails is not None and self._fails()):
-            self._is_off, self._left = True, None
+        if self.left == 0:
+            self.is_off, self.left = True, None
             raise PowerLoss(is_first=True)
-        if changes and self._left is not None:
-            self._left -= 1
+        if is_change and self.left is not None:
+            self.left -= 1
+
+
+def powered(layer: Any) -> Any:
+    """A layer with a supply of power."""
+    return layer if hasattr(layer, "cut_after") else Supply(layer)

@@ -8,10 +8,10 @@ from .calls import Line
 from .errors import NotMade
 from .file_calls import FileCall, Found, file_line
 from .file_library import FilesLibrary
+from .foreign import changes
 from .foreign_files import IS_DIRECTORY
 from .layers import Library
 from .met import blobs_of, durable_blobs
-from .power import CHANGES, changes_files
 
 # What a crash left: of a store the partition, the name and the bytes with the header of each blob; of files the path of each, with its
 # bytes or, of a directory, `None`.
@@ -33,7 +33,7 @@ class ReplayedStore:
     @staticmethod
     def changes(line: str) -> bool:
         """Whether a line may change what a crash leaves."""
-        return line.split()[0] in CHANGES
+        return changes(line.split()[0])
 
     def call(self, line: str) -> Any:
         """Makes the call of a line, which may be refused as it was. Returns the reply."""
@@ -68,8 +68,7 @@ class ReplayedFiles:
     @staticmethod
     def changes(line: str) -> bool:
         """Whether a line may change what a crash leaves."""
-        word = file_line(line).word
-        return word != "configure" and changes_files(word)
+        return changes(file_line(line).word, of_files=True)
 
     def call(self, line: str) -> Any:
         """Makes the call of a line, which may be refused as it was. Returns the reply."""

@@ -7,7 +7,7 @@ from typing import Any, Callable, Dict, Iterable, List, Optional, TypeVar
 
 from .errors import BadLine, Interrupted, NotMade, WrongThread
 from .grammar import comment_lines, number, text_of
-from .power import PowerLoss, Supply
+from .power import PowerLoss, powered
 
 _Own = TypeVar("_Own", bound="Session")
 
@@ -76,13 +76,8 @@ class Session:
         """
         calls = number(calls, "a number of calls")
         self._check()
-        if not isinstance(self._layer, Supply):
-            self._layer = Supply(self._layer, self._of_files)
-            self._end_direct()
+        self._layer = powered(self._layer)
         self._layer.cut_after(calls)
-
-    def _end_direct(self) -> None:
-        """Takes that a layer is between from here on."""
 
     def _recover(self, restart: Callable[[], object], step: Callable[..., Any], arguments: Any) -> Any:
         """Restarts, calls `step` and returns what that returns. Does both again if the power fails meanwhile."""

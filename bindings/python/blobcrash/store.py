@@ -246,18 +246,13 @@ class Store(Session):
     def _refuse(self, asked: Call, status: int) -> None:
         """Raises the refusal of a call that the library was asked for without a call object."""
         try:
-            refused = self._direct.refused(status)
+            refused = self._direct.refusal(status)
         except BaseException as error:
             self._ended(asked, error)
             raise
         self._lines.append(asked)
         self._owner = self._thread
         raise refusal(refused.line)
-
-    def _end_direct(self) -> None:
-        self._direct = None
-        for blob in self._opened.values():
-            blob._put = None
 
     def _closed_handle(self, handle: int) -> None:
         blob = self._opened.pop(handle, None)

@@ -84,6 +84,11 @@ class Unsynced:
         elif word == "write" and asked.name:
             self.write(self._opened.get(number))
 
+    def before_call(self, asked: Any, layer: Any) -> None:
+        """Learns the inode of a file before a call on it, after which the power may be off."""
+        if asked.word in ("write", "fsync", "fdatasync") and asked.number not in self._opened and not getattr(layer, "is_off", False):
+            self._inode(asked.number, layer)
+
     def take_of_files(self, asked: Any, layer: Any) -> None:
         """Takes a call on files that was made."""
         word, number = asked.word, asked.number
