@@ -1,25 +1,42 @@
 #include "words.h"
 
+#include "blobcrash.h"
 #include "random.h"
 
 #include <inttypes.h>
 #include <stdio.h>
 #include <string.h>
 
-static const char *const profiles[] = {"ext4", "xfs", "btrfs", "posix", NULL};
 /* The first of these are those of `mix`. */
 static const char *const tears[] = {"none", "all", "whole", "prefix", "sectors512", "sectors4096", "bytes", "mix", NULL};
 enum { MIX_LEN = 6 };
 
 const struct words words_default = {.profile = "ext4", .tear = "mix"};
 
-static const char *find(const char *const *words, const char *word) {
-    while (*words && strcmp(*words, word) != 0) words++;
-    return *words;
+const char *words_profile(uint32_t number) {
+    enum { MOST = 16, SIZE = 16 };
+    static char names[MOST][SIZE];
+    if (number >= MOST) return NULL;
+    struct blobcrash_ran ran = blobcrash_word(BLOBCRASH_W_PROFILES, number, (uint8_t *)names[number], SIZE - 1);
+    return ran.status == BLOBCRASH_DONE ? names[number] : NULL;
+}
+
+static const char *find_profile(const char *word) {
+    const char *profile;
+    for (uint32_t number = 0; (profile = words_profile(number)); number++) {
+        if (strcmp(profile, word) == 0) break;
+    }
+    return profile;
+}
+
+static const char *find_tear(const char *word) {
+    const char *const *tear = tears;
+    while (*tear && strcmp(*tear, word) != 0) tear++;
+    return *tear;
 }
 
 bool words_read(struct words *words, const char *word) {
-    const char *profile = find(profiles, word), *tear = find(tears, word);
+    const char *profile = find_profile(word), *tear = find_tear(word);
     if (profile) words->profile = profile;
     else if (tear) words->tear = tear;
     else if (strcmp(word, "lie") == 0) words->lies = true;

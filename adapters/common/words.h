@@ -17,13 +17,16 @@ enum { WORDS_PREAMBLE = 160, WORDS_LINE = 100 };
 
 /* What a mode says of the disk. */
 struct words {
-    /* ext4, xfs, btrfs or posix. */
+    /* One of words_profile. */
     const char *profile;
     /* What a crash keeps of an unsynced write: none, all, whole, prefix, sectors512, sectors4096, bytes; mix takes one of these but bytes. */
     const char *tear;
     /* Syncs return Ok and do nothing; a sync that fails drops what was unsynced; a crash keeps all changes of names. */
     bool lies, drops, keeps_names;
 };
+
+/* Returns the name of the profile with this number, from 0 on, or NULL. */
+const char *words_profile(uint32_t number);
 
 /* What is meant without a word: ext4 and mix. */
 extern const struct words words_default;

@@ -3,6 +3,7 @@
 #include "env.h"
 #include "log.h"
 #include "random.h"
+#include "words.h"
 
 #include <leveldb/db.h>
 
@@ -133,7 +134,7 @@ int scenarios_run() {
     printf("| scenario    | reuse_logs | profile | result |\n|-------------|------------|---------|--------|\n");
     for (bool reuses : {false, true}) {
         for (Reset reset : {Reset::DROPS_BYTES, Reset::DROPS_NAMES}) {
-            for (const char* profile : {"ext4", "xfs", "btrfs", "posix"}) {
+            for (uint32_t number = 0; const char* profile = words_profile(number); number++) {
                 std::string failed = Scenario(profile, reuses, reset).run();
                 printf("| %-11s | %-10s | %-7s | %s |\n", reset == Reset::DROPS_BYTES ? "drops bytes" : "drops names", reuses ? "yes" : "no",
                        profile, failed.empty() ? "passes" : failed.c_str());

@@ -171,7 +171,7 @@ int scenarios_run() {
     int status = 0;
     puts("| scenario                 | the crash             | profile | result |\n|--------------------------|-----------------------|---------|--------|");
     for (const Reset& reset : RESETS) {
-        for (const char* profile : {"ext4", "xfs", "btrfs", "posix"}) {
+        for (uint32_t number = 0; const char* profile = words_profile(number); number++) {
             status |= print("a compaction", profile, reset, Scenario(profile, reset).partial(true));
             status |= print("synced writes", profile, reset, Scenario(profile, reset).partial(false));
             status |= print("a sync after a new log", profile, reset, Scenario(profile, reset).older_log(false));

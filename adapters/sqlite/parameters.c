@@ -10,15 +10,11 @@ enum { RATE_SIZE = 48, LINE_SIZE = 160, CALLS = 3, SWITCHES = 6 };
 /* The calls that have a `config` line of their own, with a rate alone. */
 static const char *const calls[CALLS] = {"open", "read", "sync"};
 
-/* The parameters that are settings of the layer by the same name, with a word that it reads, or with a rate. */
+/* The parameters that are settings of the layer, with a word that it reads; the last one has a rate. */
 static const struct {
     const char *name, *setting;
-    const char *const words[5];
-} switches[SWITCHES] = {
-    {"profile", "profile", {"ext4", "xfs", "btrfs", "posix"}}, {"edits", "edits", {"prefix", "any", "logged"}},
-    {"syncs", "syncs", {"honest", "lie"}},                     {"failed_sync", "failed_sync", {"keeps", "drops"}},
-    {"failed_write", "failed_write", {"mode", "prefix"}},      {"keep_names", "keep", {NULL}},
-};
+} switches[SWITCHES] = {{"profile", "profile"},         {"edits", "edits"},               {"syncs", "syncs"},
+                        {"failed_sync", "failed_sync"}, {"failed_write", "failed_write"}, {"keep_names", "keep"}};
 
 /* Parts of `config` lines. An empty text is one that wasn't given. */
 struct settings {
@@ -103,13 +99,22 @@ static bool read_failure(const char *call, const char *value, struct request *re
     return false;
 }
 
+/* Returns whether the layer has a setting with this word. */
+static bool is_setting(const char *setting, const char *word) {
+    struct blobcrash_files files = {0};
+    char line[LINE_SIZE];
+    size_t len = strlen(word);
+    if (len == 0 || len >= RATE_SIZE || strspn(word, "abcdefghijklmnopqrstuvwxyz0123456789_") != len) return false;
+    sqlite3_snprintf(sizeof line, line, "%s %s", setting, word);
+    uint32_t status = blobcrash_files_open(&files, (const uint8_t *)line, strlen(line)).status;
+    blobcrash_files_close(&files);
+    return status == BLOBCRASH_DONE;
+}
+
 /* Reads the value of a switch. */
 static bool read_switch(int at, const char *value, struct request *request) {
-    if (!switches[at].words[0]) return read_rate(value, request->switches[at]);
-    for (const char *const *word = switches[at].words; *word; word++) {
-        if (strcmp(*word, value) == 0) return strcpy(request->switches[at], value), true;
-    }
-    return false;
+    if (at == SWITCHES - 1) return read_rate(value, request->switches[at]);
+    return is_setting(switches[at].setting, value) && strcpy(request->switches[at], value);
 }
 
 /* Parameters of SQLite itself mean nothing here. */
