@@ -8,6 +8,7 @@ from functools import lru_cache
 from typing import Any, List, NamedTuple, Optional, Tuple
 
 from .errors import BadLine
+from .file_settings import SWITCHES
 from .foreign import W_FILE_KINDS, Asked, check, function, kinds
 from .foreign_files import EXCHANGES, REFUSES, REPLACES, Refusal
 from .foreign_files import refusal_of as refusal_of
@@ -30,7 +31,7 @@ FORMS = {
     "rename": "path to how",
     "rename_at": "number path first to how",
 }
-SETTINGS = frozenset(("profile", "edits", "config", "keep", "space", "failed_sync", "syncs", "failed_write"))
+SETTINGS = frozenset(("profile", "config", "keep", "space", *SWITCHES))
 _HOW = {"": REPLACES, "noreplace": REFUSES, "exchange": EXCHANGES}
 # A path as one token: printable ASCII but the space, the number sign and the backslash, and `\xNN` for any other byte.
 PATH = re.compile(r'""|(?:[!-\[\]-~]|\\x[0-9a-fA-F]{2})+')

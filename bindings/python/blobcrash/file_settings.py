@@ -17,7 +17,7 @@ ALL = "all"
 # What the files of a search begin with, as a mount does, if no setting is one of writes: a crash keeps half of the unsynced sectors.
 TORN_WRITES = "write 0 1 1 2 sectors 512"
 # The switches with what each may be.
-_SWITCHES = {
+SWITCHES = {
     "edits": ("prefix", "any", "logged"),
     "failed_sync": ("keeps", "drops"),
     "syncs": ("honest", "lie"),
@@ -83,9 +83,9 @@ def file_setting_tokens(setting: str) -> List[str]:
     if words[:1] == ["space"]:
         _numbers(setting, words)
         return words
-    if words and words[0] in _SWITCHES:
-        if len(words) != 2 or words[1] not in _SWITCHES[words[0]]:
-            raise BadLine(f"bad setting: {setting!r}: `{words[0]}` is {one_of(_SWITCHES[words[0]])}")
+    if words and words[0] in SWITCHES:
+        if len(words) != 2 or words[1] not in SWITCHES[words[0]]:
+            raise BadLine(f"bad setting: {setting!r}: `{words[0]}` is {one_of(SWITCHES[words[0]])}")
         return words
     return setting_tokens(setting)
 

@@ -169,7 +169,7 @@ class _Followed:
         """Returns among how many sizes a resize drew one."""
         if before is None or reply != Reply("error Injected") or self._layer.tracked_size(asked.number) == before:
             return 0
-        return abs(asked.first - before) - 1
+        return abs(int(asked.first) - before) - 1
 
     def state(self, images: Iterable[Tuple[str, bytes, bytes]]) -> State:
         """The durable bytes of all blobs, and the settings."""

@@ -199,7 +199,7 @@ def untyped(name: str) -> Any:
     Pass a session and a buffer by `byref`, bytes as `bytes`, and a number below 2^31 as it is: it is passed as an `int`, which libffi
     extends to the 64 bits of its register. Pass a greater one as a `c_uint64`.
     """
-    found = ctypes.PyDLL(None, handle=loaded()._handle)[f"blobcrash_{name}"]
+    found: Any = ctypes.PyDLL(None, handle=loaded()._handle)[f"blobcrash_{name}"]
     found.restype = _TYPES[name][0]
     return found
 
