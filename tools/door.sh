@@ -192,15 +192,21 @@ door_of_program() {
         exit
     fi
     case ${crate#blobcrash_}:$#:${1:-} in
-    explain:0:) find_program "$crate" && tell_why '' "$program" ;;
-    explain:*) refuse "\`explain\` takes no argument, and \`$(shown "$1")\` is one" explain ;;
-    files:0: | files:1:explain) find_program "$crate" && tell_why --files "$program" "$@" ;;
-    files:*:explain) refuse "\`files explain\` takes no argument, and \`$(shown "$2")\` is one" 'files explain' ;;
+    explain:*)
+        check_options explain "$@"
+        find_program "$crate" && tell_why '' "$program" "$@"
+        ;;
+    files:0:) find_program "$crate" && tell_why --files "$program" ;;
+    files:*:explain)
+        shift
+        check_options 'files explain' "$@"
+        find_program "$crate" && tell_why --files "$program" explain "$@"
+        ;;
     files:*:explore)
         shift
         search 'files explore' "$@"
         ;;
-    files:*) refuse "$(printf '%s\n' explain explore | no_such '`files` has no command' "$1")" 'files [explain | explore [--limit N] [--last] [--json]]' ;;
+    files:*) refuse "$(printf '%s\n' explain explore | no_such '`files` has no command' "$1")" 'files [explain [--json] | explore [--limit N] [--last] [--json]]' ;;
     *) search "${crate#blobcrash_}" "$@" ;;
     esac
 }

@@ -117,7 +117,7 @@ fn push_remarks_after(texts: &[String], shown: usize, text: &mut Vec<u8>) -> Res
 }
 
 /// Returns the text before the first line feed and the text after it. Returns `None` if there is no line feed.
-fn first_line(text: &[u8]) -> Option<(&[u8], &[u8])>
+pub(crate) fn first_line(text: &[u8]) -> Option<(&[u8], &[u8])>
     ensures parts { IfSome result (λ parts. text.now ≡ parts.0.now ++ 10 ∷ parts.1.now) }
     ensures shorter { IfSome result (λ parts. length parts.1.now < length text.now) }
 {

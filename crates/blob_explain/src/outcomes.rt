@@ -1,62 +1,65 @@
-// The text for outcomes that a reply doesn't report.
-use crate::files::{File, Item, Write};
+// The text of what was told of a call.
+use crate::event::Event;
+use crate::files::Write;
 use crate::handles::Opened;
-use crate::picture::{draw, push_item, push_range};
-use blob_base::Error;
+use crate::picture::{draw, push_failed, push_range};
 use blob_draws::faults::ResizeFate;
-use blob_draws::runs::Span;
-use std::alloc::{AllocError, Global};
+use std::alloc::AllocError;
 
-/// Adds which bytes a failed write kept. They are durable.
-pub(crate) fn push_failed_write(
-    alloc: Global,
-    opened: &Opened,
-    write: Write,
-    before: Vec<u8>,
-    after: &[u8],
-    text: &mut String,
-) -> Result<(), AllocError> {
-    let keeps = write.kept.contains(&true);
-    let item = Item::Write(write);
-    if !keeps {
-        push_unchanged(opened, text)?;
-        return push_item(&item, false, text);
+/// Adds what is told as text. A draw is told by what it decides.
+pub(crate) fn push_event(event: &Event<'_>, text: &mut String) -> Result<(), AllocError> {
+    match *event {
+        Event::Draw(_) => Ok(()),
+        Event::Crashed { file, after } | Event::FailedWrite { file, after } => {
+            draw(file, after, text)
+        }
+        Event::LostWrite { opened, write } => {
+            push_unchanged(opened, text)?;
+            push_failed(write, text)
+        }
+        Event::StaleWrite {
+            opened,
+            write,
+            live,
+        } => push_stale_write(opened, write, live, text),
+        Event::UnsyncedWrite {
+            opened,
+            number,
+            offset,
+            len,
+        } => push_unsynced_write(opened, number, offset, len, text),
+        Event::Resized { opened, fate, len } => push_resize(opened, fate, len, text),
+        Event::FailedSync {
+            opened,
+            number,
+            is_drawn,
+        } => push_failed_sync(opened, number, is_drawn, text),
+        Event::Unkept {
+            partition,
+            name,
+            count,
+        } => push_unkept(partition, name, count, text),
     }
-    let mut entries = Vec::new(alloc);
-    entries.push(item)?;
-    let file = File {
-        partition: String::from_str(alloc, &opened.partition)?,
-        name: Vec::from_slice(alloc, &opened.name)?,
-        number: 0,
-        is_current: true,
-        before,
-        held: 0,
-        entries,
-    };
-    draw(&file, after, text)
 }
 
 /// Adds a failed write through a stale handle. Its first kept run is live.
-pub(crate) fn push_stale_write(
-    alloc: Global,
+fn push_stale_write(
     opened: &Opened,
     write: &Write,
+    live: Option<(u64, u64)>,
     text: &mut String,
 ) -> Result<(), AllocError> {
     push_unchanged(opened, text)?;
     text.push_str("  failed write")?;
     push_range(write.offset, write.bytes.len(), text)?;
-    if let Some(run) = Span::of(alloc, &write.kept)?.first() {
-        text.push_str(", of which")?;
-        let start = write.offset.saturating_add(run.start as u64);
-        push_range(start, run.end.saturating_sub(run.start), text)?;
-        text.push_str(" is live")?;
+    if let Some((start, end)) = live {
+        write!(text, ", of which {start}..{end} is live")?;
     }
     text.push_str(": its handle is stale\n")
 }
 
 /// Adds a SYNC write with a failed sync, and its number if it is pending.
-pub(crate) fn push_unsynced_write(
+fn push_unsynced_write(
     opened: &Opened,
     number: Option<u64>,
     offset: u64,
@@ -78,7 +81,7 @@ pub(crate) fn push_unsynced_write(
 }
 
 /// Adds a resize that failed or that survives a crash. Adds nothing for any other.
-pub(crate) fn push_resize(
+fn push_resize(
     opened: &Opened,
     fate: ResizeFate,
     len: u64,
@@ -107,7 +110,7 @@ pub(crate) fn push_resize(
 }
 
 /// Adds a started sync that failed.
-pub(crate) fn push_failed_sync(
+fn push_failed_sync(
     opened: &Opened,
     number: usize,
     is_drawn: bool,
@@ -120,6 +123,21 @@ pub(crate) fn push_failed_sync(
     } else {
         ": its handle is stale\n"
     })
+}
+
+/// Adds how many writes of a blob a crash has lost that were made at retention 0.
+fn push_unkept(
+    partition: &str,
+    name: &[u8],
+    count: usize,
+    text: &mut String,
+) -> Result<(), AllocError> {
+    let name = hex::encode(*text.allocator(), name)?;
+    let noun = if count == 1 { "write" } else { "writes" };
+    writeln!(
+        text,
+        "{partition} {name}: {count} {noun} lost at retention 0"
+    )
 }
 
 fn push_unchanged(opened: &Opened, text: &mut String) -> Result<(), AllocError> {

@@ -11,7 +11,7 @@ const BLOCK: u64 = 256 * STRIPE;
 
 /// What became of a byte of a write.
 #[derive(Clone, Copy, PartialEq, Eq)]
-enum Fate {
+pub(crate) enum Fate {
     Kept,
     Lost,
     /// Later bytes were durable over it, whatever was drawn.
@@ -39,7 +39,7 @@ pub(crate) fn draw(file: &File, after: &[u8], text: &mut String) -> Result<(), A
 }
 
 /// Adds the line of an entry.
-pub(crate) fn push_item(item: &Item, is_held: bool, text: &mut String) -> Result<(), AllocError> {
+fn push_item(item: &Item, is_held: bool, text: &mut String) -> Result<(), AllocError> {
     text.push_str("  ")?;
     if is_failed(item) {
         text.push_str("failed ")?;
@@ -58,6 +58,14 @@ pub(crate) fn push_item(item: &Item, is_held: bool, text: &mut String) -> Result
     if is_held {
         text.push_str(", durable by a started sync")?;
     }
+    text.push('\n')
+}
+
+/// Adds the line of a failed write.
+pub(crate) fn push_failed(write: &Write, text: &mut String) -> Result<(), AllocError> {
+    text.push_str("  failed write")?;
+    push_range(write.offset, write.bytes.len(), text)?;
+    push_counts(write, text)?;
     text.push('\n')
 }
 
@@ -116,7 +124,7 @@ fn is_in(holes: &[(u64, u64)], at: u64) -> bool {
 }
 
 /// Returns what became of the byte at an index of a write, by the choices of the crash.
-fn fate_of(write: &Write, i: usize) -> Fate
+pub(crate) fn fate_of(write: &Write, i: usize) -> Fate
     ensures kept { result ≡ Fate.Kept → choice_at write.now.kept.items i ≡ true }
     ensures lost { result ≡ Fate.Lost → choice_at write.now.kept.items i ≡ false }
 {

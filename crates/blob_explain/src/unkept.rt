@@ -83,20 +83,18 @@ impl Unkept {
         }
     }
 
-    /// Adds a line for each blob that has some: a crash has lost them.
-    pub(crate) fn push_lost(&self, text: &mut String) -> Result<(), AllocError> {
-        for writes in self.all.iter() {
-            let count = writes.ranges.len();
-            if count > 0 {
-                let name = hex::encode(*text.allocator(), &writes.name)?;
-                let partition = &writes.partition;
-                let noun = if count == 1 { "write" } else { "writes" };
-                writeln!(
-                    text,
-                    "{partition} {name}: {count} {noun} lost at retention 0"
-                )?;
-            }
-        }
-        Ok(())
+    /// Returns the partition, the name and the number of writes of a blob at an index, from 0 on. `None` after the last one.
+    pub(crate) fn at(&self, index: usize) -> Option<(&str, &[u8], usize)> {
+        let writes = self.all.get(index)?;
+        Some((
+            writes.partition.as_str(),
+            writes.name.as_slice(),
+            writes.ranges.len(),
+        ))
+    }
+
+    /// Returns how many blobs there were.
+    pub(crate) fn len(&self) -> usize {
+        self.all.len()
     }
 }

@@ -1,15 +1,13 @@
 // A run that is watched, call by call.
 use crate::bases::Bases;
-use crate::draws::{Drawn, draw_ahead};
-use crate::files::{File, Write, choose, pending_files};
+use crate::draws::{Drawn, draw_ahead, rates_ahead};
+use crate::event::{Draw, Event, Told};
+use crate::files::{File, Item, Write, choose, pending_files};
 use crate::handles::{Handles, Opened};
-use crate::outcomes::{
-    push_failed_sync, push_failed_write, push_resize, push_stale_write, push_unsynced_write,
-};
-use crate::picture::draw;
+use crate::lines::Line;
 use crate::unkept::Unkept;
 use blob_base::Error;
-use blob_draws::faults::{WriteFate, retained};
+use blob_draws::faults::{ResizeFate, WriteFate, retained};
 use blob_draws::runs::Span;
 use blob_faulty::Config;
 use blob_lab::lab::Wrapper;
@@ -30,13 +28,22 @@ pub(crate) struct Watch {
     unkept: Unkept,
     /// Of the call that has no reply yet.
     ahead: Ahead,
+    /// The line of each call, if objects are wanted, and of each recorded write, by its number.
+    calls: Vec<u64>,
+    writes: Vec<u64>,
+    /// What follows the reply to each call, and its objects.
     pub(crate) texts: Vec<String>,
+    pub(crate) objects: Vec<Vec<u8>>,
 }
 
 /// What must be known of a call before it is made.
 #[derive(Drop)]
 struct Ahead {
     drawn: Drawn,
+    /// The draws of rates, if objects are wanted.
+    rates: Vec<Draw>,
+    /// The size of the handle of a resize.
+    size: u64,
     /// The durable bytes before a write that keeps bytes although it fails.
     before: Vec<u8>,
     /// What was pending before a crash.
@@ -47,6 +54,8 @@ impl Ahead {
     fn nothing(alloc: Global) -> Ahead {
         Ahead {
             drawn: Drawn::Nothing,
+            rates: Vec::new(alloc),
+            size: 0,
             before: Vec::new(alloc),
             files: Vec::new(alloc),
         }
@@ -59,6 +68,10 @@ struct Step<'a> {
     call: &'a Call,
     reply: &'a Reply,
     drawn: Drawn,
+    /// The draws of rates.
+    rates: Vec<Draw>,
+    /// The size of the handle of a resize before it.
+    size: u64,
     /// The durable bytes before a write that keeps bytes although it fails.
     before: Vec<u8>,
     /// What was pending before a crash.
@@ -74,10 +87,12 @@ impl Listener for Watch {
     }
 
     fn after(&mut self, lab: &Lab, call: &Call, reply: &Reply) -> Result<(), AllocError> {
-        let Ok(text) = self.look_back(lab, call, reply) else {
+        let Ok(told) = self.look_back(lab, call, reply) else {
             return Err(AllocError);
         };
-        Ok(self.texts.push(text)?)
+        let Told { text, objects } = told;
+        self.texts.push(text)?;
+        Ok(self.objects.push(objects)?)
     }
 }
 
@@ -90,8 +105,43 @@ impl Watch {
             bases: Bases::new(alloc),
             unkept: Unkept::new(alloc),
             ahead: Ahead::nothing(alloc),
+            calls: Vec::new(alloc),
+            writes: Vec::new(alloc),
             texts: Vec::new(alloc),
+            objects: Vec::new(alloc),
         }
+    }
+
+    /// Begins a watch that makes objects too, of these calls.
+    pub(crate) fn with_objects(alloc: Global, calls: &[Line<'_>]) -> Result<Watch, AllocError> {
+        let mut watch = Watch::new(alloc);
+        for call in calls {
+            watch.calls.push(call.number)?;
+        }
+        Ok(watch)
+    }
+
+    /// Returns the line of the call that is made, if objects are wanted.
+    fn line(&self) -> Option<u64> {
+        self.calls.get(self.texts.len()).copied()
+    }
+
+    /// Adds an event of the call that is made.
+    fn tell(&self, event: Event<'_>, told: &mut Told) -> Result<(), AllocError> {
+        told.tell(self.line(), &self.writes, &event)
+    }
+
+    /// Notes the line of a write that was recorded. After a rebuild writes are numbered from 0 on again.
+    fn note_recorded(&mut self, wrapper: &Wrapper) -> Result<(), AllocError> {
+        let Some(line) = self.line() else {
+            return Ok(());
+        };
+        let next = wrapper.next_write() as usize;
+        self.writes.truncate(next);
+        if self.writes.len() < next {
+            self.writes.resize(next, line)?;
+        }
+        Ok(())
     }
 
     /// Looks at the laboratory before a call. The only error is `Memory`.
@@ -103,19 +153,27 @@ impl Watch {
         }
         let drawn = draw_ahead(alloc, lab, &self.config, call)?;
         let before = self.durable_before(lab.wrapper(), call, &drawn)?;
+        let mut rates = Vec::new(alloc);
+        if self.line().is_some() {
+            rates = rates_ahead(alloc, lab, &self.config, call)?;
+        }
         self.ahead = Ahead {
             drawn,
+            rates,
+            size: size_before(lab, call),
             before,
             files,
         };
         Ok(())
     }
 
-    /// Returns what follows the reply to a call. The only error is `Memory`.
-    fn look_back(&mut self, lab: &Lab, call: &Call, reply: &Reply) -> Result<String, Error> {
+    /// Returns what is told of a call. The only error is `Memory`.
+    fn look_back(&mut self, lab: &Lab, call: &Call, reply: &Reply) -> Result<Told, Error> {
         let alloc = self.alloc;
         let Ahead {
             drawn,
+            rates,
+            size,
             before,
             mut files,
         } = mem::replace(&mut self.ahead, Ahead::nothing(alloc));
@@ -127,16 +185,39 @@ impl Watch {
             call,
             reply,
             drawn,
+            rates,
+            size,
             before,
             files,
         };
         self.note(lab.wrapper(), &step)?;
         self.note_unkept(&step)?;
-        let text = self.text(lab.wrapper(), &step)?;
+        self.note_recorded(lab.wrapper())?;
+        let mut told = Told::nothing(alloc);
+        self.tell_draws(&step, &mut told)?;
+        self.tell_step(lab.wrapper(), &step, &mut told)?;
         if let Call::Crash | Call::Reopen = call {
             self.unkept.forget_all(None);
         }
-        Ok(text)
+        Ok(told)
+    }
+
+    /// Adds the draws of a call that was made.
+    fn tell_draws(&self, step: &Step, told: &mut Told) -> Result<(), AllocError> {
+        if let Reply::NoHandle | Reply::EmptyRange | Reply::Failed(Error::Memory(..)) = step.reply {
+            return Ok(());
+        }
+        for draw in &step.rates {
+            self.tell(Event::Draw(*draw), told)?;
+        }
+        if let (Call::Resize { len, .. }, Drawn::Resize(ResizeFate::Reaches(reached))) =
+            (step.call, &step.drawn)
+        {
+            let among = step.size.max(*len).saturating_sub(step.size.min(*len)) .saturating_sub(1);
+            let reached = *reached;
+            self.tell(Event::Draw(Draw::Size { among, reached }), told)?;
+        }
+        Ok(())
     }
 
     /// Notes a write that no crash keeps, and forgets those that a call made durable or removed.
@@ -258,20 +339,15 @@ impl Watch {
         }
     }
 
-    fn text(&self, wrapper: &Wrapper, step: &Step) -> Result<String, Error> {
-        let alloc = self.alloc;
-        let mut text = String::new(alloc);
+    /// Adds what a call did that its reply doesn't report.
+    fn tell_step(&self, wrapper: &Wrapper, step: &Step, told: &mut Told) -> Result<(), Error> {
         match step.call {
             Call::Crash => {
-                push_crash(wrapper, &step.files, &mut text)?;
-                self.unkept.push_lost(&mut text)?;
+                self.tell_crash(wrapper, &step.files, told)?;
+                Ok(self.tell_unkept(told)?)
             }
-            Call::Resize { handle, len } => {
-                self.push_resize(*handle, *len, step.reply, &step.drawn, &mut text)?
-            }
-            Call::StartSync(handle) => {
-                self.push_sync(*handle, step.reply, &step.drawn, &mut text)?
-            }
+            Call::Resize { handle, len } => Ok(self.tell_resize(*handle, *len, step, told)?),
+            Call::StartSync(handle) => Ok(self.tell_sync(*handle, step, told)?),
             Call::Write {
                 handle,
                 offset,
@@ -281,27 +357,59 @@ impl Watch {
                 let write = Write {
                     number: None,
                     offset: *offset,
-                    bytes: Vec::from_slice(alloc, bytes)?,
-                    holes: Vec::new(alloc),
-                    kept: Vec::new(alloc),
+                    bytes: Vec::from_slice(self.alloc, bytes)?,
+                    holes: Vec::new(self.alloc),
+                    kept: Vec::new(self.alloc),
                 };
-                self.push_write(wrapper, *handle, write, step, &mut text)?;
+                self.tell_write(wrapper, *handle, write, step, told)
             }
-            _ => {}
+            _ => Ok(()),
         }
-        Ok(text)
+    }
+
+    /// Adds each file that had something pending before a crash.
+    fn tell_crash(&self, wrapper: &Wrapper, files: &[File], told: &mut Told) -> Result<(), Error> {
+        for file in files {
+            let after = wrapper.inner().logical_blob(&file.partition, &file.name)?;
+            match after {
+                Some(after) if file.is_current => {
+                    self.tell(Event::Crashed { file, after: &after }, told)?
+                }
+                _ => {
+                    let after = file.before.as_slice();
+                    self.tell(Event::Crashed { file, after }, told)?
+                }
+            }
+        }
+        Ok(())
+    }
+
+    /// Adds each blob that had writes which no crash keeps.
+    fn tell_unkept(&self, told: &mut Told) -> Result<(), AllocError> {
+        for index in 0..self.unkept.len() {
+            if let Some((partition, name, count)) = self.unkept.at(index) {
+                if count > 0 {
+                    let event = Event::Unkept {
+                        partition,
+                        name,
+                        count,
+                    };
+                    self.tell(event, told)?;
+                }
+            }
+        }
+        Ok(())
     }
 
     /// Adds a resize that was done or failed by its draws.
-    fn push_resize(
+    fn tell_resize(
         &self,
         handle: usize,
         len: u64,
-        reply: &Reply,
-        drawn: &Drawn,
-        text: &mut String,
-    ) -> Result<(), Error> {
-        let is_told = match reply {
+        step: &Step,
+        told: &mut Told,
+    ) -> Result<(), AllocError> {
+        let is_told = match step.reply {
             Reply::Done => true,
             Reply::Failed(error) => is_injected(error),
             _ => false,
@@ -309,29 +417,28 @@ impl Watch {
         let Some(opened) = self.handles.get(handle) else {
             return Ok(());
         };
-        if let Drawn::Resize(fate) = drawn {
+        if let Drawn::Resize(fate) = step.drawn {
             if is_told {
-                push_resize(opened, *fate, len, text)?;
+                self.tell(Event::Resized { opened, fate, len }, told)?;
             }
         }
         Ok(())
     }
 
     /// Adds a started sync that failed.
-    fn push_sync(
-        &self,
-        handle: usize,
-        reply: &Reply,
-        drawn: &Drawn,
-        text: &mut String,
-    ) -> Result<(), Error> {
+    fn tell_sync(&self, handle: usize, step: &Step, told: &mut Told) -> Result<(), AllocError> {
         let Some(opened) = self.handles.get(handle) else {
             return Ok(());
         };
-        if let Reply::Started(number) = reply {
-            if let Drawn::Sync(fails) = drawn {
-                if *fails || opened.is_stale {
-                    push_failed_sync(opened, *number, *fails, text)?;
+        if let Reply::Started(number) = step.reply {
+            if let Drawn::Sync(is_drawn) = step.drawn {
+                if is_drawn || opened.is_stale {
+                    let event = Event::FailedSync {
+                        opened,
+                        number: *number,
+                        is_drawn,
+                    };
+                    self.tell(event, told)?;
                 }
             }
         }
@@ -339,15 +446,14 @@ impl Watch {
     }
 
     /// Adds the outcome of a refused write, if the reply doesn't report it.
-    fn push_write(
+    fn tell_write(
         &self,
         wrapper: &Wrapper,
         handle: usize,
         mut write: Write,
         step: &Step,
-        text: &mut String,
+        told: &mut Told,
     ) -> Result<(), Error> {
-        let alloc = self.alloc;
         let Some(opened) = self.handles.get(handle) else {
             return Ok(());
         };
@@ -358,31 +464,81 @@ impl Watch {
             return Ok(());
         };
         match fate {
-            WriteFate::Done => {}
             WriteFate::Failed(kept) => {
-                write.kept = Vec::from_slice(alloc, kept)?;
+                write.kept = Vec::from_slice(self.alloc, kept)?;
                 if is_injected(error) {
-                    let before = Vec::from_slice(alloc, &step.before)?;
                     let after = self.durable_bytes(wrapper, handle)?;
-                    push_failed_write(alloc, opened, write, before, &after, text)?;
+                    self.tell_failed_write(opened, write, step, &after, told)?;
                 } else if is_missing(error) {
-                    push_stale_write(alloc, opened, &write, text)?;
+                    let live = first_run(self.alloc, &write)?;
+                    let write = &write;
+                    self.tell(Event::StaleWrite { opened, write, live }, told)?;
                 }
             }
-            WriteFate::Unsynced => {
-                if is_injected(error) {
-                    let is_pending = retained(self.config.write_rate).is_some();
-                    let number = if is_pending {
-                        newest_write(wrapper)
-                    } else {
-                        None
-                    };
-                    push_unsynced_write(opened, number, write.offset, write.bytes.len(), text)?;
-                }
+            WriteFate::Unsynced if is_injected(error) => {
+                let is_pending = retained(self.config.write_rate).is_some();
+                let event = Event::UnsyncedWrite {
+                    opened,
+                    number: if is_pending { newest_write(wrapper) } else { None },
+                    offset: write.offset,
+                    len: write.bytes.len(),
+                };
+                self.tell(event, told)?;
             }
+            _ => {}
         }
         Ok(())
     }
+
+    /// Adds a write that failed. If it kept bytes, they are shown as the only entry of its file.
+    fn tell_failed_write(
+        &self,
+        opened: &Opened,
+        write: Write,
+        step: &Step,
+        after: &[u8],
+        told: &mut Told,
+    ) -> Result<(), AllocError> {
+        if !write.kept.contains(&true) {
+            let write = &write;
+            return self.tell(Event::LostWrite { opened, write }, told);
+        }
+        let alloc = self.alloc;
+        let mut entries = Vec::new(alloc);
+        entries.push(Item::Write(write))?;
+        let file = File {
+            partition: String::from_str(alloc, &opened.partition)?,
+            name: Vec::from_slice(alloc, &opened.name)?,
+            number: 0,
+            is_current: true,
+            before: Vec::from_slice(alloc, &step.before)?,
+            held: 0,
+            entries,
+        };
+        let file = &file;
+        self.tell(Event::FailedWrite { file, after }, told)
+    }
+}
+
+/// Returns the first run of the bytes that a write kept.
+fn first_run(alloc: Global, write: &Write) -> Result<Option<(u64, u64)>, AllocError> {
+    let runs = Span::of(alloc, &write.kept)?;
+    let Some(run) = runs.first() else {
+        return Ok(None);
+    };
+    let start = write.offset.saturating_add(run.start as u64);
+    let end = write.offset.saturating_add(run.end as u64);
+    Ok(Some((start, end)))
+}
+
+/// Returns the size of the handle of a resize; 0 for any other call.
+fn size_before(lab: &Lab, call: &Call) -> u64 {
+    if let Call::Resize { handle, .. } = call {
+        if let Reply::Size(size) = lab.size(*handle) {
+            return size;
+        }
+    }
+    0
 }
 
 /// Whether a write is live and not durable: a plain one, or one whose sync failed.
@@ -454,16 +610,4 @@ fn newest_write(wrapper: &Wrapper) -> Option<u64> {
         }
     }
     newest
-}
-
-/// Adds a picture of each file that had something pending before a crash.
-fn push_crash(wrapper: &Wrapper, files: &[File], text: &mut String) -> Result<(), Error> {
-    for file in files {
-        let after = wrapper.inner().logical_blob(&file.partition, &file.name)?;
-        match after {
-            Some(after) if file.is_current => draw(file, &after, text)?,
-            _ => draw(file, &file.before, text)?,
-        }
-    }
-    Ok(())
 }

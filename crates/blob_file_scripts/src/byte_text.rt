@@ -2,7 +2,7 @@
 ghost use Rattle.std.specs.Prelude.{◌≡◌, true, false};
 ghost use Rattle.blob_file_scripts.specs.Outcomes.{choice_at};
 
-use std::alloc::AllocError;
+use std::alloc::{AllocError, Global};
 
 /// What a crash did with a byte of an unsynced write.
 #[derive(Clone, Copy, Debug, PartialEq, Eq)]
@@ -11,6 +11,17 @@ pub enum ByteOutcome {
     Lost,
     /// A later byte was durable over it, whatever was drawn.
     Covered,
+}
+
+/// What a crash chose for the bytes of a write.
+#[derive(Clone, Copy)]
+pub(crate) struct Choices<'a> {
+    /// One for each byte.
+    pub(crate) kept: &'a [bool],
+    /// The ranges that later durable bytes cover, sorted: start and end.
+    pub(crate) covered: &'a [(u64, u64)],
+    /// Where the write begins.
+    pub(crate) offset: u64,
 }
 
 /// Returns whether an offset is in one of the ranges, which are sorted.
@@ -37,65 +48,67 @@ fn outcome_of(choices: &[bool], covered: &[(u64, u64)], offset: u64, i: usize) -
     }
 }
 
-/// Appends the runs of bytes of an outcome, each as `START..END`, with commas between them.
-fn push_runs(
-    choices: &[bool],
-    covered: &[(u64, u64)],
-    offset: u64,
+/// Returns the runs of the bytes of an outcome: start and end.
+pub(crate) fn runs_of(
+    alloc: Global,
+    choices: Choices<'_>,
     outcome: ByteOutcome,
-    text: &mut String,
-) -> Result<(), AllocError> {
-    let mut is_inside = false;
-    let mut comma = " ";
-    let mut at = offset;
-    for i in 0..choices.len() {
-        let is_of = outcome_of(choices, covered, offset, i) == outcome;
-        if is_of && !is_inside {
-            write!(text, "{comma}{at}..")?;
-            comma = ",";
-        } else if is_inside && !is_of {
-            write!(text, "{at}")?;
+) -> Result<Vec<(u64, u64)>, AllocError> {
+    let mut runs = Vec::new(alloc);
+    let mut start = None;
+    let mut at = choices.offset;
+    for i in 0..choices.kept.len() {
+        let is_of = outcome_of(choices.kept, choices.covered, choices.offset, i) == outcome;
+        match start {
+            None if is_of => start = Some(at),
+            Some(first) if !is_of => {
+                runs.push((first, at))?;
+                start = None;
+            }
+            _ => {}
         }
-        is_inside = is_of;
         at = at.saturating_add(1);
     }
-    if is_inside {
-        write!(text, "{at}")?;
+    if let Some(first) = start {
+        runs.push((first, at))?;
+    }
+    Ok(runs)
+}
+
+/// Appends runs, each as `START..END`, with commas between them.
+fn push_runs(runs: &[(u64, u64)], text: &mut String) -> Result<(), AllocError> {
+    let mut comma = " ";
+    for (start, end) in runs {
+        write!(text, "{comma}{start}..{end}")?;
+        comma = ",";
     }
     Ok(())
 }
 
-/// Returns how many bytes have an outcome.
-fn count_of(choices: &[bool], covered: &[(u64, u64)], offset: u64, outcome: ByteOutcome) -> usize {
-    let mut count = 0usize;
-    for i in 0..choices.len() {
-        if outcome_of(choices, covered, offset, i) == outcome {
-            count = count.saturating_add(1);
-        }
+/// Returns how many bytes runs have.
+fn count_of(runs: &[(u64, u64)]) -> u64 {
+    let mut count = 0u64;
+    for (start, end) in runs {
+        count = count.saturating_add(end.saturating_sub(*start));
     }
     count
 }
 
 /// Appends the outcomes of a write's bytes: one word if all have the same, and else each outcome with its runs.
-pub(crate) fn push_outcomes(
-    choices: &[bool],
-    covered: &[(u64, u64)],
-    offset: u64,
-    text: &mut String,
-) -> Result<(), AllocError> {
+pub(crate) fn push_outcomes(choices: Choices<'_>, text: &mut String) -> Result<(), AllocError> {
     let mut separator = "";
     for (outcome, word) in [
         (ByteOutcome::Kept, "kept"),
         (ByteOutcome::Lost, "lost"),
         (ByteOutcome::Covered, "covered"),
     ] {
-        let count = count_of(choices, covered, offset, outcome);
-        if count > 0 {
+        let runs = runs_of(*text.allocator(), choices, outcome)?;
+        if !runs.is_empty() {
             text.push_str(separator)?;
             text.push_str(word)?;
             separator = "; ";
-            if count < choices.len() {
-                push_runs(choices, covered, offset, outcome, text)?;
+            if count_of(&runs) < choices.kept.len() as u64 {
+                push_runs(&runs, text)?;
             }
         }
     }

@@ -30,6 +30,15 @@ pub fn edit_outcome(is_applied: bool, is_kept: bool) -> EditOutcome
     }
 }
 
+/// Returns the word of what a crash did with an edit.
+pub(crate) fn outcome_word(outcome: EditOutcome) -> &'static str {
+    match outcome {
+        EditOutcome::Kept => "kept",
+        EditOutcome::Lost => "lost",
+        EditOutcome::Discarded => "discarded",
+    }
+}
+
 /// Returns the words of what a crash did with an edit.
 pub(crate) fn outcome_words(outcome: EditOutcome) -> &'static str {
     match outcome {

@@ -5,6 +5,7 @@ use crate::line::{read_line, without_comment};
 use crate::remarks::push_remarks;
 use crate::watch::Watch;
 use blob_file_sessions::{FileReader, KeptFiles};
+use blob_json::Object;
 use blob_lab::script::RefusedLine;
 use blob_lab::scripts::Ahead;
 use blob_lab::{Ending, Output};
@@ -25,8 +26,12 @@ pub(crate) struct Run {
     pub(crate) reply: String,
     /// What the remarks need, if the run is explained.
     watch: Option<Watch>,
+    /// Whether the run is explained as objects.
+    is_json: bool,
     /// The remarks after the last reply.
     remarks: Vec<u8>,
+    /// What was told of the last call, as objects.
+    objects: Vec<u8>,
 }
 
 /// Ends what it holds.
@@ -39,7 +44,9 @@ impl Drop for Run {
             lines: _,
             reply: _,
             watch: _,
+            is_json: _,
             remarks: _,
+            objects: _,
         } = self;
     }
 }
@@ -82,14 +89,17 @@ impl Run {
             lines: 0,
             reply: String::new(alloc),
             watch: None,
+            is_json: false,
             remarks: Vec::new(alloc),
+            objects: Vec::new(alloc),
         }
     }
 
     /// Begins a run that is explained.
-    fn explained(alloc: Global) -> Run {
+    fn explained(alloc: Global, is_json: bool) -> Run {
         let mut run = Run::new(alloc);
         run.watch = Some(Watch::new(alloc));
+        run.is_json = is_json;
         run
     }
 
@@ -124,8 +134,9 @@ impl Run {
         }
         answer(self.alloc, files, call, &mut self.reply)?;
         if let Some(watch) = &mut self.watch {
-            let text = watch.after(self.lines, files, call, &self.reply)?;
-            push_remarks(&text, &mut self.remarks)?;
+            let told = watch.after(self.lines, files, call, &self.reply, self.is_json)?;
+            push_remarks(&told.text, &mut self.remarks)?;
+            self.objects.extend_from_slice(&told.objects)?;
         }
         Ok(())
     }
@@ -139,6 +150,7 @@ impl Run {
         let line = without_comment(text);
         self.reply.clear();
         self.remarks.clear();
+        self.objects.clear();
         let mut first = Vec::new(self.alloc);
         let mut second = Vec::new(self.alloc);
         match &read_line(self.alloc, line, (&mut first, &mut second))? {
@@ -150,8 +162,34 @@ impl Run {
                 self.reply.push_str("ok")?;
             }
         }
+        if self.is_json {
+            self.add_call(line)?;
+        }
         self.reply.push('\n')?;
         Ok(true)
+    }
+
+    /// Puts the object of the call before those that tell of it.
+    fn add_call(&mut self, line: &str) -> Result<(), Stop> {
+        let mut object = Object::new(self.alloc)?;
+        object.number("line", self.lines)?;
+        object.text("call", line.trim_matches(' '))?;
+        object.text("reply", &self.reply)?;
+        object.remarks("remarks", &self.remarks)?;
+        let mut objects = Vec::new(self.alloc);
+        object.end(&mut objects)?;
+        objects.extend_from_slice(&self.objects)?;
+        self.objects = objects;
+        Ok(())
+    }
+
+    /// Writes the last reply with its remarks, or the objects of the last call.
+    fn write<W: Write>(&self, output: &mut Output<W>) -> Result<(), Ending> {
+        if self.is_json {
+            return output.write_all(&self.objects);
+        }
+        output.write_all(self.reply.as_bytes())?;
+        output.write_all(&self.remarks)
     }
 
     /// Inserts words before those that the generator gives next. Begins the files.
@@ -209,10 +247,7 @@ fn run_lines<R: Ahead, W: Write>(
             return Ok(());
         }
         match run.take(&line) {
-            Ok(true) => {
-                output.write_all(run.reply.as_bytes())?;
-                output.write_all(&run.remarks)?;
-            }
+            Ok(true) => run.write(output)?,
             Ok(false) => {}
             Err(Stop::BadCall) => return Err(Ending::BadCall(number)),
             Err(Stop::NoMemory) => return Err(Ending::NoMemory),
@@ -253,5 +288,15 @@ pub fn explain_files<R: Ahead, W: Write>(
     reader: &mut R,
     output: &mut Output<W>,
 ) -> Ending {
-    serve(alloc, Run::explained(alloc), reader, output)
+    serve(alloc, Run::explained(alloc, false), reader, output)
+}
+
+/// Runs a script of files as `serve_files`, and writes for each reply the object of its call, and after it those of its draws and of
+/// what it settled, kept and lost: each on a line of its own.
+pub fn explain_files_as_json<R: Ahead, W: Write>(
+    alloc: Global,
+    reader: &mut R,
+    output: &mut Output<W>,
+) -> Ending {
+    serve(alloc, Run::explained(alloc, true), reader, output)
 }

@@ -1,8 +1,10 @@
 //! A run that is watched, call by call, and the text that follows each reply.
 use crate::call::{Line, Named, OnFile};
-use crate::crash_text::{Before, Issued, Numbers, Unsynced, push_edits, push_files, push_to};
+use crate::crash::{Before, Issued, Numbers, Unsynced, push_to, tell_edits, tell_files};
 use crate::edit_text::push_edit;
+use crate::event::{Event, Told};
 use crate::paths::Paths;
+use crate::rates::{tell_failure, tell_reached};
 use blob_directory::unsettled::Unsettled;
 use blob_file_sessions::{KeptFiles, Reply};
 use blob_fs::call::{Call, NumberCall, PathCall};
@@ -24,6 +26,8 @@ pub(crate) struct Watch {
     writes: BTreeMap<u64, Vec<Unsynced>>,
     /// The number of the next pending write before the call.
     next_write: u64,
+    /// The size of the file of a truncation before the call.
+    size: u64,
     /// Of a crash that has no reply yet.
     before: Option<Before>,
 }
@@ -63,6 +67,7 @@ impl Watch {
             next_edit: 0,
             writes: BTreeMap::new(alloc),
             next_write: 0,
+            size: 0,
             before: None,
         }
     }
@@ -71,6 +76,12 @@ impl Watch {
     pub(crate) fn before(&mut self, files: &KeptFiles, call: &Line<'_>) -> Result<(), AllocError> {
         let fs = files.fs();
         self.next_write = fs.store().next_write();
+        self.size = 0;
+        if let Line::On(file, OnFile::Truncate(_)) = call {
+            if let Some(inode) = inode_named(fs, file)? {
+                self.size = fs.size_of(inode);
+            }
+        }
         if let Line::Call(Call::Crash) = call {
             self.paths = Paths::read(self.alloc, fs)?;
             self.before = Some(Before::read(self.alloc, fs, &self.paths, &self.writes)?);
@@ -78,28 +89,49 @@ impl Watch {
         Ok(())
     }
 
-    /// Returns what follows the reply to the call of a line.
+    /// Returns what is told of the call of a line. `objects` says whether objects are wanted.
     pub(crate) fn after(
         &mut self,
         line: u64,
         files: &KeptFiles,
         call: &Line<'_>,
         reply: &str,
-    ) -> Result<String, AllocError> {
+        objects: bool,
+    ) -> Result<Told, AllocError> {
         let fs = files.fs();
-        let mut text = String::new(self.alloc);
+        let mut told = Told::nothing(self.alloc, if objects { Some(line) } else { None });
         let is_done = reply == "ok";
+        if objects {
+            self.tell_draws(fs, call, reply, &mut told)?;
+        }
         self.note_edit(line, fs, call)?;
         match call {
             Line::On(file, OnFile::Truncate(_)) => self.note_write(line, fs, file, 0, &[])?,
-            Line::On(file, call) if is_done => self.after_file(line, fs, file, call, &mut text)?,
+            Line::On(file, call) if is_done => self.after_file(line, fs, file, call, &mut told)?,
             Line::On(..) => {}
             Line::Call(call) => match files.reply() {
-                Some(Reply::Crashed(crash)) => self.after_crash(fs, crash, &mut text)?,
-                _ => self.after_names(fs, call, is_done, &mut text)?,
+                Some(Reply::Crashed(crash)) => self.after_crash(fs, crash, &mut told)?,
+                _ => self.after_names(fs, call, is_done, &mut told)?,
             },
         }
-        Ok(text)
+        Ok(told)
+    }
+
+    /// Tells what a call other than a crash drew.
+    fn tell_draws(
+        &self,
+        fs: &FileSystem<ScriptedRng>,
+        call: &Line<'_>,
+        reply: &str,
+        told: &mut Told,
+    ) -> Result<(), AllocError> {
+        tell_failure(fs, call, reply, told)?;
+        if let Line::On(file, OnFile::Truncate(length)) = call {
+            if let Some(inode) = inode_named(fs, file)? {
+                tell_reached(self.size, *length, fs.size_of(inode), reply, told)?;
+            }
+        }
+        Ok(())
     }
 
     /// Notes a write that returned Ok, or the zeros that a truncation wrote. Before the bytes of a write there may be zeros too.
@@ -137,11 +169,11 @@ impl Watch {
         fs: &FileSystem<ScriptedRng>,
         file: &Named<'_>,
         call: &OnFile<'_>,
-        text: &mut String,
+        told: &mut Told,
     ) -> Result<(), AllocError> {
         match call {
             OnFile::Write { offset, bytes } => self.note_write(line, fs, file, *offset, bytes),
-            OnFile::Sync | OnFile::SyncData => self.note_sync(fs, file, text),
+            OnFile::Sync | OnFile::SyncData => self.note_sync(fs, file, told),
             _ => Ok(()),
         }
     }
@@ -151,15 +183,15 @@ impl Watch {
         &mut self,
         fs: &FileSystem<ScriptedRng>,
         file: &Named<'_>,
-        text: &mut String,
+        told: &mut Told,
     ) -> Result<(), AllocError> {
         if fs.options().syncs == Syncs::Lie {
-            return text.push_str("made nothing durable: syncs lie\n");
+            return told.tell(&Event::Lie);
         }
         if let Some(inode) = inode_named(fs, file)? {
             self.writes.remove(&inode);
         }
-        self.push_settled(fs, text)
+        self.tell_settled(fs, told)
     }
 
     /// Adds what a sync of names settled, and forgets edits that are settled.
@@ -168,16 +200,16 @@ impl Watch {
         fs: &FileSystem<ScriptedRng>,
         call: &Call<'_>,
         is_done: bool,
-        text: &mut String,
+        told: &mut Told,
     ) -> Result<(), AllocError> {
         let is_lie = fs.options().syncs == Syncs::Lie;
         match call {
             Call::ByPath(PathCall::SyncDirectory(_))
             | Call::ByNumber(NumberCall::SyncDirectory(_))
             | Call::ByNumber(NumberCall::SyncAll)
-                if is_done && is_lie => { text.push_str("made nothing durable: syncs lie\n") }
+                if is_done && is_lie => { told.tell(&Event::Lie) }
             Call::ByPath(PathCall::SyncDirectory(_)) | Call::ByNumber(NumberCall::SyncDirectory(_))
-                if is_done => { self.push_settled(fs, text) }
+                if is_done => { self.tell_settled(fs, told) }
             Call::ByNumber(NumberCall::SyncAll) | Call::ByNumber(NumberCall::Settle) if is_done => {
                 self.writes.clear();
                 self.edits.clear();
@@ -225,10 +257,10 @@ impl Watch {
     }
 
     /// Adds which edits a sync settled, of those that nothing had settled, and forgets them.
-    fn push_settled(
+    fn tell_settled(
         &mut self,
         fs: &FileSystem<ScriptedRng>,
-        text: &mut String,
+        told: &mut Told,
     ) -> Result<(), AllocError> {
         let left = fs.unsettled();
         let count = self.edits.len();
@@ -236,11 +268,10 @@ impl Watch {
             return Ok(());
         }
         let settled = count.saturating_sub(left.len());
-        writeln!(text, "settled {settled} of {count} edits")?;
+        told.tell(&Event::Settles { settled, count })?;
         for edit in &self.edits {
             if !has(left, edit.number) {
-                let (line, words) = (edit.line, &edit.words);
-                writeln!(text, "  line {line}: {words}")?;
+                told.tell(&Event::Settled(edit))?;
             }
         }
         self.keep_unsettled(fs);
@@ -252,13 +283,13 @@ impl Watch {
         &mut self,
         fs: &FileSystem<ScriptedRng>,
         crash: &Crash,
-        text: &mut String,
+        told: &mut Told,
     ) -> Result<(), AllocError> {
         let alloc = self.alloc;
         self.paths = Paths::read(alloc, fs)?;
-        push_edits(alloc, crash, &self.edits, text)?;
+        tell_edits(alloc, crash, &self.edits, told)?;
         if let Some(before) = &self.before {
-            push_files(alloc, fs, crash, before, &self.paths, &self.writes, text)?;
+            tell_files(alloc, fs, crash, before, &self.paths, &self.writes, told)?;
         }
         self.before = None;
         self.edits.clear();

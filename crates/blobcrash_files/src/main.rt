@@ -1,7 +1,9 @@
 // The program of `blobcrash files`: a script of files, the same explained, or each distinct outcome of its draws.
 #![tactic(auto)]
 
-use blob_file_scripts::{RefusedFiles, explain_files, explore_files, serve_files};
+use blob_file_scripts::{
+    RefusedFiles, explain_files, explain_files_as_json, explore_files, serve_files,
+};
 use blob_lab::script::token::number;
 use blob_lab::{Ending, streams};
 use std::env;
@@ -14,14 +16,15 @@ const LIMIT: u64 = 1_000_000;
 /// The capacity of the input's buffer in bytes.
 const INPUT_BUFFER: usize = 16384;
 
-const USAGE: &str = "usage: blobcrash files [explain | explore [--limit N] [--last]]";
+const USAGE: &str = "usage: blobcrash files [explain [--json] | explore [--limit N] [--last]]";
 
-const HELP: &str = "usage: blobcrash files [explain | explore [--limit N] [--last]]
+const HELP: &str = "usage: blobcrash files [explain [--json] | explore [--limit N] [--last]]
 
   blobcrash files    runs a script of calls on files, one a line, and prints the reply to each
-  blobcrash files explain
+  blobcrash files explain [--json]
                      prints the same, after each crash also which changes of names and which bytes it kept, and after
                      each sync which changes of names it settled
+                       --json     prints JSON, an object for each call, draw, change of names and write
   blobcrash files explore [--limit N] [--last]
                      runs the script once for each combination of outcomes of its draws, and prints each distinct
                      outcome with the number of its leaves and the words of the first, then the number of leaves
@@ -50,9 +53,16 @@ fn main(rt: HostRuntime) -> ExitCode {
 #[derive(Clone, Copy)]
 enum Asked {
     Help,
-    Script,
-    Explanation,
+    Script(Form),
     Outcomes { limit: u64, last: bool },
+}
+
+/// How a run is printed.
+#[derive(Clone, Copy)]
+enum Form {
+    Replies,
+    Remarks,
+    Objects,
 }
 
 /// Reads the arguments of `explore`, each at most once. Returns None if they are others.
@@ -81,14 +91,24 @@ fn read_explore_args(args: env::Args) -> Option<Asked> {
     })
 }
 
+/// Reads the arguments of `explain`. Returns None if they are others.
+fn read_explain_args(mut args: env::Args) -> Option<Asked> {
+    match args.next() {
+        None => Some(Asked::Script(Form::Remarks)),
+        Some(word) if word.as_str() == "--json" && args.next().is_none() =>
+            { Some(Asked::Script(Form::Objects)) }
+        Some(_) => None,
+    }
+}
+
 /// Reads the arguments. Returns None if the program takes no such ones.
 fn read_args(mut args: env::Args) -> Option<Asked> {
     let Some(word) = args.next() else {
-        return Some(Asked::Script);
+        return Some(Asked::Script(Form::Replies));
     };
     match word.as_str() {
         "explore" => read_explore_args(args),
-        "explain" if args.next().is_none() => Some(Asked::Explanation),
+        "explain" => read_explain_args(args),
         "help" | "--help" if args.next().is_none() => Some(Asked::Help),
         _ => None,
     }
@@ -98,8 +118,7 @@ fn run<T: AllocGlobal + Input + Print>(rt: &T, mut args: env::Args) -> Ending {
     let _program = args.next();
     match read_args(args) {
         Some(Asked::Help) => print_help(rt),
-        Some(Asked::Script) => run_input(rt, false),
-        Some(Asked::Explanation) => run_input(rt, true),
+        Some(Asked::Script(form)) => run_input(rt, form),
         Some(Asked::Outcomes { limit, last }) => explore_input(rt, limit, last),
         None => Ending::Usage,
     }
@@ -112,7 +131,7 @@ fn print_help<T: Print>(rt: &T) -> Ending {
     }
 }
 
-fn run_input<T: AllocGlobal + Input + Print>(rt: &T, explains: bool) -> Ending {
+fn run_input<T: AllocGlobal + Input + Print>(rt: &T, form: Form) -> Ending {
     let Ok(mut reader) = BufReader::with_capacity(rt.alloc(), INPUT_BUFFER, rt.reader()) else {
         return Ending::NoMemory;
     };
@@ -120,10 +139,10 @@ fn run_input<T: AllocGlobal + Input + Print>(rt: &T, explains: bool) -> Ending {
         return Ending::NoMemory;
     };
     let mut output = streams::Output::new(writer);
-    if explains {
-        explain_files(rt.alloc(), &mut reader, &mut output)
-    } else {
-        serve_files(rt.alloc(), &mut reader, &mut output)
+    match form {
+        Form::Replies => serve_files(rt.alloc(), &mut reader, &mut output),
+        Form::Remarks => explain_files(rt.alloc(), &mut reader, &mut output),
+        Form::Objects => explain_files_as_json(rt.alloc(), &mut reader, &mut output),
     }
 }
 

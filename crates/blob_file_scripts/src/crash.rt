@@ -1,6 +1,7 @@
-//! What a crash kept, in the words of files.
-use crate::byte_text::push_outcomes;
-use crate::edit_text::{edit_outcome, inode_truncated, outcome_words};
+//! What a crash kept, in the terms of files.
+use crate::byte_text::Choices;
+use crate::edit_text::{edit_outcome, inode_truncated};
+use crate::event::{Bytes, Event, Told};
 use crate::path_text::read_path;
 use crate::paths::Paths;
 use blob_faulty::entry::Entry;
@@ -51,11 +52,11 @@ pub(crate) struct Unsynced {
 
 /// A file before a crash.
 #[derive(Drop)]
-struct File {
+pub(crate) struct File {
     inode: u64,
     /// Empty if no name reaches it.
-    path: String,
-    size: u64,
+    pub(crate) path: String,
+    pub(crate) size: u64,
     durable: Vec<u8>,
 }
 
@@ -159,23 +160,21 @@ fn kept_records(alloc: Global, crash: &Crash) -> Result<BTreeMap<u64, bool>, All
     Ok(records)
 }
 
-/// Appends what a crash did with each edit that nothing had settled.
-pub(crate) fn push_edits(
+/// Tells what a crash did with each edit that nothing had settled.
+pub(crate) fn tell_edits(
     alloc: Global,
     crash: &Crash,
     edits: &[Issued],
-    text: &mut String,
+    told: &mut Told,
 ) -> Result<(), AllocError> {
     if edits.is_empty() {
         return Ok(());
     }
     let records = kept_records(alloc, crash)?;
-    text.push_str("unsettled edits:\n")?;
+    told.tell(&Event::Unsettled)?;
     for (edit, is_applied) in edits.iter().zip(crash.edits.iter()) {
         let is_kept = records.get(&edit.offset).copied().unwrap_or(false);
-        let (line, words) = (edit.line, &edit.words);
-        let outcome = outcome_words(edit_outcome(*is_applied, is_kept));
-        writeln!(text, "  line {line}: {words}: {outcome}")?;
+        told.tell(&Event::Edit(edit, edit_outcome(*is_applied, is_kept)))?;
     }
     Ok(())
 }
@@ -213,17 +212,26 @@ fn rows_of_files(alloc: Global, crash: &Crash) -> Result<BTreeMap<u64, usize>, A
     Ok(rows)
 }
 
-/// Returns what a crash chose for the bytes of a pending write, and where the write was. `None` if it didn't draw for it.
+/// Returns what a crash chose for the bytes of a pending write. `None` if it didn't draw for it.
 fn choices_of<'a>(
     crash: &'a Crash,
+    before: &'a Before,
     rows: &BTreeMap<u64, usize>,
     number: Option<u64>,
-) -> Option<(u64, u64, &'a [bool])> {
+) -> Option<Choices<'a>> {
     let number = number?;
     let row = rows.get(&number).copied()?;
     let place = crash.places.get(row)?;
     let (_, choices) = crash.rows.rows().get(row)?;
-    Some((number, place.offset, choices.as_slice()))
+    let covered: &[(u64, u64)] = match before.holes.get(&number) {
+        None => &[],
+        Some(holes) => holes,
+    };
+    Some(Choices {
+        kept: choices.as_slice(),
+        covered,
+        offset: place.offset,
+    })
 }
 
 /// Returns whether bytes were durable at an offset.
@@ -237,101 +245,74 @@ fn is_durable(durable: &[u8], offset: u64, bytes: &[u8]) -> bool {
     durable.get(offset as usize..end as usize) == Some(bytes)
 }
 
-/// Appends what a crash did with the bytes of a pending write, or with zeros, by its number.
-fn push_choices(
+/// Tells what a crash did with the zeros that a call wrote before the bytes of a write, or for a truncation.
+fn tell_zeros(
     before: &Before,
-    number: u64,
-    choices: &[bool],
-    offset: u64,
-    text: &mut String,
-) -> Result<(), AllocError> {
-    let covered: &[(u64, u64)] = match before.holes.get(&number) {
-        None => &[],
-        Some(holes) => holes,
-    };
-    push_outcomes(choices, covered, offset, text)?;
-    text.push('\n')
-}
-
-/// Appends what a crash did with the zeros that a call wrote before the bytes of a write, or for a truncation.
-fn push_zeros(
-    before: &Before,
+    path: &str,
     write: &Unsynced,
     crash: &Crash,
     rows: &BTreeMap<u64, usize>,
-    text: &mut String,
+    told: &mut Told,
 ) -> Result<(), AllocError> {
     let bytes = write.numbers.bytes();
     for number in write.numbers.first..write.numbers.end {
         if bytes == Some(number) && !write.bytes.is_empty() {
             continue;
         }
-        let Some((number, offset, choices)) = choices_of(crash, rows, Some(number)) else {
+        let Some(choices) = choices_of(crash, before, rows, Some(number)) else {
             continue;
         };
-        let (line, end) = (write.line, offset.saturating_add(choices.len() as u64));
-        write!(text, "  line {line}: zeros {offset}..{end}: ")?;
-        push_choices(before, number, choices, offset, text)?;
+        told.tell(&Event::Bytes(Bytes {
+            path,
+            line: write.line,
+            are_zeros: true,
+            start: choices.offset,
+            end: choices.offset.saturating_add(choices.kept.len() as u64),
+            choices: Some(choices),
+        }))?;
     }
     Ok(())
 }
 
-/// Appends what a crash did with the bytes of a write. Appends nothing if they were durable before.
-fn push_write(
+/// Tells what a crash did with the bytes of a write, unless they were durable before.
+fn tell_write(
     before: &Before,
-    file: &File,
+    (file, path): (&File, &str),
     write: &Unsynced,
     crash: &Crash,
     rows: &BTreeMap<u64, usize>,
-    text: &mut String,
+    told: &mut Told,
 ) -> Result<(), AllocError> {
-    let chosen = choices_of(crash, rows, write.numbers.bytes());
+    let choices = choices_of(crash, before, rows, write.numbers.bytes());
     if write.bytes.is_empty()
-        || (chosen.is_none() && is_durable(&file.durable, write.offset, &write.bytes))
+        || (choices.is_none() && is_durable(&file.durable, write.offset, &write.bytes))
     {
         return Ok(());
     }
-    let (line, offset) = (write.line, write.offset);
-    let end = offset.saturating_add(write.bytes.len() as u64);
-    write!(text, "  line {line}: write {offset}..{end}: ")?;
-    match chosen {
-        None => text.push_str("lost\n"),
-        Some((number, offset, choices)) => push_choices(before, number, choices, offset, text),
-    }
+    told.tell(&Event::Bytes(Bytes {
+        path,
+        line: write.line,
+        are_zeros: false,
+        start: write.offset,
+        end: write.offset.saturating_add(write.bytes.len() as u64),
+        choices,
+    }))
 }
 
-/// Appends the lines of a file's writes.
-fn push_lines(
+/// Tells what a crash did with a file's writes.
+fn tell_writes(
     crash: &Crash,
     before: &Before,
-    file: &File,
+    (file, path): (&File, &str),
     writes: &[Unsynced],
     rows: &BTreeMap<u64, usize>,
-    text: &mut String,
+    told: &mut Told,
 ) -> Result<(), AllocError> {
     for write in writes {
-        push_zeros(before, write, crash, rows, text)?;
-        push_write(before, file, write, crash, rows, text)?;
+        tell_zeros(before, path, write, crash, rows, told)?;
+        tell_write(before, (file, path), write, crash, rows, told)?;
     }
     Ok(())
-}
-
-/// Appends a file's path and sizes, and the path that it had before the crash if that was another one.
-fn push_sizes(
-    fs: &FileSystem<ScriptedRng>,
-    file: &File,
-    path: &str,
-    text: &mut String,
-) -> Result<(), AllocError> {
-    text.push_str(path)?;
-    if file.path.is_empty() {
-        text.push_str(", which had no name")?;
-    } else if file.path.as_str() != path {
-        let was = &file.path;
-        write!(text, ", which was {was}")?;
-    }
-    let (before, after) = (file.size, fs.size_of(file.inode));
-    writeln!(text, ": size {before} before, {after} after")
 }
 
 /// Returns the path of a file after a crash: the one before it if the crash kept that, or else its first one.
@@ -357,22 +338,21 @@ fn path_after(
     Ok(Some(path))
 }
 
-/// Appends what a crash did with the writes of each file. `paths` are those after the crash.
-pub(crate) fn push_files(
+/// Tells what a crash did with the writes of each file. `paths` are those after the crash.
+pub(crate) fn tell_files(
     alloc: Global,
     fs: &FileSystem<ScriptedRng>,
     crash: &Crash,
     before: &Before,
     paths: &Paths,
     writes: &BTreeMap<u64, Vec<Unsynced>>,
-    text: &mut String,
+    told: &mut Told,
 ) -> Result<(), AllocError> {
     let rows = rows_of_files(alloc, crash)?;
     for file in &before.files {
         let Some(path) = path_after(alloc, fs, paths, file)? else {
             if !file.path.is_empty() {
-                let was = &file.path;
-                writeln!(text, "{was}: removed, since no name of it was kept")?;
+                told.tell(&Event::Removed(file))?;
             }
             continue;
         };
@@ -380,11 +360,13 @@ pub(crate) fn push_files(
             None => &[],
             Some(writes) => writes,
         };
-        let mut lines = String::new(alloc);
-        push_lines(crash, before, file, of_file, &rows, &mut lines)?;
-        if !lines.is_empty() || fs.size_of(file.inode) != file.size {
-            push_sizes(fs, file, &path, text)?;
-            text.push_str(&lines)?;
+        let mut of_writes = told.again();
+        tell_writes(crash, before, (file, &path), of_file, &rows, &mut of_writes)?;
+        let size = fs.size_of(file.inode);
+        if !of_writes.text.is_empty() || size != file.size {
+            let path = path.as_str();
+            told.tell(&Event::Found { file, path, size })?;
+            told.add(&of_writes)?;
         }
     }
     Ok(())

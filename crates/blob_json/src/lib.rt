@@ -1,0 +1,7 @@
+//! Objects of JSON, each on a line of its own.
+#![tactic(auto)]
+
+pub mod object;
+pub mod text;
+
+pub use object::Object;
