@@ -20,7 +20,10 @@ pub(crate) enum Draw {
 pub(crate) enum Event<'a> {
     Draw(Draw),
     /// A crash, and a file that had something pending.
-    Crashed { file: &'a File, after: &'a [u8] },
+    Crashed {
+        file: &'a File,
+        after: &'a [u8],
+    },
     /// A crash lost writes of a blob that were made at retention 0.
     Unkept {
         partition: &'a str,
@@ -28,7 +31,10 @@ pub(crate) enum Event<'a> {
         count: usize,
     },
     /// A write failed and kept bytes, which are durable. It is the only entry of the file.
-    FailedWrite { file: &'a File, after: &'a [u8] },
+    FailedWrite {
+        file: &'a File,
+        after: &'a [u8],
+    },
     /// A write failed and kept nothing.
     LostWrite {
         opened: &'a Opened,

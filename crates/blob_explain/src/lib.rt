@@ -14,6 +14,7 @@ mod outcomes;
 mod picture;
 mod remarks;
 mod rows;
+mod telling;
 mod unkept;
 mod watch;
 

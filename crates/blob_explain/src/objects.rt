@@ -147,7 +147,12 @@ fn push_item(
             if !is_held {
                 return push_write(line, blob, write, of, to);
             }
-            begin_write(&mut object, write.number, of, range(write.offset, write.bytes.len()))?;
+            begin_write(
+                &mut object,
+                write.number,
+                of,
+                range(write.offset, write.bytes.len()),
+            )?;
         }
         Item::Resize(len) => object.number("resize", *len)?,
         Item::Durable { offset, bytes } => {
@@ -194,7 +199,12 @@ fn push_write(
 ) -> Result<(), AllocError> {
     let alloc = *to.allocator();
     let mut object = begin(alloc, line)?;
-    begin_write(&mut object, write.number, of, range(write.offset, write.bytes.len()))?;
+    begin_write(
+        &mut object,
+        write.number,
+        of,
+        range(write.offset, write.bytes.len()),
+    )?;
     blob.name(&mut object, alloc)?;
     object.runs("kept", &runs_of(alloc, write, Fate::Kept)?)?;
     object.runs("lost", &runs_of(alloc, write, Fate::Lost)?)?;
@@ -233,7 +243,12 @@ fn push_stale_write(
 ) -> Result<(), AllocError> {
     let alloc = *to.allocator();
     let mut object = begin(alloc, line)?;
-    begin_write(&mut object, None, line, range(write.offset, write.bytes.len()))?;
+    begin_write(
+        &mut object,
+        None,
+        line,
+        range(write.offset, write.bytes.len()),
+    )?;
     Blob::of(opened).name(&mut object, alloc)?;
     object.pair("live", live)?;
     object.end(to)

@@ -36,7 +36,10 @@ pub(crate) enum Event<'a> {
     /// A sync made nothing durable.
     Lie,
     /// A sync settled some of the edits that nothing had settled.
-    Settles { settled: usize, count: usize },
+    Settles {
+        settled: usize,
+        count: usize,
+    },
     /// One of these.
     Settled(&'a Issued),
     /// A crash found edits that nothing had settled.

@@ -26,7 +26,10 @@ fn rate_of(options: &Options, call: &Line<'_>) -> Option<(&'static str, Probabil
             ("write", faults.write_rate.map(|writes| writes.failure_rate))
         }
         Line::On(_, OnFile::Truncate(_)) => {
-            ("resize", faults.resize_rate.map(|resizes| resizes.failure_rate))
+            (
+                "resize",
+                faults.resize_rate.map(|resizes| resizes.failure_rate),
+            )
         }
         Line::On(_, OnFile::Sync | OnFile::SyncData) if options.syncs != Syncs::Lie => {
             ("sync", faults.sync_rate)

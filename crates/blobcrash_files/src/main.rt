@@ -95,8 +95,9 @@ fn read_explore_args(args: env::Args) -> Option<Asked> {
 fn read_explain_args(mut args: env::Args) -> Option<Asked> {
     match args.next() {
         None => Some(Asked::Script(Form::Remarks)),
-        Some(word) if word.as_str() == "--json" && args.next().is_none() =>
-            { Some(Asked::Script(Form::Objects)) }
+        Some(word) if word.as_str() == "--json" && args.next().is_none() => {
+            Some(Asked::Script(Form::Objects))
+        }
         Some(_) => None,
     }
 }
