@@ -73,9 +73,9 @@ class Checks:
 
 
 def run(program, text):
-    """The replies of a script, and its explanation."""
-    told = [subprocess.run([program + word], input=text.encode(), stdout=subprocess.PIPE, stderr=subprocess.DEVNULL).stdout.decode() for word in ("", "_explain")]
-    return told
+    """The replies of a script, and its explanation as JSON."""
+    commands = ([program], [program + "_explain", "--json"])
+    return [subprocess.run(it, input=text.encode(), stdout=subprocess.PIPE, stderr=subprocess.DEVNULL).stdout.decode() for it in commands]
 
 
 def write_page(program, folder, name, text, **more):

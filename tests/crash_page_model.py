@@ -24,7 +24,7 @@ from blobcrash_page.state import State
 
 
 def explained(program, text):
-    return subprocess.run([program + "_explain"], input=text.encode(), stdout=subprocess.PIPE, stderr=subprocess.DEVNULL).stdout.decode()
+    return subprocess.run([program + "_explain", "--json"], input=text.encode(), stdout=subprocess.PIPE, stderr=subprocess.DEVNULL).stdout.decode()
 
 
 def lengths_after(step):

@@ -91,10 +91,10 @@ WIDE
 ok 'a remark that is too wide' diff "$work/wanted" "$work/out"
 
 printf 'create /a\ncrash\n' >"$work/in"
-for words in 'explain more' 'explain --last' 'explain explain' 'explain --help'; do
+for words in 'explain more' 'explain --last' 'explain explain' 'explain --help' 'explain --json --json' --json; do
     # shellcheck disable=SC2086
     "$files" $words <"$work/in" >"$work/out" 2>"$work/err"
-    ok "arguments '$words'" [ "$?-$(cat "$work/out" "$work/err")" = '2-usage: blobcrash files [explain | explore [--limit N] [--last]]' ]
+    ok "arguments '$words'" [ "$?-$(cat "$work/out" "$work/err")" = '2-usage: blobcrash files [explain [--json] | explore [--limit N] [--last]]' ]
 done
 "$files" explain <"$work/in" >/dev/full 2>"$work/err"
 ok 'an output that is full' [ "$?-$(cat "$work/err")" = '1-output failed' ]
@@ -133,4 +133,5 @@ if ! has_python; then
 fi
 export PYTHONDONTWRITEBYTECODE=1
 add python3 "$top/tests/file_pictures.py" "$files"
+add python3 "$top/tests/explained.py" files "$files" 40
 finish

@@ -178,7 +178,7 @@ crashed 11
 # 1 leaf, not all of them: the limit was reached; 1 outcome
 " ''
 played more <"$work/in"
-expect 'an argument' 2 '' "usage: blobcrash files [explain | explore [--limit N] [--last]]
+expect 'an argument' 2 '' "usage: blobcrash files [explain [--json] | explore [--limit N] [--last]]
 "
 "$files" <"$work/in" >/dev/full 2>"$work/err"
 status=$?

@@ -40,6 +40,7 @@ done
 if has_python; then
     python3 "$top/tests/pictures.py" "$program" "${program}_explain" 300 >"$work/shown" 2>&1
     tell $? 'pictures of random scripts'
+    add python3 "$top/tests/explained.py" store "$program" "${program}_explain" 200
 else
     skip 'pictures of random scripts: no python3'
 fi

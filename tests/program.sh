@@ -63,13 +63,13 @@ for words in '' 'resolve ' "$(printf '\377')"; do
     run "$program" "$words" </dev/null
     expect 'an argument that no program takes' 2 '' "$usage"
 done
-for words in more 'help help' 'help more' 'more help' --limit; do
+for words in more 'help help' 'help more' 'more help' --limit '--json --json' 'more --json'; do
     # shellcheck disable=SC2086
     run "${program}_explain" $words </dev/null
-    expect "arguments of explain '$words'" 2 '' 'usage: blobcrash explain'
+    expect "arguments of explain '$words'" 2 '' 'usage: blobcrash explain [--json]'
 done
 run "${program}_explain" "$(printf '\377')" </dev/null
-expect 'an argument of explain that is not UTF-8' 2 '' 'usage: blobcrash explain'
+expect 'an argument of explain that is not UTF-8' 2 '' 'usage: blobcrash explain [--json]'
 
 # Help. Each program names what it does, and ./blobcrash all of it.
 # helps COMMAND..: runs it; what it prints is in $work/help.

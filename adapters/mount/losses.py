@@ -1,13 +1,15 @@
-"""What a failure lost, in words: the remarks of `blobcrash files explain` on its record, and the last calls before the crash by their paths."""
+"""What a failure lost, in words: what `blobcrash files explain --json` tells of its record, and the last calls before the crash by their
+paths."""
 
+import json
 import os
-import re
 import subprocess
 
 CALLS_MOST, REMARKS_MOST = 8, 12
 # A longer record isn't explained, nor one that takes longer.
 _BYTES_MOST, _SECONDS_MOST = 64 << 20, 300
 _NO_CALLS = ("seed", "words", "image")
+_OUTCOMES = {"lost": "lost", "discarded": "discarded, since an edit before it was lost"}
 
 
 def described(program, record):
@@ -19,46 +21,59 @@ def described(program, record):
         if os.path.getsize(record) > _BYTES_MOST:
             return [], []
         with open(record, "rb") as script:
-            ran = subprocess.run([program, "files", "explain"], stdin=script, stdout=subprocess.PIPE, timeout=_SECONDS_MOST,
+            ran = subprocess.run([program, "files", "explain", "--json"], stdin=script, stdout=subprocess.PIPE, timeout=_SECONDS_MOST,
                                  env={**os.environ, "BLOBCRASH_TOLD": "1"})
         with open(record, encoding="utf-8") as script:
             lines = script.read().splitlines()
     except (OSError, subprocess.TimeoutExpired, UnicodeDecodeError):
         return [], []
-    said = ran.stdout.decode(errors="replace").splitlines()
-    return (_lost(said), _Calls(lines, said).last()) if ran.returncode == 0 else ([], [])
+    if ran.returncode != 0:
+        return [], []
+    told = [json.loads(line) for line in ran.stdout.decode(errors="replace").split("\n")[:-1]]
+    return lost(told), _Calls(lines, [it["reply"] for it in told if "call" in it]).last()
 
 
-def _lost(said):
-    """What is said after the last crash, without what was kept."""
-    crash = max((at for at, line in enumerate(said) if line.split(" ")[0] == "crashed"), default=len(said))
-    found, header = [], None
-    for line in said[crash + 1:]:
-        if not line.startswith("# "):
-            break
-        text = line[2:]
-        if not text.startswith(" "):
-            header = text
-            if _is_loss(text):
-                found, header = [*found, text], None
-        elif not text.endswith(": kept"):
-            found, header = [*found, *([header] if header else []), text], None
+def lost(told):
+    """What is told of the last crash, in the words of `blobcrash files explain`, without what was kept."""
+    crash = max((at for at, it in enumerate(told) if it.get("reply", "").split(" ")[0] == "crashed"), default=len(told))
+    end = next((at for at, it in enumerate(told) if at > crash and "call" in it), len(told))
+    found, header = [], "unsettled edits:"
+    for it in told[crash + 1:end]:
+        if "file" in it and "of" not in it:
+            header = _file(it)
+            if it["before"] != it["after"]:
+                found, header = [*found, header], None
+        elif it["lost"] or it["covered"] if "bytes" in it else it["outcome"] != "kept":
+            found, header = [*found, *([header] if header else []), _bytes(it) if "bytes" in it else _edit(it)], None
     return found if len(found) <= REMARKS_MOST else [*found[:REMARKS_MOST], f".. {len(found) - REMARKS_MOST} more lines"]
 
 
-def _is_loss(header):
-    """Whether the remark on a file says itself that something changed: that it was removed, or its size."""
-    sizes = re.search(r": size (\d+) before, (\d+) after$", header)
-    return sizes[1] != sizes[2] if sizes else ": removed, " in header
+def _edit(it):
+    return f"  line {it['of']}: {it['edit']}: {_OUTCOMES[it['outcome']]}"
+
+
+def _file(it):
+    """A file with its sizes, and the path that it had before the crash if that was another one."""
+    if it["file"] is None:
+        return f"{it['was']}: removed, since no name of it was kept"
+    was = ", which had no name" if it["was"] is None else "" if it["was"] == it["file"] else f", which was {it['was']}"
+    return f"{it['file']}{was}: size {it['before']} before, {it['after']} after"
+
+
+def _bytes(it):
+    """A write, or zeros: one word if all bytes have the same outcome, and else each outcome with its runs."""
+    outcomes = [(word, it[word]) for word in ("kept", "lost", "covered") if it[word]]
+    runs = [word if len(outcomes) == 1 else f"{word} {','.join(f'{start}..{end}' for start, end in runs)}" for word, runs in outcomes]
+    return f"  line {it['of']}: {'zeros' if it['zeros'] else 'write'} {it['bytes'][0]}..{it['bytes'][1]}: {'; '.join(runs)}"
 
 
 class _Calls:
     """The calls of a record, with paths in place of numbers."""
 
-    def __init__(self, lines, said):
+    def __init__(self, lines, replies):
         self._files, self._folders, self._known = {}, {"1": ("", "")}, {}
         self._calls = []
-        replies = (line for line in said if not line.startswith("#"))
+        replies = iter(replies)
         for line in lines:
             words = line.split(" ")
             if line.startswith("# descriptor ") and len(words) > 4:

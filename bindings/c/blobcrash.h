@@ -551,6 +551,9 @@ struct blobcrash_script_ran blobcrash_run(const uint8_t *script, size_t script_l
  */
 struct blobcrash_script_ran blobcrash_explain(const uint8_t *script, size_t script_len, uint8_t *text, size_t capacity);
 
+/* The same as JSON, what `blobcrash explain --json` prints: an object a line (docs/FORMATS.md). */
+struct blobcrash_script_ran blobcrash_explain_json(const uint8_t *script, size_t script_len, uint8_t *text, size_t capacity);
+
 #ifdef __cplusplus
 }
 #endif

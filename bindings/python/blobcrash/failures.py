@@ -7,7 +7,7 @@ import importlib
 from types import TracebackType
 from typing import Any, Callable, Dict, List, Optional, TypeVar, cast
 
-from .layers import explain, run
+from .layers import explain_as_json, run
 from .paths import legend_of
 from .power import PowerLoss
 
@@ -149,17 +149,16 @@ def page_writer(wanted_by: str) -> Callable[[str, List[str], str], None]:
     Raises `ImportError` if pages can't be made. `wanted_by` names the option that needs them.
     """
     try:
-        page = importlib.import_module("blobcrash_page").page
+        package = importlib.import_module("blobcrash_page")
     except ImportError:
         raise ImportError(f"`{wanted_by}` needs the package `blobcrash_page`, which lies beside `blobcrash` in bindings/python") from None
 
     def write(path: str, lines: List[str], title: str) -> None:
         script = "".join(line + "\n" for line in lines)
         # With a library of an earlier version, and without the program, the page has no remarks.
-        explained = explain(script) or run(script.encode()).decode()
-        replies = "".join(line + "\n" for line in explained.split("\n")[:-1] if not line.startswith("# "))
+        told = explain_as_json(script) or run(script.encode()).decode()
         with open(path, "w", encoding="utf-8") as file:
-            file.write(page(script, replies, explained, title=title))
+            file.write(package.page(script, package.replies_of(told), told, title=title))
 
     return write
 

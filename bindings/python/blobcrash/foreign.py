@@ -133,6 +133,7 @@ _OTHERS = {
     "files_line_of": (Ran, _asked, *_bytes, *_bytes, _room, _size),
     "run": (ScriptRan, *_bytes, _room, _size),
     "explain": (ScriptRan, *_bytes, _room, _size),
+    "explain_json": (ScriptRan, *_bytes, _room, _size),
     "explorer_begin": (None, _explorer, _size),
     "explorer_choose": (Branch, _explorer, _choices, _size, _status, _number),
     "explorer_count": (_status, _explorer, _choices, _size, _size),

@@ -12,7 +12,7 @@ import subprocess
 import weakref
 from contextlib import suppress
 from struct import Struct
-from typing import Any, List, Optional, Union
+from typing import Any, Callable, List, Optional, Union
 
 from .calls import Call, Line, Opened, Reply, made, reply_of
 from .checking import check as faults_of
@@ -377,9 +377,18 @@ def explain(script: str) -> Optional[str]:
 
     The library explains it. If there is none, or one of an earlier version that can't, the program does. `None` if that isn't built.
     """
+    return _explanation(script, explained)
+
+
+def explain_as_json(script: str) -> Optional[str]:
+    """As `explain`, what `blobcrash explain --json` prints."""
+    return _explanation(script, explained_as_json, "--json")
+
+
+def _explanation(script: str, by_library: Callable[[bytes], bytes], *options: str) -> Optional[str]:
     text = script.encode()
     try:
-        return explained(text).decode()
+        return by_library(text).decode()
     except BadLine as bad:
         return bad.replies.decode()
     except LibraryMissing:
@@ -389,16 +398,21 @@ def explain(script: str) -> Optional[str]:
     named = f"{built}_explain"
     command = [named] if os.path.exists(named) or "BLOBCRASH" not in os.environ else [built, "explain"]
     try:
-        run = subprocess.run(command, input=text, stdout=subprocess.PIPE, stderr=subprocess.DEVNULL)
+        run = subprocess.run([*command, *options], input=text, stdout=subprocess.PIPE, stderr=subprocess.DEVNULL)
     except OSError:
         return None
-    return run.stdout.decode()
+    return run.stdout.decode() if run.returncode != 2 or run.stdout else None
 
 
 def explained(script: bytes) -> bytes:
     """Runs a whole script in this process, and returns what `blobcrash explain` prints. `BadLine` as `run`; `LibraryMissing` if the
     library is of an earlier version that can't explain."""
     return _whole("explain", script)
+
+
+def explained_as_json(script: bytes) -> bytes:
+    """As `explained`, what `blobcrash explain --json` prints."""
+    return _whole("explain_json", script)
 
 
 def run(script: bytes) -> bytes:

@@ -20,16 +20,16 @@ from .chart import table
 from .explored import exploration
 from .page import page
 from .picture import picture
-from .script import lines_of
+from .script import replies_of
 
 TOP = os.path.dirname(os.path.dirname(os.path.dirname(os.path.dirname(os.path.abspath(__file__)))))
 USAGE = "usage: crash_page [--title TEXT] [--explored FILE] [--fails TEXT] [--picture | --chart]\n"
 
 
 def explained(program, script):
-    """What the program prints for a script with pictures, on both of its streams, and its status."""
+    """What the program tells of a script as JSON, what it prints on standard error, and its status."""
     built = program + "_explain"
-    command = [built] if os.path.exists(built) else [program, "explain"]
+    command = [built, "--json"] if os.path.exists(built) else [program, "explain", "--json"]
     try:
         ran = subprocess.run(command, input=script, stdout=subprocess.PIPE, stderr=subprocess.PIPE)
     except FileNotFoundError:
@@ -40,15 +40,18 @@ def explained(program, script):
 
 
 def by_library(script):
-    """As `explained`. With a library of an earlier version without pictures."""
+    """As `explained`. With a library of an earlier version the replies alone."""
     from blobcrash import BadLine, LibraryMissing, run
-    from blobcrash.layers import explained as explained_by_library
+    from blobcrash.layers import explained_as_json
 
     try:
-        try:
-            return explained_by_library(script).decode(), "", 0
-        except LibraryMissing:
-            return run(script).decode(), "", 0
+        return explained_as_json(script).decode(), "", 0
+    except LibraryMissing:
+        pass
+    except BadLine as bad:
+        return bad.replies.decode(), f"line {bad.line}: bad call\n", 2
+    try:
+        return run(script).decode(), "", 0
     except BadLine as bad:
         return bad.replies.decode(), f"line {bad.line}: bad call\n", 2
 
@@ -117,13 +120,12 @@ def show(options):
     if "--explored" in options:
         with open(options["--explored"], encoding="utf-8") as file:
             chart = exploration(file.read(), fails)
-    text, errors, status = explained(os.environ.get("BLOBCRASH", os.path.join(TOP, "blobcrash")), given)
+    told, errors, status = explained(os.environ.get("BLOBCRASH", os.path.join(TOP, "blobcrash")), given)
     script = given.decode(errors="replace")
     if "--picture" in options:
-        shown = picture(script, text)
+        shown = picture(script, told)
     else:
-        replies = "".join(line + "\n" for line in lines_of(text) if not line.startswith("# "))
-        shown = page(script, replies, text, options["--title"], chart)
+        shown = page(script, replies_of(told), told, options["--title"], chart)
     write(shown)
     sys.stderr.write(errors)
     return status

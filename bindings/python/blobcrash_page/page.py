@@ -53,13 +53,13 @@ PAGE = """<!doctype html>
 """
 
 
-def page(script_text, replies_text, explain_text, title="What a crash left", chart=None):
+def page(script_text, replies_text, told_text, title="What a crash left", chart=None):
     """Returns a page of a script that was run, as a text.
 
-    `replies_text` is what `blobcrash` printed for the script, `explain_text` what `blobcrash explain` did. `chart` is an
+    `replies_text` is what `blobcrash` printed for the script, `told_text` what `blobcrash explain --json` did. `chart` is an
     `Exploration`, if the page is to show one. A ValueError says that the texts are not of one run.
     """
-    script = Script(script_text, explain_text)
+    script = Script(script_text, told_text)
     told = [step.reply for step in script.steps if step.reply is not None]
     if told != lines_of(replies_text):
         raise ValueError("the replies are not those of the explanation")

@@ -80,9 +80,9 @@ def note_values(values, call, changes, model):
             values[rest[0]].update(dict.fromkeys(range(rest[1], rest[1] + rest[2]), 0))
 
 
-def picture(script_text, explain_text):
-    """Returns the picture of a run as SVG."""
-    script = Script(script_text, explain_text)
+def picture(script_text, told_text):
+    """Returns the picture of a run as SVG. `told_text` is what `blobcrash explain --json` printed."""
+    script = Script(script_text, told_text)
     model = Model(script)
     state, values = State(), [{} for _ in model.lanes]
     for lane in range(len(model.lanes)):

@@ -303,6 +303,12 @@ unsafe extern "C" {
         text: *mut u8,
         capacity: usize,
     ) -> ScriptRan;
+    pub(crate) fn blobcrash_explain_json(
+        script: *const u8,
+        len: usize,
+        text: *mut u8,
+        capacity: usize,
+    ) -> ScriptRan;
 }
 
 /// The numbers are those of the C header. `bindings/c/numbers.c` tests what each of them does.

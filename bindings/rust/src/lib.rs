@@ -107,4 +107,4 @@ pub use run::{Explorable, Run};
 pub use seeds::seeds;
 pub use shrink::{Shrunk, shrink};
 pub use store::{Selections, Store};
-pub use whole_script::{ScriptError, explain_script, run_script};
+pub use whole_script::{ScriptError, explain_script, explain_script_json, run_script};

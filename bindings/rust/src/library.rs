@@ -475,6 +475,13 @@ pub(crate) fn explain(script: &[u8], text: &mut [u8]) -> ScriptRan {
     unsafe { blobcrash_explain(script.as_ptr(), script.len(), at, room) }
 }
 
+/// Runs a whole script and writes its explanation as JSON to the start of a buffer.
+pub(crate) fn explain_json(script: &[u8], text: &mut [u8]) -> ScriptRan {
+    let (room, at) = (text.len(), text.as_mut_ptr());
+    // SAFETY: the script and the buffer are borrowed for the call, and don't overlap.
+    unsafe { blobcrash_explain_json(script.as_ptr(), script.len(), at, room) }
+}
+
 /// Parses a header region. `None` if the arguments aren't those of one.
 pub(crate) fn parse_header(raw: &[u8], raw_len: u64, accepts: &Accepts) -> Option<ParsedHeader> {
     // SAFETY: the bytes and the numbers are borrowed for the call.

@@ -18,7 +18,7 @@ pub enum ScriptError {
     BadCall {
         /// The line's number, from 1.
         line: u64,
-        /// The replies of the lines before it; of [`explain_script`] with their remarks.
+        /// The replies of the lines before it; of [`explain_script`] with their remarks, of [`explain_script_json`] as JSON.
         replies: Vec<u8>,
     },
     /// The library is out of memory, or the number of lines overflows.
@@ -71,6 +71,20 @@ pub fn run_script(script: &[u8]) -> Result<Vec<u8>, ScriptError> {
 /// ```
 pub fn explain_script(script: &[u8]) -> Result<Vec<u8>, ScriptError> {
     whole(script, library::explain)
+}
+
+/// Runs a whole script, and returns what `blobcrash explain --json` prints: an object a line, for each call and for what it drew, kept
+/// and lost (`docs/FORMATS.md`).
+///
+/// ```
+/// use blobcrash::explain_script_json;
+///
+/// let script = b"open p 62\nconfig write 0 1 1 2 subset\nwrite 0 0 78\ncrash\n";
+/// let objects = String::from_utf8(explain_script_json(script).unwrap()).unwrap();
+/// assert!(objects.contains(r#""write": 0, "of": 3, "partition": "p", "name": "62", "kept": [[0, 1]]"#));
+/// ```
+pub fn explain_script_json(script: &[u8]) -> Result<Vec<u8>, ScriptError> {
+    whole(script, library::explain_json)
 }
 
 /// Returns what a function of the library writes for a script.

@@ -3,7 +3,7 @@ ghost use Rattle.std.specs.Prelude.{◌≡◌, ◌⊎◌, ◌<◌, ◌≤◌, �
 ghost use Rattle.blob_c.specs.Explanations.{ExplainsUntil, ExplainsWhole, NeedsRoom};
 ghost use Rattle.blob_sessions.specs.WholeScripts.{IsRunStatus};
 
-use blob_explain::explain_script;
+use blob_explain::{explain_script, explain_script_as_json};
 use blob_lab::{Ending, Input, Output};
 use blob_sessions::ran::{BAD_LINE, DONE, ENDLESS, NO_MEMORY, NO_ROOM};
 use blob_sessions::{ScriptRan, script};
@@ -40,4 +40,27 @@ fn explained_by(alloc: Global, script: &[u8]) -> (Ending, Vec<u8>)
     let mut output = Output::new(Vec::new(alloc));
     let ending = explain_script(alloc, &mut input, &mut output);
     (ending, output.into_writer())
+}
+
+/// Runs a script, and writes what `blobcrash explain --json` prints to the start of `text`. The bytes after it don't change.
+///
+/// The statuses of `blobcrash_explain`.
+#[unsafe(no_mangle)]
+pub extern "C" fn blobcrash_explain_json(
+    alloc: Global,
+    script: &[u8],
+    text: &mut [u8],
+) -> ScriptRan
+    ensures no_room { result.status ≡ NO_ROOM → length text.old < result.len }
+    ensures no_line { result.status ≡ DONE → result.line ≡ 0 }
+    ensures stopped { (result.status ≡ NO_MEMORY) ⊎ (result.status ≡ ENDLESS) → (result.len ≡ 0) × (result.line ≡ 0) }
+    ensures unwritten { (result.status ≡ DONE) ⊎ (result.status ≡ BAD_LINE) ⊎ (text.new ≡ text.old) }
+    ensures behind { drop result.len text.new ≡ drop result.len text.old }
+    ensures within { (result.status ≡ NO_ROOM) ⊎ (result.len ≤ length text.old) }
+    ensures status { IsRunStatus result.status }
+{
+    let mut input = Input::new(script);
+    let mut output = Output::new(Vec::new(alloc));
+    let ending = explain_script_as_json(alloc, &mut input, &mut output);
+    script::put(ending, &output.into_writer(), text)
 }

@@ -75,7 +75,7 @@ pub(crate) fn push_objects(
         Event::Resized { opened, fate, len } => push_resize(line, opened, fate, len, to),
         Event::FailedSync { opened, number, .. } => {
             let mut object = begin(*to.allocator(), line)?;
-            object.number("sync", number as u64)?;
+            object.number("started", number as u64)?;
             object.truth("stale", opened.is_stale)?;
             Blob::of(opened).name(&mut object, *to.allocator())?;
             object.end(to)
