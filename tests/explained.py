@@ -169,8 +169,8 @@ def check_runs(it, digits):
     """Compares the runs of a write with its digits: a covered byte may have either."""
     start, end = it["bytes"]
     covered = {at for run in it["covered"] for at in range(*run)}
-    assert sorted([*it["kept"], *it["lost"], *it["covered"]]) == [*map(list, zip([start, *sorted(r[1] for r in [*it["kept"], *it["lost"], *it["covered"]])[:-1]],
-                                                                              sorted(r[1] for r in [*it["kept"], *it["lost"], *it["covered"]])))] and end - start == len(digits), (it, digits)
+    spans = sorted([*it["kept"], *it["lost"], *it["covered"]])
+    assert [start, *(span[1] for span in spans)] == [*(span[0] for span in spans), end] and end - start == len(digits), (it, digits)
     shown = "".join("=" if start + at in covered else digit for at, digit in enumerate(digits))
     for name, digit in (("kept", "1"), ("lost", "0"), ("covered", "=")):
         assert it[name] == runs(shown, digit, start), (it, digits)
@@ -196,9 +196,9 @@ def check_store(program, explain, text):
             elif "live" in it:
                 assert it["live"] == next(iter(runs(digits, "1", it["bytes"][0])), None), it
         assert not rows, (call, rows)
-        heads = [remark for remark in call["remarks"] if re.fullmatch(r"\S+ [0-9a-f]+: length \d+ before, \d+ after", remark)]
-        lengths = [it for it in objects if it.get("length")]
-        assert heads == [f"{it['partition']} {it['name']}: length {it['length'][0]} before, {it['length'][1]} after" for it in lengths], call
+        heads = [f"{it['partition']} {it['name']}: length {it['length'][0]} before, {it['length'][1]} after" for it in objects if it.get("length")]
+        remarks = "".join(call["remarks"])
+        assert remarks.count(": length ") == len(heads) and all(head in remarks for head in heads), call
 
 
 def check_files(files, lines):

@@ -1,4 +1,6 @@
 // What a call draws, read ahead from the generator: it decides what the reply doesn't report.
+ghost use Rattle.std.specs.Prelude.{◌≡◌, ◌<◌, ◌+◌, ◌^◌, true};
+
 use crate::event::Draw;
 use blob_base::{Error, Probability};
 use blob_draws::faults::{ResizeFate, WriteFate, draw_resize, draw_write, draws};
