@@ -311,7 +311,8 @@ def test_text():
         check = ["sh", "-c", '[ ! -e "$STATE/g" ] || [ "$(cat "$STATE/g")" = old ]']
         command = [sys.executable, "-m", "blobcrash", "diagnose", "--superfluous", "--out", f"{folder}/out", f"{folder}/record", "--", *check]
         ran = subprocess.run(command, capture_output=True, text=True)
-        assert ran.stderr == "" and ran.returncode == 1, ran
+        said = [line for line in ran.stderr.splitlines() if not line.startswith("not proved yet")]
+        assert said == [] and ran.returncode == 1, ran
         # None, and /f and /g each empty, of three zeros, and whole. With the sync /g is whole in each state that has it.
         assert ran.stdout == f"""5 crashes, 7 states; 2 fail
 1. order: a later call was kept, and one that it depends on was lost

@@ -1,6 +1,6 @@
 #!/bin/sh
-# Tests of `blobcrash diagnose` (tests/diagnose.py), of records of the findings of docs/MOUNT.md (tests/diagnose_findings.py), and of programs
-# on the mount (tests/diagnose_mount.py): the sync is named that each is known to lack. tests/diagnose_page.py looks at the page in a browser;
+# Tests of `blobcrash diagnose` (tests/diagnose.py), of records of the findings of docs/MOUNT.md (tests/diagnose_findings.py), of records of
+# bindings and adapters (tests/diagnose_records.py), and of programs on the mount (tests/diagnose_mount.py): the sync is named that each is known to lack. tests/diagnose_page.py looks at the page in a browser;
 # its pictures go to $PAGE_PICTURES, if that is set. The last line is `N passed, M failed`.
 top=$(CDPATH='' cd -- "$(dirname -- "$0")/.." && pwd -P)
 # shellcheck source=tests/counting.sh
@@ -15,6 +15,26 @@ PYTHONPATH=$top/bindings/python${PYTHONPATH:+:$PYTHONPATH}
 export PYTHONPATH
 add python3 "$top/tests/diagnose.py"
 add python3 "$top/tests/diagnose_findings.py"
+add python3 "$top/tests/diagnose_records.py" test_rust test_explore
+python=
+for each in python3 /usr/bin/python3; do
+    if [ -z "$python" ] && "$each" -c 'import pytest' 2>/dev/null; then python=$each; fi
+done
+if [ -n "$python" ]; then
+    add "$python" "$top/tests/diagnose_records.py" test_pytest
+else
+    skip 'a failure under pytest: there is no pytest'
+fi
+if has sqlite3 && sh "$top/adapters/sqlite/build.sh" >/dev/null 2>&1; then
+    add python3 "$top/tests/diagnose_records.py" test_sqlite
+else
+    skip "SQLite's VFS: a C compiler, sqlite3.h or sqlite3 is missing"
+fi
+if sh "$top/adapters/leveldb/crash.sh" --list >/dev/null 2>&1; then
+    add python3 "$top/tests/diagnose_records.py" test_leveldb
+else
+    skip "LevelDB's Env: a C++ compiler or LevelDB is missing"
+fi
 if has chromium || has chromium-browser || has google-chrome; then
     add python3 "$top/tests/diagnose_page.py" "${PAGE_PICTURES:-$work/pictures}"
 else

@@ -49,6 +49,7 @@ def test_sqlite3():
 GIT = {"GIT_CONFIG_NOSYSTEM": "1", "HOME": "/nonexistent", "GIT_AUTHOR_NAME": "n", "GIT_AUTHOR_EMAIL": "n@localhost", "GIT_COMMITTER_NAME": "n",
        "GIT_COMMITTER_EMAIL": "n@localhost"}
 COMMITTED = """
+export HOME=/nonexistent
 cd "$STATE/r" || exit 1
 [ -s "$ACKNOWLEDGED" ] || exit 0
 git -c 'safe.directory=*' fsck --full && [ "$(git -c 'safe.directory=*' rev-parse HEAD)" = "$(cat "$ACKNOWLEDGED")" ]
@@ -58,7 +59,8 @@ git -c 'safe.directory=*' fsck --full && [ "$(git -c 'safe.directory=*' rev-pars
 def diagnosed(record, *words, options=()):
     """What is printed of a record, at most 40 outcomes of a crash and each write as a whole."""
     command = [f"{TOP}/tools/diagnose", "--whole", "--limit", "40", "--out", f"{record}.out", *options, record, "--", *words]
-    ran = subprocess.run(command, stdout=subprocess.PIPE, text=True, env={**os.environ, **GIT})
+    # A library without a proof is kept below the home folder, which is git's alone.
+    ran = subprocess.run(command, stdout=subprocess.PIPE, text=True, env={**os.environ, **GIT, "HOME": os.environ.get("HOME", "/")})
     assert ran.returncode == 1, ran
     return ran.stdout
 

@@ -1,5 +1,5 @@
 """`blobcrash diagnose` of records other than those of the mount: of `Files` in Rust, of the failures of `explore` and of the pytest fixture, and of
-SQLite's VFS, LevelDB's `Env` and RocksDB's `FileSystem` with their drivers. The report of each failure names the command. diagnose.sh runs it.
+SQLite's VFS and LevelDB's `Env`. The report of each failure names the command. diagnose.sh runs it.
 The last line is `N passed, M failed`. With the name of a test only that one is run."""
 
 import os
@@ -110,6 +110,22 @@ def test_sqlite():
             assert found.causes == [], found.causes
         else:
             found.only("acknowledged before durable", ["unlink /bank.db-journal"], "acknowledged 1", "fsyncdir /")
+
+
+def test_leveldb():
+    """Batches through the Env: each open removes what the old CURRENT names before the rename of the new one is durable. With a sync of the
+    directory after each creation and rename nothing is missing."""
+    with tempfile.TemporaryDirectory() as folder:
+        for mode, orders in (("sync-posix", 2), ("sync-posix-create-rename", 0)):
+            subprocess.run(["sh", f"{TOP}/adapters/leveldb/crash.sh", "--record", f"{folder}/record", mode], stdout=subprocess.DEVNULL, check=True)
+            with open(f"{folder}/record", encoding="utf-8") as file:
+                check = f'exec "{TOP}/out/leveldb/crash" --check "$STATE" "$ACKNOWLEDGED"\n'
+                found = Diagnosed(file.read(), check, "--whole", "--limit", "40")
+            assert len(found.causes) == orders, found.causes
+            for cause in found.causes:
+                (lost,), at = cause["lost"], cause["at"]
+                assert cause["class"] == "order" and lost["call"].endswith(".dbtmp -> /d/CURRENT") and at["call"].startswith("unlink /d/"), cause
+                assert cause["syncs"] == [{"sync": "fsyncdir /d", "before": at["line"]}], cause
 
 
 if __name__ == "__main__":
