@@ -1,6 +1,6 @@
 """
 Tests of calls on the mount that few programs make: mount_extra.py PROGRAM. Extended attributes, copies within the file system, holes, modes of
-fallocate, syncfs, calls that are to fail, and paths in the record. The last line is `N passed, M failed`.
+fallocate, syncfs, O_TMPFILE, calls that are to fail, also by commands of LazyFS, and paths in the record. The last line is `N passed, M failed`.
 """
 
 import ctypes
@@ -124,8 +124,9 @@ def test_failing():
         found = {refused(mount, line) for line in bad}
         check("bad ones", found == {"no such command", "Invalid argument"}, found)
         check("too many", [refused(mount, f"fail /x{number} open 1 EIO") for number in range(33)][32] == "No buffer space available")
-        mount.ask("fail none")
-        check("taken back", refusal(put, f"{at}/x5", b"") is None)
+        check("taken back", mount.ask("fail none") == "never due " + " ".join(map(str, range(7, 39))))
+        check("nothing is left", mount.ask("fail none") == "")
+        check("not any more", refusal(put, f"{at}/x5", b"") is None)
         mount.ask("fail /x5 write 2 off")
         writes = subprocess.Popen([sys.executable, "-c", "import os, sys\nfile = os.open(sys.argv[1], os.O_WRONLY)\n"
                                    "for _ in range(9): os.write(file, b'x')", f"{at}/x5"])
@@ -159,6 +160,87 @@ def test_failing_and_a_long_name():
         check("a long name", found == "ENAMETOOLONG" and "power on" in mount.ask("status"), found)
 
 
+def lazy_mount(folder, *options):
+    return Mount(PROGRAM, "--keep", "0/1", "--fifo", f"{folder}/fifo", "--log", f"{folder}/log", *options)
+
+
+def lazy(folder, *commands):
+    """Sends commands of LazyFS, and returns what the log says of each."""
+    with open(f"{folder}/log", "ab+") as log, open(f"{folder}/fifo", "wb", buffering=0) as fifo:
+        before = log.seek(0, os.SEEK_END)
+        fifo.write(b"".join(b"lazyfs::" + command.encode() + b"\n" for command in commands))
+
+        def said():
+            log.seek(before)
+            return log.read().decode().splitlines()
+
+        comes(lambda: len(said()) == len(commands))
+        return [line.rpartition(": ")[2] for line in said()]
+
+
+def test_lazy_crash():
+    """The power goes off before or after a call that a command of LazyFS names by a pattern."""
+    with tempfile.TemporaryDirectory() as folder, lazy_mount(folder) as mount:
+        path = f"{mount.at}/db.wal"
+        put(path, b"old", sync=True)
+        sync_folder(mount.at)
+        bad = ["timing=after::op=write", "timing=now::op=write::from_rgx=x", "timing=after::op=unlink::from_rgx=x", "timing=after::op=write::from_rgx=(",
+               "op=write::from_rgx=x", "timing=after::op=write::from_rgx="]
+        found = lazy(folder, *(f"crash::{fields}" for fields in bad))
+        check("bad ones", found == ["Invalid argument"] * len(bad), found)
+        check("before a sync", lazy(folder, "crash::timing=before::op=fsync::from_rgx=/db\\.[a-z]+$") == ["ok"])
+        put(f"{mount.at}/other", b"", sync=True)
+        file = os.open(path, os.O_WRONLY)
+        os.pwrite(file, b"new", 0)
+        check("the sync fails", refusal(os.fsync, file) == "EIO" and mount.control.is_off())
+        mount.ask("crash")
+        os.close(file)
+        check("it wasn't made", get(path) == b"old", get(path))
+        lazy(folder, "crash::timing=after::op=fsync::from_rgx=wal")
+        file = os.open(path, os.O_WRONLY)
+        os.pwrite(file, b"new", 0)
+        check("a sync", refusal(os.fsync, file) is None and mount.control.is_off())
+        mount.ask("crash")
+        os.close(file)
+        check("it was made", get(path) == b"new", get(path))
+
+
+def test_lazy_torn():
+    """Of a write that a command of LazyFS tears a crash keeps the parts that it names, whatever the settings are, and of later ones none."""
+    record = f"{FOLDER.name}/torn"
+    with tempfile.TemporaryDirectory() as folder, lazy_mount(folder, "--profile", "posix", "--record", record) as mount:
+        path = f"{mount.at}/f"
+        put(path, b"........", sync=True)
+        sync_folder(mount.at)
+        bad = ["file=/f::persist=1", "file=f::parts=2::persist=1", "file=/f::parts=2::persist=3", "file=/f::parts=2::persist=0", "parts=2::persist=1",
+               "file=/f::parts=33::persist=1", "file=/f::parts=2::persist=1,", "file=/f::parts=2::persist=1::occurrence=0", "file=/f::parts_bytes=[1,x]::persist=1"]
+        found = lazy(folder, *(f"torn-op::{fields}" for fields in bad))
+        check("bad ones", found == ["Invalid argument"] * len(bad), found)
+        for fields, left in (("parts=3::persist=1,3::occurrence=2", b"ab..efgh"), ("parts_bytes=[1,4,2]::persist=[2, 3]", b".bcdefg.")):
+            lazy(folder, "cache-checkpoint", f"torn-op::file=/f::{fields}")
+            file = os.open(path, os.O_WRONLY)
+            if "occurrence" in fields:
+                os.pwrite(file, b"XXXXXXXX", 0)
+            check("the write fails", refusal(os.pwrite, file, b"abcdefgh", 0) == "EIO" and mount.control.is_off())
+            mount.ask("crash")
+            os.close(file)
+            check(fields, get(path) == left, get(path))
+            put(path, b"........", sync=True)
+        put(path, b"later")
+        mount.ask("crash")
+        check("settings are as before", get(path) in (b"........", b""), get(path))
+        mount.ask("record stop")
+    with open(record, encoding="ascii") as file:
+        lines = file.read().splitlines()
+    check("the record", [line for line in lines if line.startswith("# failed")] == ["# failed write of /f: torn"] * 2)
+
+
+def test_temporary_files():
+    """There is no O_TMPFILE: libfuse doesn't pass it on."""
+    with Mount(PROGRAM) as mount:
+        check("O_TMPFILE", refusal(os.open, mount.at, os.O_TMPFILE | os.O_RDWR) == "ENOTSUP")
+
+
 def test_descriptors():
     """Each open of the record has a comment with its path, after a crash too."""
     record = f"{FOLDER.name}/paths"
@@ -176,4 +258,5 @@ def test_descriptors():
 
 
 if __name__ == "__main__":
-    run_tests([test_attributes, test_copies, test_holes, test_syncs, test_failing, test_failing_and_a_long_name, test_descriptors])
+    run_tests([test_attributes, test_copies, test_holes, test_syncs, test_failing, test_failing_and_a_long_name, test_lazy_crash, test_lazy_torn,
+               test_temporary_files, test_descriptors])

@@ -184,12 +184,28 @@ def test_every_state():
         command = ["tools/check_program", "--profile", "btrfs", "--keep", "0/1", "--out", out, "--whole", "--work", work, "--check", check_it, *start]
         ran = subprocess.run(command, cwd=TOP, stdin=subprocess.DEVNULL, stdout=subprocess.PIPE, stderr=subprocess.PIPE, text=True)
         wanted = ["/run.script, 5 changing calls, 2 acknowledgements\n", "the check exits with 1: ", "what the crash lost:", "acknowledged 2\n",
-                  "  shorter: tools/shrink --files ", " states, all of them; 1 fail\n"]
+                  "  shorter: tools/shrink --files ", " states, all of them; 1 fail\n", "missing: `fsync", f"\nthe page: {out}/page.html\n"]
         check(f"what it prints: {start}", ran.returncode == 1 and all(text in ran.stdout for text in wanted), ran)
+        with open(f"{out}/page.html", encoding="utf-8") as file:
+            check("the page", "fsync /b" in file.read())
+        os.unlink(f"{out}/page.html")
     command = ["tools/check_program", "--out", out, "--work", "echo 1 >$MOUNT/a", "--check", "true", "--limit", "2"]
     ran = subprocess.run(command, cwd=TOP, stdin=subprocess.DEVNULL, stdout=subprocess.PIPE, stderr=subprocess.PIPE, text=True)
     check("a limit", ran.returncode == 0 and "not all of them: at most 2 outcomes of a crash were tried; 0 fail" in ran.stdout, ran)
+    check("no failure and no page", "the page:" not in ran.stdout and not os.path.exists(f"{out}/page.html"), ran)
     check("bad words", subprocess.run(["tools/check_program", "--limit", "0"], cwd=TOP, stderr=subprocess.DEVNULL).returncode == 2)
+
+
+def test_never_due():
+    """A fault whose call no seed makes is named at the end, by its number also after an earlier one was due."""
+    faults = ["fail /f1 sync 1 EIO", "fail /no write 1 EIO", "fail /f2 open 1 off"]
+    words = [word for fault in faults for word in ("--fault", fault)]
+    status, _, said = crash_run("--seeds", "2", "--from-acknowledged", *words, "--work", f"echo 0 >>$ACKNOWLEDGED; {SIX}", "--check", "true")
+    check("the second one", (status, said) == (0, "crash_run: no seed made the call of --fault 'fail /no write 1 EIO'\n"), (status, said))
+    status, found, said = crash_run("--seeds", "1", "--profiles", "xfs,ext4", *words[2:4], "--work", f"echo 0 >>$ACKNOWLEDGED; {SIX}", "--check", "true")
+    check("of each profile", [line.split()[-2:] for line in said.splitlines()] == [["on", "xfs"], ["on", "ext4"]], said)
+    status, _, said = crash_run("--seeds", "1", "--fault", "config sync 0 1", "--work", f"echo 0 >>$ACKNOWLEDGED; {SIX}", "--check", "true")
+    check("other faults", (status, said) == (0, ""), (status, said))
 
 
 def test_folder():
@@ -206,5 +222,5 @@ def test_folder():
 if __name__ == "__main__":
     os.environ["BLOBCRASH_TOLD"] = "1"
     all_tests = [test_without_a_crash, test_untested, test_points, test_halves, test_record, test_words, test_calls, test_swarm, test_profiles,
-                 test_every_state, test_folder]
+                 test_every_state, test_never_due, test_folder]
     run_tests([test for test in all_tests if not sys.argv[1:] or test.__name__ in sys.argv[1:]])

@@ -108,11 +108,25 @@ static int write_at(struct node *node, uint64_t offset, const void *bytes, size_
     return 0;
 }
 
+/* Writes the parts that a crash is to keep. */
+static void write_parts(struct node *node, uint64_t offset, const char *bytes, size_t len, const struct failing_parts *parts) {
+    size_t at = 0;
+    int error = layer_keep_writes(true);
+    for (size_t part = 0; part < parts->count && at < len && !error; part++) {
+        size_t left = len - at, size = parts->sizes[0] ? parts->sizes[part] : len / parts->count;
+        if (size > left || (!parts->sizes[0] && part + 1 == parts->count)) size = left;
+        if (parts->kept >> part & 1) error = write_at(node, offset + at, bytes + at, size);
+        at += size;
+    }
+    layer_keep_writes(false);
+}
+
 void call_write(fuse_req_t req, fuse_ino_t id, const char *bytes, size_t size, off_t offset, struct fuse_file_info *info) {
     (void)info;
     struct node *node = call_begin(req, id, CALL_CHANGES);
     if (!node) return;
     int error = failing_error(node, FAILING_WRITE);
+    if (error && failing_write()) write_parts(node, (uint64_t)offset, bytes, size, failing_write());
     if (!error) error = write_at(node, (uint64_t)offset, bytes, size);
     if (error)
         fuse_reply_err(req, error);

@@ -2,12 +2,13 @@
 tools/check_program --work CMD --check CMD [options]: runs a program once on a mount, and checks every state that a crash could have left.
 
 The run is recorded, by `tools/crash_run --record-only`. Then `tools/states` makes a crash after each of its calls from the workload on, and
-runs the check on each state that it may leave. A failure says what its crash lost.
+runs the check on each state that it may leave. A failure says what its crash lost. If a state fails, `blobcrash diagnose` names the sync that the
+run lacks, and writes page.html in --out, a page for a browser.
 
   --limit N          at most N outcomes of each crash: first none lost, each single loss, all lost, each single draw kept (64)
   --whole            each write is kept or lost as a whole
   --jobs N           how many checks run at once (1)
-  --out FOLDER       where the record and the failures are kept (out/check_program)
+  --out FOLDER       where the record, the failures and the page are kept (out/check_program)
   --prepare, --from, --start, --work, --check, --timeout, --profile, --tear, --keep, --size, --allow-other   as for tools/crash_run
 
 A check finds the state in the plain folder $MOUNT, which it may change, and in $ACKNOWLEDGED what was acknowledged before the crash. With
@@ -82,11 +83,16 @@ def check_of(options):
     return [sys.executable, os.path.join(TOP, "adapters", "mount", "state_check.py"), options.start, options.check, options.timeout or "60"]
 
 
+def search(options, tool, folder, *words):
+    """Returns a command that runs the check on states of the record, with these words and a folder of its own."""
+    command = [sys.executable, os.path.join(TOP, "tools", tool), *words, "--limit", str(options.limit), "--jobs", str(options.jobs)]
+    command += ["--out", os.path.join(options.out, folder), *(["--whole"] if options.whole else [])]
+    return [*command, os.path.join(options.out, "run.script"), "--", *check_of(options)]
+
+
 def states(options):
     """Checks all states of the record. Returns the status of states."""
-    script = os.path.join(options.out, "run.script")
-    command = [sys.executable, os.path.join(TOP, "tools", "states"), "--files", "--json", "--limit", str(options.limit), "--jobs", str(options.jobs),
-               "--out", os.path.join(options.out, "states"), *(["--whole"] if options.whole else []), script, "--", *check_of(options)]
+    command = search(options, "states", "states", "--files", "--json")
     with Ended(command, stdout=subprocess.PIPE, text=True, env={**os.environ, "SEED": "1"}) as process:
         for line in process.stdout:
             if line.startswith("{"):  # else a check has printed it
@@ -109,8 +115,16 @@ def show(options, found):
     print("\n".join(lines), flush=True)
 
 
+def diagnose(options):
+    """Names the sync that the run lacks, and writes the page."""
+    page = os.path.join(options.out, "page.html")
+    with Ended(search(options, "diagnose", "diagnosis", "--page", page), env={**os.environ, "SEED": "1"}) as process:
+        if process.wait() == 1:
+            print(f"the page: {page}", flush=True)
+
+
 def main(words):
-    """Runs both. Returns the exit status."""
+    """Runs all. Returns the exit status."""
     if words in (["--help"], ["-h"]):
         print(__doc__.strip())
         return 0
@@ -118,6 +132,9 @@ def main(words):
     interrupts.install()
     try:
         with interrupts.interruptible():
-            return record(options) or states(options)
+            status = record(options) or states(options)
+            if status == 1:
+                diagnose(options)
+            return status
     except KeyboardInterrupt:
         return 130

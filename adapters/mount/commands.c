@@ -106,6 +106,7 @@ pid_t command_run(const char *line, char *reply, size_t capacity) {
     else if (begins(line, "note ")) error = note(line + strlen("note "));
     else if (begins(line, "crash-after ")) error = crash_after(line + strlen("crash-after "));
     else if (begins(line, "acknowledgement ")) error = acknowledgement(line + strlen("acknowledgement "), reply, capacity);
+    else if (!strcmp(line, "fail none")) failing_end(reply, capacity);
     else if (begins(line, "fail ")) error = failing_set(line + strlen("fail "));
     else if (is_setting(line)) error = layer_set(line);
     else error = ENOSYS;

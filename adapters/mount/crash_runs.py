@@ -72,6 +72,7 @@ class Run:
         self.options = options
         self.random = random.Random(seed)
         self.crashes = 0
+        self.never_due = []  # the faults that name a call that wasn't made
         other = ["--allow-other"] if options.allow_other else []
         words = [word for name in MOUNT_OPTIONS if getattr(options, name) for word in ("--" + name, getattr(options, name))]
         self.folder = plain_folder("blobcrash-run-")
@@ -124,11 +125,14 @@ class Run:
         calm = {"config write": f"config write 0 1 {kept}", "config resize": "config resize 0 1 0 1",
                 "failed_sync": "failed_sync keeps", "syncs": "syncs honest", "failed_write": "failed_write mode",
                 "edits": f"profile {self.options.profile or 'ext4'}"}
-        calm["fail"] = "fail none"
+        calls = [fault for fault in self.options.fault if fault.startswith("fail ")]
+        if calls:
+            self.never_due = [calls[int(number) - 1] for number in self.mount.ask("fail none").split()[2:]]
         for fault in self.options.fault:
             words = fault.split()
             kind = " ".join(words[:2]) if words[0] == "config" else words[0]
-            self.mount.ask(calm.get(kind, f"{kind} 0 1"))
+            if kind != "fail":
+                self.mount.ask(calm.get(kind, f"{kind} 0 1"))
 
     def crash(self):
         """Kills what runs, and crashes."""
@@ -266,8 +270,8 @@ def without_a_crash(options, program):
 
 def judge(options, program):
     """
-    Runs the first seed. Returns its verdict, its crashes, its acknowledged operations, the end of its log, and the folder that has
-    what is kept of a failure.
+    Runs the first seed. Returns its verdict, its crashes, its acknowledged operations, the end of its log, the folder that has what is
+    kept of a failure, and the faults that name a call that wasn't made.
     """
     run, kept, tail = Run(options, program, options.first), None, ""
     try:
@@ -280,4 +284,5 @@ def judge(options, program):
             kept, tail = os.path.join(options.out, f"seed-{options.first}"), run.tail()
     finally:
         run.close(kept)
-    return {"verdict": verdict, "crashes": run.crashes, "acknowledged": acknowledged, "tail": tail, "kept": kept}
+    return {"verdict": verdict, "crashes": run.crashes, "acknowledged": acknowledged, "tail": tail, "kept": kept,
+            "never_due": run.never_due}

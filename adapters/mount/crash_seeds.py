@@ -121,6 +121,7 @@ class Totals:
         self.counts = dict.fromkeys(VERDICTS, 0)
         self.crashes = self.acknowledged = 0
         self.is_diagnosed = not options.diagnose
+        self.never_due = set(options.fault)
 
     def __str__(self):
         return f"{sum(self.counts.values())} of {self.options.seeds} seeds{self.where}, {self.failed} failed"
@@ -160,6 +161,7 @@ class Totals:
             self.counts[result["verdict"]] += 1
             self.crashes += result["crashes"]
             self.acknowledged += result["acknowledged"]
+            self.never_due &= set(result["never_due"])
             if result["kept"] or (options.swarm and not options.json):
                 self.progress.clear()
                 (self.print_json if options.json else self.print_seed)(seed, result)
@@ -181,7 +183,9 @@ class Totals:
         return ["--out", out, os.path.join(result["kept"], "run.script"), "--", "sh", "-c", check]
 
     def status(self):
-        """Returns the exit status. If no acknowledgement was tested, says so."""
+        """Returns the exit status. Says so if no acknowledgement was tested, or if no seed made the call of a fault."""
+        for fault in sorted(self.never_due):
+            print(f"crash_run: no seed made the call of --fault {shlex.quote(fault)}{self.where}", file=sys.stderr)
         if self.counts["untested"] == self.options.seeds:
             why = "a seed" if self.points.acknowledges else "--work, which writes nothing to $ACKNOWLEDGED"
             print(f"crash_run: no acknowledgement was tested by {why}{self.where}", file=sys.stderr)

@@ -2,6 +2,7 @@
 #include "fifo.h"
 
 #include "commands.h"
+#include "lazy.h"
 #include "nodes.h"
 #include "serve.h"
 
@@ -45,13 +46,15 @@ static void report(void) {
 static pid_t run(const char *command) {
     char reply[LINE_MOST] = "ok";
     pid_t child = 0;
+    int error = is_lazy_fault(command) ? lazy_fault(command) : 0;
     if (!strcmp(command, "clear-cache")) child = command_run("crash", reply, sizeof reply);
     else if (!strcmp(command, "cache-checkpoint")) child = command_run("settle", reply, sizeof reply);
     else if (!strcmp(command, "unsynced-data-report")) report();
     else if (!strcmp(command, "display-cache-usage")) fprintf(log_file, "unsynced: %" PRIu64 " bytes\n", node_counts.unsynced);
     else if (!strcmp(command, "help"))
-        fputs("commands: clear-cache cache-checkpoint unsynced-data-report display-cache-usage help, each after lazyfs::\n", log_file);
-    else snprintf(reply, sizeof reply, "error: no such command");
+        fputs("commands: clear-cache cache-checkpoint crash torn-op unsynced-data-report display-cache-usage help, each after lazyfs::\n", log_file);
+    else if (error) snprintf(reply, sizeof reply, "error: %s", strerror(error));
+    else if (!is_lazy_fault(command)) snprintf(reply, sizeof reply, "error: no such command");
     if (child == 0) fprintf(log_file, "%s%s: %s\n", prefix, command, reply);
     fflush(log_file);
     return child;

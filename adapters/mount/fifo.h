@@ -6,6 +6,7 @@
  *   lazyfs::unsynced-data-report   writes to the log how many unsynced bytes each file has
  *   lazyfs::display-cache-usage    writes to the log how many bytes are unsynced
  *   lazyfs::help                   writes the commands to the log
+ *   lazyfs::crash.., torn-op..     the power goes off at a call: lazy.h
  *
  * After each command `finished::` and its name go to the other fifo, if there is one.
  */

@@ -3,11 +3,13 @@
 #include "record.h"
 
 #include <errno.h>
+#include <stdio.h>
 #include <stdlib.h>
 #include <string.h>
 
 /* Its power stays on: power.h counts the calls of the kernel. */
 static struct disk disk;
+static char writes[512]; /* the setting of writes */
 
 static int error_of(uint32_t status) {
     switch (status) {
@@ -37,7 +39,14 @@ static int run(uint32_t kind, uint64_t number, uint64_t first, const char *path)
     return error_of(apply(kind, number, first, path).status);
 }
 
+/* Keeps the setting of writes, the last one of some lines. */
+static void keep_setting(const char *lines) {
+    for (const char *found = lines; (found = strstr(found, "config write ")); found++)
+        snprintf(writes, sizeof writes, "%.*s", (int)strcspn(found, "\n"), found);
+}
+
 int layer_begin(const char *preamble, uint64_t *line) {
+    keep_setting(preamble);
     struct blobcrash_script_ran ran = blobcrash_files_open(&disk.files, (const uint8_t *)preamble, strlen(preamble));
     *line = ran.line;
     disk.is_on = disk.is_recorded = true;
@@ -49,8 +58,11 @@ void layer_end(void) { blobcrash_files_close(&disk.files); }
 
 int layer_set(const char *setting) {
     uint32_t status = disk_set(&disk, setting);
+    if (status == BLOBCRASH_DONE) keep_setting(setting);
     return status == BLOBCRASH_BAD_LINE ? EINVAL : error_of(status);
 }
+
+int layer_keep_writes(bool all) { return error_of(disk_set(&disk, all ? "config write 0 1 1 1 subset" : writes)); }
 
 int layer_find(uint64_t directory, const char *name, uint64_t *inode, uint64_t *size) {
     struct blobcrash_file_reply reply = apply(BLOBCRASH_F_FIND_AT, directory, 0, name);

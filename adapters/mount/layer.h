@@ -25,6 +25,8 @@ int layer_begin(const char *preamble, uint64_t *line);
 void layer_end(void);
 /* Makes a setting of the preamble. EINVAL if it is bad. */
 int layer_set(const char *setting);
+/* From now on a crash keeps all of each write, or, with `all` false, what the settings say. */
+int layer_keep_writes(bool all);
 
 /* Returns the inode of a name, and the size of a file. */
 int layer_find(uint64_t directory, const char *name, uint64_t *inode, uint64_t *size);
