@@ -2,6 +2,7 @@
 use crate::call::{Line, OnFile};
 use crate::event::{Draw, Event, Told};
 use blob_base::Probability;
+use blob_draws::Config;
 use blob_fs::call::{Call, NumberCall, PathCall};
 use blob_fs::{FileSystem, Options, Syncs};
 use blob_lab::ScriptedRng;
@@ -15,6 +16,22 @@ fn is_drawn(rate: Probability) -> bool {
     !rate.is_zero() && rate.numerator() < rate.denominator()
 }
 
+/// Returns the rate by which writes fail, if there is one.
+fn of_writes(faults: &Config) -> Option<Probability> {
+    match &faults.write_rate {
+        Some(writes) => Some(writes.failure_rate),
+        None => None,
+    }
+}
+
+/// Returns the rate by which truncations fail, if there is one.
+fn of_truncations(faults: &Config) -> Option<Probability> {
+    match &faults.resize_rate {
+        Some(resizes) => Some(resizes.failure_rate),
+        None => None,
+    }
+}
+
 /// Returns the rate that a call draws to fail, with its word. `None` if it draws none, or several.
 fn rate_of(options: &Options, call: &Line<'_>) -> Option<(&'static str, Probability)> {
     let faults = &options.faults;
@@ -22,15 +39,8 @@ fn rate_of(options: &Options, call: &Line<'_>) -> Option<(&'static str, Probabil
         Line::Call(Call::ByPath(PathCall::Create(_)))
         | Line::Call(Call::ByNumber(NumberCall::Create { .. })) => ("open", faults.open_rate),
         Line::On(_, OnFile::Read { .. }) => ("read", faults.read_rate),
-        Line::On(_, OnFile::Write { .. }) => {
-            ("write", faults.write_rate.map(|writes| writes.failure_rate))
-        }
-        Line::On(_, OnFile::Truncate(_)) => {
-            (
-                "resize",
-                faults.resize_rate.map(|resizes| resizes.failure_rate),
-            )
-        }
+        Line::On(_, OnFile::Write { .. }) => ("write", of_writes(faults)),
+        Line::On(_, OnFile::Truncate(_)) => ("resize", of_truncations(faults)),
         Line::On(_, OnFile::Sync | OnFile::SyncData) if options.syncs != Syncs::Lie => {
             ("sync", faults.sync_rate)
         }
