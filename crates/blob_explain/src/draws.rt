@@ -98,7 +98,10 @@ impl<'a> Rates<'a> {
 
     /// Makes the draws of a write: of a failed one those of its bytes aren't listed.
     fn draw_write(&mut self, config: &Config, sync: bool) -> Result<(), AllocError> {
-        let failure = config.write_rate.map(|writes| writes.failure_rate);
+        let failure = match &config.write_rate {
+            Some(writes) => Some(writes.failure_rate),
+            None => None,
+        };
         if !self.draw("write", failure)? && sync {
             self.draw("sync", config.sync_rate)?;
         }
