@@ -162,51 +162,60 @@ impl Watch {
         step: &Step,
         told: &mut Told,
     ) -> Result<(), Error> {
-        let Some(opened) = self.handles.get(handle) else {
-            return Ok(());
-        };
-        let Reply::Failed(error) = step.reply else {
-            return Ok(());
-        };
-        let Drawn::Write(fate) = &step.drawn else {
+        let (Some(opened), Reply::Failed(error), Drawn::Write(fate)) = (
+            self.handles.get(handle),
+            step.reply,
+            &step.drawn,
+        ) else {
             return Ok(());
         };
         match fate {
-            WriteFate::Failed(kept) => {
+            WriteFate::Failed(kept) if is_injected(error) => {
                 write.kept = Vec::from_slice(self.alloc, kept)?;
-                if is_injected(error) {
-                    let after = self.durable_bytes(wrapper, handle)?;
-                    self.tell_failed_write(opened, write, step, &after, told)?;
-                } else if is_missing(error) {
-                    let live = first_run(self.alloc, &write)?;
-                    let write = &write;
-                    self.tell(
-                        Event::StaleWrite {
-                            opened,
-                            write,
-                            live,
-                        },
-                        told,
-                    )?;
-                }
+                let after = self.durable_bytes(wrapper, handle)?;
+                self.tell_failed_write(opened, write, step, &after, told)?;
+            }
+            WriteFate::Failed(kept) if is_missing(error) => {
+                write.kept = Vec::from_slice(self.alloc, kept)?;
+                let live = first_run(self.alloc, &write)?;
+                let write = &write;
+                self.tell(
+                    Event::StaleWrite {
+                        opened,
+                        write,
+                        live,
+                    },
+                    told,
+                )?;
             }
             WriteFate::Unsynced if is_injected(error) => {
-                let is_pending = retained(self.config.write_rate).is_some();
-                let event = Event::UnsyncedWrite {
-                    opened,
-                    number: if is_pending {
-                        newest_write(wrapper)
-                    } else {
-                        None
-                    },
-                    offset: write.offset,
-                    len: write.bytes.len(),
-                };
-                self.tell(event, told)?;
+                self.tell_unsynced(wrapper, opened, &write, told)?
             }
             _ => {}
         }
         Ok(())
+    }
+
+    /// Adds a SYNC write with a failed sync.
+    fn tell_unsynced(
+        &self,
+        wrapper: &Wrapper,
+        opened: &Opened,
+        write: &Write,
+        told: &mut Told,
+    ) -> Result<(), AllocError> {
+        let is_pending = retained(self.config.write_rate).is_some();
+        let event = Event::UnsyncedWrite {
+            opened,
+            number: if is_pending {
+                newest_write(wrapper)
+            } else {
+                None
+            },
+            offset: write.offset,
+            len: write.bytes.len(),
+        };
+        self.tell(event, told)
     }
 
     /// Adds a write that failed. If it kept bytes, they are shown as the only entry of its file.
