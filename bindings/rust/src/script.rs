@@ -108,8 +108,13 @@ impl Script {
 
     /// Adds a typed call. The bytes of a write are its name.
     pub(crate) fn push(&mut self, asked: Asked, partition: &[u8], name: &[u8]) {
-        self.bytes.extend_from_slice(partition);
-        self.bytes.extend_from_slice(name);
+        // Most calls have neither.
+        if !partition.is_empty() {
+            self.bytes.extend_from_slice(partition);
+        }
+        if !name.is_empty() {
+            self.bytes.extend_from_slice(name);
+        }
         let (partition, name) = (partition.len(), name.len());
         self.calls.push(Call::Typed {
             asked,
