@@ -194,13 +194,13 @@ def function(name: str) -> Any:
 
 
 @lru_cache(maxsize=None)
-def untyped(name: str) -> Any:
-    """Returns a function without the types of its arguments: so a call takes half as long. It keeps the interpreter's lock.
+def untyped(name: str, keeps_lock: bool = True) -> Any:
+    """Returns a function without the types of its arguments: so a call takes half as long. It keeps the interpreter's lock, or doesn't.
 
     Pass a session and a buffer by `byref`, bytes as `bytes`, and a number below 2^31 as it is: it is passed as an `int`, which libffi
-    extends to the 64 bits of its register. Pass a greater one as a `c_uint64`.
+    extends to the 64 bits of its register. Pass a greater one, and one that isn't passed in a register, as a `c_uint64`.
     """
-    found: Any = ctypes.PyDLL(None, handle=loaded()._handle)[f"blobcrash_{name}"]
+    found: Any = (ctypes.PyDLL if keeps_lock else ctypes.CDLL)(None, handle=loaded()._handle)[f"blobcrash_{name}"]
     found.restype = _TYPES[name][0]
     return found
 

@@ -213,7 +213,7 @@ class InProcess(InLibrary):
 
     def __init__(self, preamble: bytes = b"") -> None:
         preamble = data_of(preamble, "a preamble")
-        self._apply, self._kinds = untyped(f"{self._functions}apply"), kinds(self._table)
+        self._apply, self._kinds = untyped(f"{self._functions}apply", keeps_lock=False), kinds(self._table)
         self._session, self._asked = Session(), ctypes.create_string_buffer(_ASKED.size)
         self.at, self._asked_at = ctypes.byref(self._session), ctypes.byref(self._asked)
         self.room: Any = ctypes.create_string_buffer(_ROOM)
@@ -252,7 +252,7 @@ class InProcess(InLibrary):
         _ASKED.pack_into(self._asked, 0, kind, number, first, last)
         if (len(one) | len(other)) >> INT_BITS:
             raise MemoryError
-        # The last one is passed on the stack, where an `int` isn't extended.
+        # The last one isn't passed in a register.
         return self._apply(self.at, self._asked_at, one, len(one), other, ctypes.c_size_t(len(other)))
 
     def _check(self, status: int) -> None:
