@@ -134,8 +134,8 @@ fi
 flags="-std=c11 -D_XOPEN_SOURCE=700 -Wall -Wextra -Werror -g -DSQLITE_CORE -Ibindings/c -Iadapters/common -Iadapters/sqlite"
 flags="$flags -Iadapters/sqlite/crash"
 vfs='adapters/sqlite/store.c adapters/sqlite/locks.c adapters/sqlite/memory.c adapters/sqlite/parameters.c adapters/sqlite/vfs.c'
-vfs="$vfs adapters/common/disk.c adapters/common/record.c"
-driver='adapters/common/driver.c adapters/common/pool.c adapters/common/words.c'
+vfs="$vfs adapters/common/disk.c adapters/common/record.c adapters/common/words.c"
+driver='adapters/common/driver.c adapters/common/pool.c'
 sanitize='-O1 -fsanitize=address,undefined -fno-sanitize-recover=all'
 # A refused allocation returns NULL, as without the sanitizer.
 export ASAN_OPTIONS=allocator_may_return_null=1

@@ -55,21 +55,28 @@ const char *words_tear(const struct words *words, uint64_t *draws) {
     return strcmp(words->tear, "mix") == 0 ? tears[random_below(draws, MIX_LEN)] : words->tear;
 }
 
-void words_write_setting(const char *tear, const char *fails, uint64_t *draws, char line[WORDS_LINE]) {
-    static const char *const rates[] = {"1 2", "1 8", "7 8"}, *const prefixes[] = {"1 2", "99 100", "1999 2000"};
+const char *words_mode(const char *tear, const char **rate) {
     static const struct {
         const char *tear, *rate, *mode;
-    } settings[] = {
+    } modes[] = {
         {"none", "0 1", "prefix"},           {"all", "1 1", "prefix"},
         {"whole", NULL, "sectors 9223372036854775807"}, {"prefix", NULL, "prefix"},
         {"sectors512", NULL, "sectors 512"}, {"sectors4096", NULL, "sectors 4096"},
         {"bytes", NULL, "subset"},
     };
-    const char *rate = rates[random_below(draws, 3)], *prefix = prefixes[random_below(draws, 3)];
-    for (size_t i = 0; i < sizeof settings / sizeof *settings; i++) {
-        if (strcmp(settings[i].tear, tear) != 0) continue;
-        if (strcmp(tear, "prefix") == 0) rate = prefix;
-        if (settings[i].rate) rate = settings[i].rate;
-        snprintf(line, WORDS_LINE, "config write %s %s %s", fails, rate, settings[i].mode);
+    for (size_t i = 0; i < sizeof modes / sizeof *modes; i++) {
+        if (strcmp(modes[i].tear, tear) != 0) continue;
+        *rate = modes[i].rate;
+        return modes[i].mode;
     }
+    return NULL;
+}
+
+void words_write_setting(const char *tear, const char *fails, uint64_t *draws, char line[WORDS_LINE]) {
+    static const char *const rates[] = {"1 2", "1 8", "7 8"}, *const prefixes[] = {"1 2", "99 100", "1999 2000"};
+    const char *rate = rates[random_below(draws, 3)], *prefix = prefixes[random_below(draws, 3)], *fixed;
+    const char *mode = words_mode(tear, &fixed);
+    if (!mode) return;
+    if (strcmp(tear, "prefix") == 0) rate = prefix;
+    snprintf(line, WORDS_LINE, "config write %s %s %s", fails, fixed ? fixed : rate, mode);
 }

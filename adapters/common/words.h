@@ -40,6 +40,10 @@ void words_preamble(const struct words *words, uint64_t seed, char preamble[WORD
 /* Returns the tear of a life: that of the mode, or with `mix` one that is drawn. */
 const char *words_tear(const struct words *words, uint64_t *draws);
 
+/* Returns the mode of a tear, as a setting of writes has it, and in `rate` the rate at which a crash keeps, or NULL if any does. NULL if the tear
+ * is none. */
+const char *words_mode(const char *tear, const char **rate);
+
 /* Writes the setting of writes: the rate `fails`, as "1 60", at which they fail, and what a crash keeps of them, at a rate that is drawn. */
 void words_write_setting(const char *tear, const char *fails, uint64_t *draws, char line[WORDS_LINE]);
 

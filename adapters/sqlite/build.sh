@@ -30,13 +30,13 @@ compile() {
     shift
     # shellcheck disable=SC2086
     "$compiler" -std=c11 -D_XOPEN_SOURCE=700 -O2 -g -Wall -Wextra -Werror "-I$top/bindings/c" "-I$common" "-I$here" "-I$here/crash" \
-        ${CFLAGS:-} -o "$file.new" "$here/store.c" "$here/locks.c" "$here/memory.c" "$here/parameters.c" "$here/vfs.c" "$common/disk.c" "$common/record.c" "$@"
+        ${CFLAGS:-} -o "$file.new" "$here/store.c" "$here/locks.c" "$here/memory.c" "$here/parameters.c" "$here/vfs.c" "$common/disk.c" "$common/record.c" "$common/words.c" "$@"
     mv -f "$file.new" "$file"
     echo "$archive" >"$file.archive"
 }
 
 if ! is_current "$out/crash"; then
-    compile "$out/crash" -DSQLITE_CORE "$here"/crash/*.c "$common/driver.c" "$common/pool.c" "$common/words.c" "$archive" -lsqlite3
+    compile "$out/crash" -DSQLITE_CORE "$here"/crash/*.c "$common/driver.c" "$common/pool.c" "$archive" -lsqlite3
 fi
 if ! is_current "$out/blobcrash.so"; then
     # Only the entry point is visible, so that the names of the library don't meet those of a program that loads it.

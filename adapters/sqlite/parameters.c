@@ -1,6 +1,7 @@
 #include "parameters.h"
 
 #include "store.h"
+#include "words.h"
 
 #include <stdlib.h>
 #include <string.h>
@@ -64,11 +65,9 @@ static bool read_rate(const char *text, char *rate) {
 
 /* Reads what a crash keeps of a write: a word, or sectors and their size. */
 static bool read_tear(const char *text, char *tear) {
-    static const char *const words[] = {"none", "all", "whole", "prefix", "bytes"};
+    const char *rate;
     uint64_t sector;
-    for (size_t i = 0; i < sizeof words / sizeof *words; i++) {
-        if (strcmp(text, words[i]) == 0) return strcpy(tear, text), true;
-    }
+    if (words_mode(text, &rate)) return strcpy(tear, text), true;
     if (strncmp(text, "sectors", 7) != 0 || !read_number(text + 7, UINT64_MAX, &sector) || sector == 0) return false;
     sqlite3_snprintf(RATE_SIZE, tear, "sectors %llu", (unsigned long long)sector);
     return true;
@@ -187,14 +186,11 @@ static void merge_settings(const struct settings *given) {
 
 static int configure_writes(void) {
     char line[LINE_SIZE];
-    const char *tear = settings.tear, *keep = settings.keep[0] ? settings.keep : "1 2";
+    const char *rate = NULL, *keep = settings.keep[0] ? settings.keep : "1 2";
     const char *fails = settings.write_fails[0] ? settings.write_fails : "0 1";
-    if (!tear[0] && !settings.write_fails[0]) return SQLITE_OK;
-    if (!tear[0] || strcmp(tear, "none") == 0) keep = "0 1", tear = "prefix";
-    else if (strcmp(tear, "all") == 0) keep = "1 1", tear = "prefix";
-    else if (strcmp(tear, "whole") == 0) tear = "sectors 9223372036854775807";
-    else if (strcmp(tear, "bytes") == 0) tear = "subset";
-    sqlite3_snprintf(sizeof line, line, "config write %s %s %s", fails, keep, tear);
+    const char *mode = words_mode(settings.tear[0] ? settings.tear : "none", &rate);
+    if (!settings.tear[0] && !settings.write_fails[0]) return SQLITE_OK;
+    sqlite3_snprintf(sizeof line, line, "config write %s %s %s", fails, rate ? rate : keep, mode ? mode : settings.tear);
     return blobcrash_vfs_set(line);
 }
 
