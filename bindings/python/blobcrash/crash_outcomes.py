@@ -6,6 +6,7 @@ import pickle
 from typing import Any, Dict, Iterator, List, NamedTuple, Optional, Sequence, Tuple
 
 from .crash_units import Row, rows_of
+from .file_settings import kept_edits
 from .forked import Child
 from .grammar import MAX
 from .replayed import Content, ReplayedFiles
@@ -39,7 +40,7 @@ class Forward:
         """Makes the calls up to a line."""
         for text in self.lines[self.line : line]:
             self._make(self._session, text)
-            self._see(text.split())
+            self._keeps = kept_edits(text.split(), self._keeps)
         self.line = line
 
     @property
@@ -56,13 +57,13 @@ class Forward:
         """What a crash by these words leaves. The run stays where it is."""
         if self.line > _FEW_LINES:
             first, second = Child(lambda: self._crashed(self._session, given)).result()
-            return _Left(*first, pickle.loads(second))
+            return _Left(first[0], first[1], pickle.loads(second))
         session = self._way(self.images, self.words)
         try:
             for text in self.lines[: self.line]:
                 self._make(session, text)
             first, content = self._crashed(session, given)
-            return _Left(*first, content)
+            return _Left(first[0], first[1], content)
         finally:
             session.close()
 
@@ -73,13 +74,6 @@ class Forward:
     def _make(session: Any, text: str) -> None:
         if not text.startswith("#"):
             session.call(text)
-
-    def _see(self, tokens: List[str]) -> None:
-        """Notes which edits a crash keeps."""
-        if tokens[0] == "profile":
-            self._keeps = {"posix": "any", "btrfs": "logged"}.get(tokens[1], "prefix")
-        elif tokens[0] == "edits":
-            self._keeps = tokens[1]
 
     @staticmethod
     def _crashed(session: Any, given: Sequence[int]) -> Tuple[Tuple[Words, Tuple[Row, ...]], Content]:

@@ -7,6 +7,7 @@ from collections import deque
 from typing import Any, Deque, Dict, FrozenSet, Iterable, Iterator, List, NamedTuple, Optional, Sequence, Tuple
 
 from .crash_units import Key, Lost, Row, Unit, canonical, rows_of, unit_of, words_of_outcome
+from .file_settings import kept_edits
 from .forked import Child
 from .grammar import MAX
 from .recorded_run import SYNCS, AddedSync, RecordedRun, Replay
@@ -151,11 +152,8 @@ class Walk:
         if line in self._added:
             self._synced = line - 1
         tokens = self.run.lines[line - 1].split()
-        if tokens[0] == "profile":
-            self._keeps = {"posix": "any", "btrfs": "logged"}.get(tokens[1], "prefix")
-        elif tokens[0] == "edits":
-            self._keeps = tokens[1]
-        elif tokens[0] == "syncs":
+        self._keeps = kept_edits(tokens, self._keeps)
+        if tokens[0] == "syncs":
             self._lies = tokens[1] == "lie"
         elif tokens[0] in SYNCS and not (self._lies or line in self._without or self.run.made[line - 1].is_refused):
             self._synced = line

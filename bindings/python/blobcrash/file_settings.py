@@ -12,6 +12,8 @@ Profile = Literal["ext4", "xfs", "btrfs", "posix"]
 # What a search may be asked for.
 Asked = Union[Profile, Literal["all"]]
 PROFILES: Tuple[Profile, ...] = get_args(Profile)
+# Which unsettled edits a crash keeps in a profile, a word of the setting `edits`. In the others it is a prefix.
+_KEPT_EDITS = {"posix": "any", "btrfs": "logged"}
 # Asks a search for a run of each.
 ALL = "all"
 # What the files of a search begin with, as a mount does, if no setting is one of writes: a crash keeps half of the unsynced sectors.
@@ -23,6 +25,13 @@ SWITCHES = {
     "syncs": ("honest", "lie"),
     "failed_write": ("mode", "prefix"),
 }
+
+
+def kept_edits(tokens: Sequence[str], before: str) -> str:
+    """Which unsettled edits a crash keeps after a line, of which these are the tokens."""
+    if tokens[0] == "profile":
+        return _KEPT_EDITS.get(tokens[1], "prefix")
+    return tokens[1] if tokens[0] == "edits" else before
 
 
 def one_of(words: Sequence[str]) -> str:

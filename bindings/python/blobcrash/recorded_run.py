@@ -6,6 +6,7 @@ from itertools import chain, islice
 from typing import Any, Dict, FrozenSet, Iterable, List, NamedTuple, Optional, Tuple
 
 from .calls import Reply
+from .crash_outcomes import shown_words
 from .errors import BadLine
 from .file_calls import FileCall, Found, file_line
 from .foreign_files import Refusal
@@ -14,7 +15,6 @@ from .grammar import MAX
 from .rates import is_drawn
 from .recorded import split_script
 from .replayed import ReplayedFiles, ReplayedStore
-from .states import shown_words
 
 ACKNOWLEDGED = "# acknowledged "
 _PROCESS = "# process "

@@ -135,7 +135,7 @@ class CrashStates:
                 run.go_to(line)
                 acknowledged = tuple(text[len(_ACKNOWLEDGED) :] for text in self._lines[:line] if text.startswith(_ACKNOWLEDGED))
                 crash, before = CrashOutcomes(run, self._limit), self.outcomes
-                for script, content in self._printed(crash, line) if self._is_proved else crash:
+                for script, content in self._printed(crash, line) if self._is_proved else iter(crash):
                     self.outcomes += 1
                     if (content, acknowledged) not in seen:
                         seen.add((content, acknowledged))
