@@ -122,9 +122,35 @@ le_not_gt Less e = refl
 le_not_gt Equal e = refl
 le_not_gt Greater e = absurd (cc)
 
+-- a look-up finds each cell of ascending keys
+among_at : (k : List ℕ) (v : Option Binding) (es : List Cell) → IsStrictlySortedBy (λ (x y : Vec ℕ Global). slice_cmp nat_cmp x.items y.items) (keys_of es) → Among es k v
+    → lookup (is_at (λ (n : Vec ℕ Global). slice_cmp nat_cmp k n.items)) es ≡ Some v
+among_at k v [] s h = absurd h
+among_at k v (e ∷ es) s (inl here) =
+    let yes : is_eq (slice_cmp nat_cmp k e.0.items) ≡ true = is_eq-slice_cmp k e.0.items ∙ (bytes_decides k e.0.items).1 (sym here.0) in
+    cond-true (is_eq (slice_cmp nat_cmp k e.0.items)) (Some e.1) (lookup (is_at (λ (n : Vec ℕ Global). slice_cmp nat_cmp k n.items)) es) yes ∙ ap Some here.1
+among_at k v (e ∷ es) s (inr more) =
+    let c : Vec ℕ Global → Vec ℕ Global → Ordering = λ x y. slice_cmp nat_cmp x.items y.items in
+    let less : slice_cmp nat_cmp e.0.items k ≡ Less = less_among (λ _. true) e.0.items es k v (sorted_head c e.0 (keys_of es) s) more in
+    ⊎_elim
+    (λ y.
+    let same : k ≡ e.0.items = (bytes_decides k e.0.items).0 (sym (is_eq-slice_cmp k e.0.items) ∙ y) in
+    let below : slice_cmp nat_cmp k k ≡ Less = subst (λ l. slice_cmp nat_cmp l k ≡ Less) (sym same) less in
+    let equal : is_eq (slice_cmp nat_cmp k k) ≡ true = subst (λ l. is_eq (slice_cmp nat_cmp k l) ≡ true) (sym same) y in
+    absurd (false≢true (sym (ap is_eq below) ∙ equal)))
+    (λ n. cond-false (is_eq (slice_cmp nat_cmp k e.0.items)) (Some e.1) (lookup (is_at (λ (n : Vec ℕ Global). slice_cmp nat_cmp k n.items)) es) n
+    ∙ among_at k v es (sorted_tail c e.0 (keys_of es) s) more)
+    (cases_Bool (is_eq (slice_cmp nat_cmp k e.0.items)))
+
+-- what a cell has its entry is bound to
+pub bound_at : (k : List ℕ) (v : Option Binding) (table : Table) → IsStrictlySortedBy (λ (x y : Vec ℕ Global). slice_cmp nat_cmp x.items y.items) (keys_of table.entries.entries)
+    → Among table.entries.entries k v → bound table k ≡ v
+bound_at k v table sorted h = ap flat (among_at k v table.entries.entries sorted h)
+
 -- the cells from a key on
 pub record RangeOf (start : List ℕ) (es r : List Cell) : Type 0 where
   pub ascends : Ascends r
+  pub within : (k : List ℕ) (v : Option Binding) → Among r k v → Among es k v
   pub begins : IsFrom start r
   pub all : (name : List ℕ) (v : Option Binding) → Among es (start ++ name) v → Among r (start ++ name) v
 
@@ -135,6 +161,7 @@ range_of start first es r is made sorted =
     let p : Cell → Bool = λ e. is_le (slice_cmp nat_cmp first.items e.0.items) && true in
     record {
       ascends = subst Ascends (sym made) (ascends_filter p es sorted);
+      within = λ k v h. among_all p k v es (subst (λ l. Among l k v) made h);
       begins = subst (IsFrom start) (sym made)
           (from_filter p start
           (λ e y. ap (λ l. is_gt (slice_cmp nat_cmp l e.0.items)) (sym is) ∙ le_not_gt (slice_cmp nat_cmp first.items e.0.items) (and_parts (is_le (slice_cmp nat_cmp first.items e.0.items)) true y).0)

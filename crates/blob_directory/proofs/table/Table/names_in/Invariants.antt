@@ -1,4 +1,4 @@
-use Rattle.std.proofs.Common.{◌≡◌, ◌⊎◌, ℕ, List, Some}
+use Rattle.std.proofs.Common.{◌≡◌, ◌⊎◌, ℕ, List, Option, Some}
 use Rattle.std.specs.Int.{w64, to_be_bytes}
 use Rattle.std.specs.List.{All}
 use Rattle.blob_directory.specs.declared.edit.Binding.{Binding}
@@ -11,6 +11,7 @@ use Rattle.blob_directory.proofs.table.Table.names_in.Given as goal
 abbrev pub invariant-loop-entry : goal.invariant-loop-entry
 invariant-loop-entry l = record {
   told : All (λ n. bound l.self (entry l.directory n.0.items) ≡ Some n.1) l.names.items;
+  bounds : (k : List ℕ) (v : Option Binding) → Among l.entry-iterator k v → bound l.self k ≡ v;
   ascends : Ascends l.entry-iterator;
   begins : IsFrom (to_be_bytes w64 l.directory) l.entry-iterator;
   all : (name : List ℕ) (to : Binding) → bound l.self (entry l.directory name) ≡ Some to → HasName l.names.items name to ⊎ Among l.entry-iterator (entry l.directory name) (Some to);
