@@ -72,6 +72,8 @@ static void work(const char *what, unsigned long calls) {
             call(BLOBCRASH_F_SYNC, descriptor, 0, "", "");
         } else if (!strcmp(what, "size")) {
             call(BLOBCRASH_F_SIZE, descriptor, 0, "", "");
+        } else if (!strcmp(what, "crash")) {
+            call(BLOBCRASH_F_CRASH, 0, 0, "", "");
         }
     }
     CALLGRIND_STOP_INSTRUMENTATION;

@@ -1,7 +1,8 @@
 #!/bin/sh
 # Counts the instructions of calls on files from C, by `valgrind --tool=callgrind`: those of a call on a file and of the same call on a blob,
-# with their ratio; and those of calls on names in trees of a hundredth of FILES, a tenth and FILES (100000 if it isn't set; at least 1000),
-# with the ratio of the last to the first. Then the memory of a small file. Prints to standard error. A test runs it, and compares no count.
+# with their ratio; and those of calls on names, and of a crash, in trees of a hundredth of FILES, a tenth and FILES (100000 if it isn't set;
+# at least 1000), with the ratio of the last to the first. Then the memory of a small file. Prints to standard error. A test runs it, and
+# compares no count.
 set -eu
 
 top=$(CDPATH='' cd -- "$(dirname -- "$0")/.." && pwd -P)
@@ -33,9 +34,11 @@ for what in size read8 write8 write4096 writesync; do
     file=$(count "$what" 10)
     echo "$what: $file, of a blob $below, ratio $(ratio "$below" "$file")" >&2
 done
-for what in open rename unlink fsync fsyncdir; do
+for what in open rename unlink fsync fsyncdir crash; do
     counts=
     first=
+    # A crash of many files takes long, and each finds the same files.
+    if [ "$what" = crash ]; then calls=2; fi
     for files in $((most / 100)) $((most / 10)) "$most"; do
         each=$(count "$what" "$files")
         first=${first:-$each}
