@@ -9,6 +9,7 @@ from .calls import Reply
 from .crash_outcomes import shown_words
 from .errors import BadLine
 from .file_calls import FileCall, Found, file_line
+from .file_settings import TORN_WRITES
 from .foreign_files import Refusal
 from .generator import words_of
 from .grammar import MAX
@@ -19,7 +20,7 @@ from .replayed import ReplayedFiles, ReplayedStore
 ACKNOWLEDGED = "# acknowledged "
 _PROCESS = "# process "
 # What a crash keeps of unsynced writes if the record doesn't say, as of a mount.
-_TORN = "config write 0 1 1 2 sectors 512"
+_TORN = f"config {TORN_WRITES}"
 # How many words a record is given at first, beyond its own.
 _ROOM = 256
 # The words of an added sync, by which no draw of it fails.
