@@ -155,10 +155,10 @@ def bash() -> str:
         for row in {row.name: row for form in forms for row in form.rows if row.argument}.values():
             what = f"words='{' '.join(row.choices)}'" if row.choices else ("paths=1" if row.is_path else "")
             arms.append(f"        {name}:*:{row.name}) {what or ':'} ;;")
-        for form in forms:
-            if form.word and form.options:
-                arms.append(f"        {name}:*:*) case \" ${{COMP_WORDS[*]}} \" in *' {form.word} '*) words='{' '.join(row.name for row in form.options)}' ;; "
-                            f"*) words='{' '.join(row.name for row in of(name).words)} --help' ;; esac ;;")
+        own = [f"*' {form.word} '*) words='{' '.join(row.name for row in form.options)}' ;; " for form in forms if form.word and form.options]
+        if own:
+            arms.append(f"        {name}:*:*) case \" ${{COMP_WORDS[*]}} \" in {''.join(own)}"
+                        f"*) words='{' '.join(row.name for row in of(name).words)} --help' ;; esac ;;")
         whole = of(name)
         words = " ".join([row.name for row in whole.options] + ["--help"])
         if name == "mountctl":
@@ -221,8 +221,8 @@ def zsh() -> str:
             options += ["'1:folder:_files -/'", f"'2:command:({words})'", "'*:argument:_files'"]
         elif whole.words:
             options.append(f"'1:word:({' '.join(row.name for row in whole.words)})'")
-            options += [f"'{row.name}[{zsh_text(row.does)}]{zsh_action(row)}'" for form in commands() if form.name == name and form.word
-                        for row in form.options]
+            rows = {row.name: row for form in commands() if form.name == name and form.word for row in form.options}
+            options += [f"'{row.name}[{zsh_text(row.does)}]{zsh_action(row)}'" for row in rows.values()]
         elif takes_path(whole):
             options.append("'*:file:_files'")
         joined = " \\\n                ".join(options)
