@@ -7,12 +7,14 @@ import random
 import subprocess
 import sys
 import tempfile
+from unittest.mock import patch
 
 from explore_log import RECORDS, AcknowledgesFirst, Checked, ForgetsSync, TakesZeros
 from passing import raises, run_tests
 
 TOP = os.path.dirname(os.path.dirname(os.path.abspath(__file__)))
 from blobcrash import BadLine, CrashStates, Files, Library, StorageError, Store
+from blobcrash.crash_outcomes import Forward
 
 PREFIX = "write 0 1 1 2 prefix"
 MAX = 2**64 - 1
@@ -263,6 +265,54 @@ def test_a_file_that_is_replaced():
                 if state.acknowledged and paths.get(b"/f") not in allowed:
                     bad += 1
             assert states.complete and bool(bad) == (not syncs), (profile, syncs, bad, str(states))
+
+
+def random_files(chance):
+    """A script of files with faults, in any profile and mode."""
+    mode = chance.choice(["sectors 2", "prefix", "subset", f"sectors {MAX}"])
+    lines = [f"profile {chance.choice(['ext4', 'xfs', 'btrfs', 'posix'])}", f"config write {chance.choice([0, 0, 1])} 3 1 2 {mode}"]
+    if chance.random() < 0.3:
+        lines.append(f"keep {chance.choice(['0 1', '1 1', '1 3'])}")
+    if chance.random() < 0.2:
+        lines.append(f"edits {chance.choice(['any', 'prefix', 'logged'])}")
+    lines += ["mkdir /d"] + ["settle"] * chance.randrange(2)
+    for _ in range(chance.randrange(3, 8)):
+        a, b = (chance.choice(["/a", "/b", "/c", "/d/a"]) for _ in range(2))
+        data = chance.choice(["6161", "626263", "64"])
+        lines.append(chance.choice([f"create {a}", f"create {b}", f"write {a} {chance.randrange(3)} {data}", f"write {b} 0 {data}", f"rename {a} {b}",
+                                    f"unlink {a}", f"fsync {a}", "fsyncdir /", "fsyncdir /d", f"truncate {a} {chance.randrange(3)}"]))
+    return "\n".join([f"seed {chance.randrange(100)}", *lines, "# acknowledged x"])
+
+
+def test_random_scripts_of_files_by_all_draws():
+    """The draws that are left out decide nothing: without this all are tried, and leave the same states."""
+    chance = random.Random(59)
+    fewer = 0
+    for number in range(120):
+        script, whole = random_files(chance), number % 2 == 0
+        found = found_by(script, files=True, whole=whole)
+        with patch.object(Forward, "is_prefix", False):
+            assert found_by(script, files=True, whole=whole) == found, script
+        fewer += "edits" not in script and any(f"profile {name}" in script for name in ("ext4", "xfs"))
+    assert fewer > 30, fewer
+
+
+def test_edits_in_order():
+    """Of 30 edits in order a crash keeps some first ones: 31 states, of a thousand million outcomes."""
+    for profile in ("ext4", "xfs"):
+        script = f"profile {profile}\n" + "".join(f"mkdir /{number}\n" for number in range(30))
+        states = CrashStates(script, files=True, at=31)
+        assert sorted(len(state.content) for state in states) == list(range(31)), str(states)
+        assert states.outcomes == 2**30 and states.complete, str(states)
+
+
+def test_a_long_run():
+    """A crash after many lines is made in a copy of the process, and leaves the same."""
+    script = f"config {PREFIX.replace('prefix', 'subset')}\nopen p 61\nwrite 0 0 6162\n"
+    files = "profile ext4\ncreate /a\nwrite /a 0 6162\nmkdir /d\nrename /a /d/a\n"
+    for text, is_files in ((script, False), (files, True)):
+        short = [state.content for state in CrashStates(text, files=is_files)]
+        assert short == [state.content for state in CrashStates("# note\n" * 600 + text, files=is_files)], text
 
 
 def test_files_of_a_state_and_its_folder():
