@@ -66,6 +66,9 @@ if ! has_python; then
     skip 'there is no Python 3.8 or later'
     finish
 fi
+mkdir "$work/temporary"
+TMPDIR=$work/temporary
+export TMPDIR
 for kind in $kinds; do
     type=${kind%-*}
     if ! has "mkfs.$type"; then
@@ -108,4 +111,5 @@ END
         ;;
     esac
 done
+ok 'no temporary folder is left' [ -z "$(ls "$TMPDIR")" ]
 finish

@@ -1,12 +1,11 @@
 """Batches of cases on one kind of file system, in a process with a mount namespace of its own."""
 
 import os
-import shutil
 import tempfile
 from typing import NamedTuple
 
 from crashes import Crashes
-from disks import KINDS, Refused, go_apart, make_image
+from disks import KINDS, Refused, go_apart, make_image, remove_apart
 from model import Model
 from runs import Live, in_turn
 
@@ -89,7 +88,7 @@ class Worker:
 
     def close(self):
         self.model.close()
-        shutil.rmtree(self.folder, ignore_errors=True)
+        remove_apart(self.folder)
 
 
 def seed_of(group):

@@ -15,7 +15,7 @@ from typing import NamedTuple
 
 BLOCK = 4096
 PR_SET_PDEATHSIG, CLONE_NEWNS = 1, 0x20000
-MS_RDONLY, MS_PRIVATE_ALL = 1, 0x44000
+MS_RDONLY, MS_PRIVATE_ALL, MNT_DETACH = 1, 0x44000, 2
 LOOP_CTL_GET_FREE, LOOP_CONFIGURE, LO_FLAGS_AUTOCLEAR = 0x4C82, 0x4C0A, 4
 libc = ctypes.CDLL(None, use_errno=True)
 
@@ -140,6 +140,13 @@ def go_apart(folder):
     call("unshare", CLONE_NEWNS)
     mount(None, "/", flags=MS_PRIVATE_ALL)
     mount("tmpfs", folder, "tmpfs", options="size=3g,mode=700")
+
+
+def remove_apart(folder):
+    """Removes the folder of go_apart, and what is in it."""
+    with contextlib.suppress(OSError):  # nothing is mounted there
+        call("umount2", os.fsencode(folder), MNT_DETACH)
+    shutil.rmtree(folder, ignore_errors=True)
 
 
 @contextlib.contextmanager
