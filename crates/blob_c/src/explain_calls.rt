@@ -46,11 +46,7 @@ fn explained_by(alloc: Global, script: &[u8]) -> (Ending, Vec<u8>)
 ///
 /// The statuses of `blobcrash_explain`.
 #[unsafe(no_mangle)]
-pub extern "C" fn blobcrash_explain_json(
-    alloc: Global,
-    script: &[u8],
-    text: &mut [u8],
-) -> ScriptRan
+pub extern "C" fn blobcrash_explain_json(alloc: Global, script: &[u8], text: &mut [u8]) -> ScriptRan
     ensures no_room { result.status ≡ NO_ROOM → length text.old < result.len }
     ensures no_line { result.status ≡ DONE → result.line ≡ 0 }
     ensures stopped { (result.status ≡ NO_MEMORY) ⊎ (result.status ≡ ENDLESS) → (result.len ≡ 0) × (result.line ≡ 0) }
