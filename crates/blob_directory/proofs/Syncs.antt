@@ -1,15 +1,17 @@
 -- The edits that a sync settles: edits up to a position, and the directories above an inode.
-use Rattle.std.proofs.Common.{◌≡◌, ◌⊎◌, ℕ, ◌+◌, ◌<◌, ◌≤◌, Bool, true, false, List, [], ◌∷◌, ◌++◌, length, get_or, take, Option, Some, None, inl, inr, ⊎_elim, refl, sym, ap, ◌∙◌, subst, arith, append_assoc, nat_le, nat_lt, ◌||◌}
+use Rattle.std.proofs.Common.{◌≡◌, ◌⊎◌, ℕ, ◌+◌, ◌<◌, ◌≤◌, Bool, true, false, List, [], ◌∷◌, ◌++◌, length, get_or, take, Option, Some, None, inl, inr, ⊎_elim, refl, sym, ap, ◌∙◌, subst, arith, append_assoc, nat_eq, nat_le, nat_lt, map, ◌&&◌, ◌||◌}
 use Rattle.std.specs.Prelude.{◌↔◌, IsTrue}
 use Rattle.std.specs.List.{Contains}
-use Rattle.std.proofs.lemmas.Bool.{both_ways, cases_lt, eq-eqb, eqb-true, false≢true, le-leb, leb-false, leb-true, lt-ltb, ltb-true, or_cases, or_left, or_right}
-use Rattle.std.proofs.lemmas.List.{append-nil, get_or_append_left, get_or_default, take_more}
+use Rattle.std.proofs.lemmas.Bool.{and_from, and_parts, both_ways, cases_lt, eq-eqb, eqb-true, false≢true, le-leb, leb-false, leb-true, lt-ltb, ltb-true, or_cases, or_left, or_right}
+use Rattle.std.proofs.lemmas.List.{append-nil, map-append, get_or_append_left, get_or_default, take_more}
 use Rattle.std.proofs.lemmas.List.Elements.{Contains-append_left, Contains-push, Contains-push_cases}
 use Rattle.std.proofs.lemmas.List.Folds.{Any-from_list_any, list_any-from_Any}
-use Rattle.blob_directory.specs.declared.unsettled.About.{About}
+use Rattle.blob_directory.specs.declared.edit.Change.{Change}
+use Rattle.blob_directory.specs.declared.edit.Edit as rust_edit
+use Rattle.blob_directory.specs.Names.{Edit, Names, all_edited, change_of, edit_of, edited, more_of}
 use Rattle.blob_directory.specs.declared.unsettled.Unsettled.{Unsettled}
-use Rattle.blob_directory.specs.Syncs.{Above, HasEdit, IsAbove, IsUpToLast, IsUpward, Itself, Upward, is_in, is_new, is_number, is_of, touches}
-use Rattle.blob_directory.specs.Wanted.{Extends, HasAbove, HasDirectories, HasIf, HasWhen, IsLast, is_of_any, is_up_to}
+use Rattle.blob_directory.specs.Syncs.{Above, HasEdit, IsAbove, IsUpToLast, IsUpward, Itself, Upward, is_new, is_number, is_of, keeps_name, leaves, leaves_second, makes, named, touches}
+use Rattle.blob_directory.specs.Wanted.{Extends, HasAbove, HasDirectories, HasWhen, IsAboveBy, IsLast, is_up_to, is_upward, makes_any}
 
 -- Numbers that stay at their places.
 
@@ -25,60 +27,85 @@ extends_keeps a b (m, e) n h = subst (λ l. Contains l n) (sym e) (Contains-appe
 extends_at : (a b : List ℕ) (k : ℕ) → Extends a b → k < length a → get_or b k 0 ≡ get_or a k 0
 extends_at a b k (m, e) low = ap (λ l. get_or l k 0) e ∙ get_or_append_left a m 0 k low
 
+-- A number that was added if a test passed.
+
+when_keeps : (passes : Bool) (old : List ℕ) (number : ℕ) (new : List ℕ) → HasWhen passes old number new → Extends old new
+when_keeps true old number new h = h.extends
+when_keeps false old number new h = subst (Extends old) (sym h) (extends_same old)
+
+when_there : (passes : Bool) (old : List ℕ) (number : ℕ) (new : List ℕ) → HasWhen passes old number new → passes ≡ true → Contains new number
+when_there true old number new h is = h.there
+when_there false old number new h is = absurd (false≢true is)
+
+when_only : (passes : Bool) (old : List ℕ) (number : ℕ) (new : List ℕ) → HasWhen passes old number new → (n : ℕ) → Contains new n → Contains old n ⊎ ((n ≡ number) × (passes ≡ true))
+when_only true old number new h n c = ⊎_elim (λ x. inl x) (λ e. inr (e, refl)) (h.only n c)
+when_only false old number new h n c = inl (subst (λ (l : List ℕ). Contains l n) h c)
+
 -- The directories of one edit.
+module _ (edits : List Unsettled) (inode : ℕ) (edit : Unsettled) where
+  abbrev Kept : ℕ → Type 0
+  Kept d = (keeps_name edits inode d edit ≡ true) × (is_new edits d ≡ true)
 
-in_cases : (d : ℕ) (about : About) → is_in d about ≡ true → (about.directory ≡ d) ⊎ (is_number about.other_directory d ≡ true)
-in_cases d about h = ⊎_elim (λ x. inl (eqb-true about.directory d x)) (λ y. inr y) (or_cases _ _ h)
+  first_kept : (n : ℕ) → edit.about.directory ≡ n → (leaves edits inode edit.edit.first && is_new edits edit.about.directory) ≡ true → Kept n
+  first_kept n e h =
+      let p = and_parts (leaves edits inode edit.edit.first) (is_new edits edit.about.directory) h in
+      (or_left _ _ (and_from (nat_eq edit.about.directory n) _ (eq-eqb edit.about.directory n e) p.0), ap (is_new edits) (sym e) ∙ p.1)
 
-in_first : (d : ℕ) (about : About) → about.directory ≡ d → is_in d about ≡ true
-in_first d about h = or_left _ _ (eq-eqb about.directory d h)
+  pub one_directory : (old new : List ℕ) → ((d : ℕ) → (is_number edit.about.other_directory d && leaves_second edits inode edit.edit.second) ≡ false)
+      → HasWhen (leaves edits inode edit.edit.first && is_new edits edit.about.directory) old edit.about.directory new → HasDirectories edits inode edit old new
+  one_directory old new none h = record {
+    extends = when_keeps _ old edit.about.directory new h;
+    there = λ d kept fresh. ⊎_elim
+        (λ x.
+        let p = and_parts (nat_eq edit.about.directory d) (leaves edits inode edit.edit.first) x in
+        let e : edit.about.directory ≡ d = eqb-true edit.about.directory d p.0 in
+        subst (Contains new) e (when_there _ old edit.about.directory new h (and_from (leaves edits inode edit.edit.first) _ p.1 (ap (is_new edits) e ∙ fresh))))
+        (λ y. absurd (both_ways _ (none d) y))
+        (or_cases (nat_eq edit.about.directory d && leaves edits inode edit.edit.first) _ kept);
+    only = λ n c. ⊎_elim (λ x. inl x) (λ e. inr (first_kept n (sym e.0) e.1)) (when_only _ old edit.about.directory new h n c);
+  }
 
--- a number that passes the test, and one that doesn't
-if_keeps : (test : ℕ → Bool) (old : List ℕ) (number : ℕ) (new : List ℕ) → HasIf test old number new → Extends old new
-if_keeps test old number new h = by_test (test number) h
+  pub two_directories : (o : ℕ) (second : Change) (old mid new : List ℕ) → edit.about.other_directory ≡ Some o → edit.edit.second ≡ Some second
+      → HasWhen (leaves edits inode edit.edit.first && is_new edits edit.about.directory) old edit.about.directory mid
+      → HasWhen (leaves edits inode second && is_new edits o) mid o new → HasDirectories edits inode edit old new
+  two_directories o second old mid new other two h g = record {
+    extends = extends_more old mid new (when_keeps _ old edit.about.directory mid h) (when_keeps _ mid o new g);
+    there = λ d kept fresh. ⊎_elim
+        (λ x.
+        let p = and_parts (nat_eq edit.about.directory d) (leaves edits inode edit.edit.first) x in
+        let e : edit.about.directory ≡ d = eqb-true edit.about.directory d p.0 in
+        extends_keeps mid new (when_keeps _ mid o new g) d (subst (Contains mid) e (when_there _ old edit.about.directory mid h (and_from (leaves edits inode edit.edit.first) _ p.1 (ap (is_new edits) e ∙ fresh)))))
+        (λ y.
+        let p = and_parts (is_number edit.about.other_directory d) (leaves_second edits inode edit.edit.second) y in
+        let e : o ≡ d = eqb-true o d (subst (λ x. is_number x d ≡ true) other p.0) in
+        let left : leaves edits inode second ≡ true = subst (λ x. leaves_second edits inode x ≡ true) two p.1 in
+        subst (Contains new) e (when_there _ mid o new g (and_from (leaves edits inode second) _ left (ap (is_new edits) e ∙ fresh))))
+        (or_cases (nat_eq edit.about.directory d && leaves edits inode edit.edit.first) _ kept);
+    only = λ n c. ⊎_elim
+        (λ x. ⊎_elim (λ y. inl y) (λ e. inr (first_kept n (sym e.0) e.1)) (when_only _ old edit.about.directory mid h n x))
+        (λ e. inr (second_kept n (sym e.0) e.1))
+        (when_only _ mid o new g n c);
+  }
+    where
+      second_kept : (n : ℕ) → o ≡ n → (leaves edits inode second && is_new edits o) ≡ true → Kept n
+      second_kept n e h =
+          let p = and_parts (leaves edits inode second) (is_new edits o) h in
+          let at : is_number edit.about.other_directory n ≡ true = subst (λ y. is_number y n ≡ true) (sym other) (eq-eqb o n e) in
+          let left : leaves_second edits inode edit.edit.second ≡ true = subst (λ x. leaves_second edits inode x ≡ true) (sym two) p.0 in
+          (or_right _ _ (and_from (is_number edit.about.other_directory n) _ at left), ap (is_new edits) (sym e) ∙ p.1)
+
+-- What one entry is bound to.
+
+all_more : (a : Names) (edits : List Edit) (edit : Edit) (entry : List ℕ) → all_edited a (edits ++ edit ∷ []) entry ≡ edited (all_edited a edits) edit entry
+all_more a [] edit entry = refl
+all_more a (e ∷ edits) edit entry = all_more (edited a e) edits edit entry
+
+one_entry : (names : Names) (edit : rust_edit.Edit) (entry : List ℕ) → edited names (edit_of edit) entry ≡ edited (λ _. names entry) (edit_of edit) entry
+one_entry names edit entry = by_second edit.second
   where
-    by_test : (b : Bool) → HasWhen b old number new → Extends old new
-    by_test true g = g.extends
-    by_test false e = subst (Extends old) (sym e) (extends_same old)
-
-if_there : (test : ℕ → Bool) (old : List ℕ) (number : ℕ) (new : List ℕ) → HasIf test old number new → test number ≡ true → Contains new number
-if_there test old number new h passes = by_test (test number) passes h
-  where
-    by_test : (b : Bool) → b ≡ true → HasWhen b old number new → Contains new number
-    by_test true is g = g.there
-    by_test false is e = absurd (false≢true is)
-
-if_only : (test : ℕ → Bool) (old : List ℕ) (number : ℕ) (new : List ℕ) → HasIf test old number new → (n : ℕ) → Contains new n → Contains old n ⊎ ((n ≡ number) × (test n ≡ true))
-if_only test old number new h n c = by_test (test number) refl h
-  where
-    by_test : (b : Bool) → test number ≡ b → HasWhen b old number new → Contains old n ⊎ ((n ≡ number) × (test n ≡ true))
-    by_test true is g = ⊎_elim (λ x. inl x) (λ e. inr (e, ap test e ∙ is)) (g.only n c)
-    by_test false is e = inl (subst (λ (l : List ℕ). Contains l n) e c)
-
-pub one_directory : (test : ℕ → Bool) (about : About) (old new : List ℕ) → about.other_directory ≡ None → HasIf test old about.directory new → HasDirectories test about old new
-one_directory test about old new none h = record {
-  extends = if_keeps test old about.directory new h;
-  there = λ d i passes. ⊎_elim
-      (λ e. subst (Contains new) e (if_there test old about.directory new h (ap test e ∙ passes)))
-      (λ o. absurd (false≢true (subst (λ x. is_number x d ≡ true) none o)))
-      (in_cases d about i);
-  only = λ n c. ⊎_elim (λ x. inl x) (λ e. inr (in_first n about (sym e.0), e.1)) (if_only test old about.directory new h n c);
-}
-
-pub two_directories : (test : ℕ → Bool) (about : About) (o : ℕ) (old mid new : List ℕ) → about.other_directory ≡ Some o → HasIf test old about.directory mid → HasIf test mid o new
-    → HasDirectories test about old new
-two_directories test about o old mid new other h g = record {
-  extends = extends_more old mid new (if_keeps test old about.directory mid h) (if_keeps test mid o new g);
-  there = λ d i passes. ⊎_elim
-      (λ e. extends_keeps mid new (if_keeps test mid o new g) d (subst (Contains mid) e (if_there test old about.directory mid h (ap test e ∙ passes))))
-      (λ x. let e = eqb-true o d (subst (λ y. is_number y d ≡ true) other x) in
-      subst (Contains new) e (if_there test mid o new g (ap test e ∙ passes)))
-      (in_cases d about i);
-  only = λ n c. ⊎_elim
-      (λ x. ⊎_elim (λ y. inl y) (λ e. inr (in_first n about (sym e.0), e.1)) (if_only test old about.directory mid h n x))
-      (λ e. inr (or_right _ _ (subst (λ y. is_number y n ≡ true) (sym other) (eq-eqb o n (sym e.0))), e.1))
-      (if_only test mid o new g n c);
-}
+    by_second : (second : Option Change) → edited names (change_of edit.first ∷ more_of second) entry ≡ edited (λ _. names entry) (change_of edit.first ∷ more_of second) entry
+    by_second None = refl
+    by_second (Some c) = refl
 
 -- One more edit.
 module _ (edits : List Unsettled) (k : ℕ) (item : Unsettled) (low : k < length edits) (is : item ≡ get_or edits k item) where
@@ -144,48 +171,63 @@ module _ (edits : List Unsettled) (k : ℕ) (item : Unsettled) (low : k < length
     last_other n None none off = λ h. none (edit_before n h (no_edit n h off))
     last_other n (Some l) (h, same, all) off = (edit_kept n h, same, λ other. all (edit_before n other (no_edit n other off)))
 
-  above_kept : (i d : ℕ) → IsAbove (take k edits) i d → IsAbove (take (k + 1) edits) i d
-  above_kept i d a = record { edit = a.edit; there = taken_kept a.edit a.there; of_inode = a.of_inode; in_directory = a.in_directory }
+  module _ (all : List Unsettled) where
+    above_kept : (i d : ℕ) → IsAboveBy all (take k edits) i d → IsAboveBy all (take (k + 1) edits) i d
+    above_kept i d a = record { edit = a.edit; there = taken_kept a.edit a.there; of_inode = a.of_inode; in_directory = a.in_directory }
 
-  above_before : (i d : ℕ) (a : IsAbove (take (k + 1) edits) i d) → Contains (take k edits) a.edit → IsAbove (take k edits) i d
-  above_before i d a old = record { edit = a.edit; there = old; of_inode = a.of_inode; in_directory = a.in_directory }
+    above_before : (i d : ℕ) (a : IsAboveBy all (take (k + 1) edits) i d) → Contains (take k edits) a.edit → IsAboveBy all (take k edits) i d
+    above_before i d a old = record { edit = a.edit; there = old; of_inode = a.of_inode; in_directory = a.in_directory }
 
-  pub above_more : (test : ℕ → Bool) (i : ℕ) (old mid new : List ℕ) → HasAbove test (take k edits) i old mid → is_of i item.about ≡ true → HasDirectories test item.about mid new
-      → HasAbove test (take (k + 1) edits) i old new
-  above_more test i old mid new h here g = record {
-    extends = extends_more old mid new h.extends g.extends;
-    there = λ d a passes. ⊎_elim
-        (λ x. extends_keeps mid new g.extends d (h.there d (above_before i d a x) passes))
-        (λ e. g.there d (subst (λ (x : Unsettled). is_in d x.about ≡ true) (sym e) a.in_directory) passes)
-        (taken_cases a.edit a.there);
-    only = λ n c. ⊎_elim
-        (λ m. ⊎_elim (λ x. inl x) (λ a. inr (above_kept i n a.0, a.1)) (h.only n m))
-        (λ x. inr (record { edit = item; there = taken_there; of_inode = here; in_directory = x.0 }, x.1))
-        (g.only n c);
-  }
+    pub above_more : (i : ℕ) (old mid new : List ℕ) → HasAbove all (take k edits) i old mid → is_of i item.about ≡ true → HasDirectories all i item mid new
+        → HasAbove all (take (k + 1) edits) i old new
+    above_more i old mid new h here g = record {
+      extends = extends_more old mid new h.extends g.extends;
+      there = λ d a fresh. ⊎_elim
+          (λ x. extends_keeps mid new g.extends d (h.there d (above_before i d a x) fresh))
+          (λ e. g.there d (subst (λ (x : Unsettled). keeps_name all i d x ≡ true) (sym e) a.in_directory) fresh)
+          (taken_cases a.edit a.there);
+      only = λ n c. ⊎_elim
+          (λ m. ⊎_elim (λ x. inl x) (λ a. inr (above_kept i n a.0, a.1)) (h.only n m))
+          (λ x. inr (record { edit = item; there = taken_there; of_inode = here; in_directory = x.0 }, x.1))
+          (g.only n c);
+    }
 
-  pub above_other : (test : ℕ → Bool) (i : ℕ) (old new : List ℕ) → HasAbove test (take k edits) i old new → is_of i item.about ≡ false → HasAbove test (take (k + 1) edits) i old new
-  above_other test i old new h off = record {
-    extends = h.extends;
-    there = λ d a passes. ⊎_elim
-        (λ x. h.there d (above_before i d a x) passes)
-        (λ e. absurd (both_ways (is_of i item.about) off (subst (λ (x : Unsettled). is_of i x.about ≡ true) (sym e) a.of_inode)))
-        (taken_cases a.edit a.there);
-    only = λ n c. ⊎_elim (λ x. inl x) (λ a. inr (above_kept i n a.0, a.1)) (h.only n c);
-  }
+    pub above_other : (i : ℕ) (old new : List ℕ) → HasAbove all (take k edits) i old new → is_of i item.about ≡ false → HasAbove all (take (k + 1) edits) i old new
+    above_other i old new h off = record {
+      extends = h.extends;
+      there = λ d a fresh. ⊎_elim
+          (λ x. h.there d (above_before i d a x) fresh)
+          (λ e. absurd (both_ways (is_of i item.about) off (subst (λ (x : Unsettled). is_of i x.about ≡ true) (sym e) a.of_inode)))
+          (taken_cases a.edit a.there);
+      only = λ n c. ⊎_elim (λ x. inl x) (λ a. inr (above_kept i n a.0, a.1)) (h.only n c);
+    }
+
+  -- the names that one more edit gives
+  pub named_more : (entry : List ℕ) → named (take (k + 1) edits) entry ≡ edited (λ _. named (take k edits) entry) (edit_of item.edit) entry
+  named_more entry =
+      ap (λ (l : List Unsettled). named l entry) taken
+      ∙ ap (λ (l : List Edit). all_edited (λ _. None) l entry) (map-append (λ (u : Unsettled). edit_of u.edit) (take k edits) (item ∷ []))
+      ∙ all_more (λ _. None) (map (λ (u : Unsettled). edit_of u.edit) (take k edits)) (edit_of item.edit) entry
+      ∙ one_entry (named (take k edits)) item.edit entry
 
 no_edits : (x : Unsettled) → Contains [] x → ⊥
 no_edits x (k, low, at) = absurd (omega arith)
 
-pub above_none : (test : ℕ → Bool) (i : ℕ) (old : List ℕ) → HasAbove test [] i old old
-above_none test i old = record {
+pub above_none : (edits : List Unsettled) (i : ℕ) (old : List ℕ) → HasAbove edits [] i old old
+above_none edits i old = record {
   extends = extends_same old;
-  there = λ d a passes. absurd (no_edits a.edit a.there);
+  there = λ d a fresh. absurd (no_edits a.edit a.there);
   only = λ n c. inl c;
 }
 
-pub above_all : (test : ℕ → Bool) (edits : List Unsettled) (k i : ℕ) (old new : List ℕ) → take k edits ≡ edits → HasAbove test (take k edits) i old new → HasAbove test edits i old new
-above_all test edits k i old new all h = subst (λ (l : List Unsettled). HasAbove test l i old new) all h
+pub above_all : (edits : List Unsettled) (k i : ℕ) (old new : List ℕ) → take k edits ≡ edits → HasAbove edits (take k edits) i old new → HasAbove edits edits i old new
+above_all edits k i old new all h = subst (λ (l : List Unsettled). HasAbove edits l i old new) all h
+
+by_all : (edits : List Unsettled) (i d : ℕ) → IsAbove edits i d → IsAboveBy edits edits i d
+by_all edits i d a = record { edit = a.edit; there = a.there; of_inode = a.of_inode; in_directory = a.in_directory }
+
+of_all : (edits : List Unsettled) (i d : ℕ) → IsAboveBy edits edits i d → IsAbove edits i d
+of_all edits i d a = record { edit = a.edit; there = a.there; of_inode = a.of_inode; in_directory = a.in_directory }
 
 -- Upward.
 
@@ -193,7 +235,7 @@ above_all test edits k i old new all h = subst (λ (l : List Unsettled). HasAbov
 abbrev pub Closed : List Unsettled → List ℕ → ℕ → Type 0
 Closed edits found n = (k d : ℕ) → k < n → IsAbove edits (get_or found k 0) d → is_new edits d ≡ true → Contains found d
 
-pub closed_more : (edits : List Unsettled) (n i : ℕ) (old new : List ℕ) → n < length old → get_or old n 0 ≡ i → Closed edits old n → HasAbove (is_new edits) edits i old new → Closed edits new (n + 1)
+pub closed_more : (edits : List Unsettled) (n i : ℕ) (old new : List ℕ) → n < length old → get_or old n 0 ≡ i → Closed edits old n → HasAbove edits edits i old new → Closed edits new (n + 1)
 closed_more edits n i old new low at closed h k d under above fresh =
     let same : get_or new k 0 ≡ get_or old k 0 = extends_at old new k h.extends (omega arith) in
     let a : IsAbove edits (get_or old k 0) d = subst (λ j. IsAbove edits j d) same above in
@@ -201,14 +243,14 @@ closed_more edits n i old new low at closed h k d under above fresh =
     (λ below. extends_keeps old new h.extends d (closed k d below a fresh))
     (λ over.
     let e : k ≡ n = omega (arith, under, over) in
-    h.there d (subst (λ j. IsAbove edits j d) (ap (λ m. get_or old m 0) e ∙ at) a) fresh)
+    h.there d (by_all edits i d (subst (λ j. IsAbove edits j d) (ap (λ m. get_or old m 0) e ∙ at) a)) fresh)
     (cases_lt k n)
 
-pub only_more : (edits : List Unsettled) (inode i : ℕ) (old new : List ℕ) → Contains old i → ((n : ℕ) → Contains old n → Upward edits inode n) → HasAbove (is_new edits) edits i old new
+pub only_more : (edits : List Unsettled) (inode i : ℕ) (old new : List ℕ) → Contains old i → ((n : ℕ) → Contains old n → Upward edits inode n) → HasAbove edits edits i old new
     → (n : ℕ) → Contains new n → Upward edits inode n
-only_more edits inode i old new here only h n c = ⊎_elim (λ x. only n x) (λ a. Above i n (only i here) a.0 a.1) (h.only n c)
+only_more edits inode i old new here only h n c = ⊎_elim (λ x. only n x) (λ a. Above i n (only i here) (of_all edits i n a.0) a.1) (h.only n c)
 
-pub first_more : (edits : List Unsettled) (i n : ℕ) (old new : List ℕ) → HasAbove (is_new edits) edits i old new → Contains old n → Contains new n
+pub first_more : (edits : List Unsettled) (i n : ℕ) (old new : List ℕ) → HasAbove edits edits i old new → Contains old n → Contains new n
 first_more edits i n old new h c = extends_keeps old new h.extends n c
 
 pub all_upward : (edits : List Unsettled) (inode : ℕ) (found : List ℕ) (n : ℕ) → length found ≤ n → Contains found inode → Closed edits found n
@@ -221,17 +263,22 @@ all_upward edits inode found n all first closed _ (Above i d up above fresh) =
 
 -- The tests.
 
-pub of_upward : (edits : List Unsettled) (inode : ℕ) (found : List ℕ) (e : Unsettled) → ((i : ℕ) → Contains found i → Upward edits inode i)
-    → is_of_any found e.about ≡ true → IsUpward edits inode e
-of_upward edits inode found e only h =
-    let a = Any-from_list_any (λ (i : ℕ). is_of i e.about) found h in
-    record { above = a.1; upward = only a.1 (a.0, a.2, a.3); of_above = a.4 }
+module _ (edits : List Unsettled) (inode : ℕ) (found : List ℕ) (e : Unsettled) where
+  pub of_upward : ((i : ℕ) → Contains found i → Upward edits inode i) → is_upward inode found e ≡ true → IsUpward edits inode e
+  of_upward only h = ⊎_elim
+      (λ x. inl x)
+      (λ y.
+      let a = Any-from_list_any (λ (i : ℕ). makes i e) found y in
+      inr (record { above = a.1; upward = only a.1 (a.0, a.2, a.3); makes = a.4 }))
+      (or_cases (is_of inode e.about) (makes_any found e) h)
 
-pub upward_of : (edits : List Unsettled) (inode : ℕ) (found : List ℕ) (e : Unsettled) → ((i : ℕ) → Upward edits inode i → Contains found i)
-    → IsUpward edits inode e → is_of_any found e.about ≡ true
-upward_of edits inode found e all u =
-    let a = all u.above u.upward in
-    list_any-from_Any (λ (i : ℕ). is_of i e.about) found (a.0, u.above, a.1, a.2, u.of_above)
+  pub upward_of : ((i : ℕ) → Upward edits inode i → Contains found i) → IsUpward edits inode e → is_upward inode found e ≡ true
+  upward_of all u = ⊎_elim
+      (λ x. or_left _ _ x)
+      (λ y.
+      let a = all y.above y.upward in
+      or_right (is_of inode e.about) (makes_any found e) (list_any-from_Any (λ (i : ℕ). makes i e) found (a.0, y.above, a.1, a.2, y.makes)))
+      u
 
 pub up_to : (edits : List Unsettled) (alone : Bool) (n : ℕ) (last : Option ℕ) (e : Unsettled) → IsLast edits alone n last → is_up_to last e.number ≡ true → IsUpToLast edits alone n e
 up_to edits alone n None e none h = absurd (false≢true h)

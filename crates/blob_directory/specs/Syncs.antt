@@ -7,7 +7,9 @@ use Rattle.blob_directory.specs.declared.unsettled.About.{About}
 use Rattle.blob_directory.specs.declared.unsettled.Synced.{Synced}
 use Rattle.blob_directory.specs.declared.unsettled.Synced.TheVariants.{File, Data, Directory}
 use Rattle.blob_directory.specs.declared.unsettled.Unsettled.{Unsettled}
-use Rattle.blob_directory.specs.Names.{edit_of, is_binding}
+use Rattle.blob_directory.specs.declared.edit.Binding.{Binding}
+use Rattle.blob_directory.specs.declared.edit.Change as rust_change
+use Rattle.blob_directory.specs.Names.{all_edited, edit_of, is_binding}
 
 abbrev pub is_number : Option ℕ → ℕ → Bool
 is_number None n = false
@@ -57,23 +59,49 @@ makes inode edit = is_one_of inode edit.about && is_binding (edit_of edit.edit)
 abbrev pub is_new : List Unsettled → ℕ → Bool
 is_new edits directory = list_any (makes directory) edits
 
--- an edit of a name of the inode is in the directory
+-- the names that these edits alone give
+abbrev pub named : List Unsettled → List ℕ → Option Binding
+named edits = all_edited (λ _. None) (map (λ (u : Unsettled). edit_of u.edit) edits)
+
+abbrev pub is_bound_to : ℕ → Option Binding → Bool
+is_bound_to inode None = false
+is_bound_to inode (Some to) = nat_eq to.inode inode
+
+-- these edits leave the name that this change is of to the inode
+abbrev pub leaves : List Unsettled → ℕ → rust_change.Change → Bool
+leaves edits inode change = is_bound_to inode (named edits change.entry.items)
+
+abbrev pub leaves_second : List Unsettled → ℕ → Option rust_change.Change → Bool
+leaves_second edits inode None = false
+leaves_second edits inode (Some change) = leaves edits inode change
+
+-- The edit changes a name in the directory that the edits leave to the inode. Its second name is in its other directory.
+abbrev pub keeps_name : List Unsettled → ℕ → ℕ → Unsettled → Bool
+keeps_name edits inode directory edit =
+    (nat_eq edit.about.directory directory && leaves edits inode edit.edit.first)
+    || (is_number edit.about.other_directory directory && leaves_second edits inode edit.edit.second)
+
+-- an edit of the inode is of a name in the directory that the inode still has
 pub record IsAbove (edits : List Unsettled) (inode directory : ℕ) : Type 0 where
   pub edit : Unsettled
   pub there : Contains edits edit
   pub of_inode : is_of inode edit.about ≡ true
-  pub in_directory : is_in directory edit.about ≡ true
+  pub in_directory : keeps_name edits inode directory edit ≡ true
 
--- the inode itself and, upward, each new directory in which an edit changes a name of one of these
+-- the inode itself and, upward, each new directory in which one of these has a name
 pub data Upward (edits : List Unsettled) (inode : ℕ) : ℕ → Type 0 where
   Itself : Upward edits inode inode
   Above : (i d : ℕ) → Upward edits inode i → IsAbove edits i d → is_new edits d ≡ true → Upward edits inode d
 
--- an edit of a name of one of these
-pub record IsUpward (edits : List Unsettled) (inode : ℕ) (edit : Unsettled) : Type 0 where
+-- the edit makes one of these
+pub record MakesUpward (edits : List Unsettled) (inode : ℕ) (edit : Unsettled) : Type 0 where
   pub above : ℕ
   pub upward : Upward edits inode above
-  pub of_above : is_of above edit.about ≡ true
+  pub makes : makes above edit ≡ true
+
+-- an edit of the inode, or one that makes a directory above it
+abbrev pub IsUpward : List Unsettled → ℕ → Unsettled → Type 0
+IsUpward edits inode edit = (is_of inode edit.about ≡ true) ⊎ MakesUpward edits inode edit
 
 -- some edit is of a name of the inode, or in the directory
 pub record HasEdit (edits : List Unsettled) (alone : Bool) (number : ℕ) : Type 0 where

@@ -1,15 +1,18 @@
 -- The edits that a sync settles, as the code tests them.
 use Rattle.std.specs.Prelude.{◌≡◌, ◌⊎◌, ℕ, ◌||◌, ◌++◌, Bool, true, false, List, Option, Some, None, nat_lt, nat_le}
 use Rattle.std.specs.List.{Contains, list_any}
-use Rattle.blob_directory.specs.declared.unsettled.About.{About}
 use Rattle.blob_directory.specs.declared.unsettled.Unsettled.{Unsettled}
 use Rattle.blob_directory.specs.declared.wanted.Wanted as wanted
 use Rattle.blob_directory.specs.declared.wanted.Wanted.TheVariants as is
-use Rattle.blob_directory.specs.Syncs.{HasEdit, IsAbove, is_in, is_of, is_settled_in}
+use Rattle.blob_directory.specs.Syncs.{HasEdit, is_in, is_new, is_of, is_settled_in, keeps_name, makes}
 
--- an edit of a name of one of these inodes
-abbrev pub is_of_any : List ℕ → About → Bool
-is_of_any inodes about = list_any (λ i. is_of i about) inodes
+-- the edit makes one of these
+abbrev pub makes_any : List ℕ → Unsettled → Bool
+makes_any inodes edit = list_any (λ i. makes i edit) inodes
+
+-- an edit of the inode, or one that makes one of these
+abbrev pub is_upward : ℕ → List ℕ → Unsettled → Bool
+is_upward inode above edit = is_of inode edit.about || makes_any above edit
 
 abbrev pub is_up_to : Option ℕ → ℕ → Bool
 is_up_to None n = false
@@ -18,8 +21,8 @@ is_up_to (Some last) n = nat_le n last
 abbrev pub wants : wanted.Wanted → Unsettled → Bool
 wants is.All edit = true
 wants (is.In d) edit = is_in d edit.about
-wants (is.Of inodes) edit = is_of_any inodes.items edit.about
-wants (is.OfOrIn inodes d) edit = is_of_any inodes.items edit.about || is_settled_in d edit.about
+wants (is.Of inode above) edit = is_upward inode above.items edit
+wants (is.OfOrIn d above) edit = is_upward d above.items edit || is_settled_in d edit.about
 wants (is.UpTo last below) edit = is_up_to last edit.number || nat_lt edit.number below
 
 -- more numbers at the end
@@ -37,20 +40,24 @@ abbrev pub HasWhen : Bool → List ℕ → ℕ → List ℕ → Type 0
 HasWhen true old number new = HasToo old number new
 HasWhen false old number new = new ≡ old
 
-abbrev pub HasIf : (ℕ → Bool) → List ℕ → ℕ → List ℕ → Type 0
-HasIf test old number new = HasWhen (test number) old number new
-
--- the directories of an edit that pass the test were added unless they were there
-pub record HasDirectories (test : ℕ → Bool) (about : About) (old new : List ℕ) : Type 0 where
+-- the new directories of an edit in which it changes a name that the inode still has were added unless they were there
+pub record HasDirectories (edits : List Unsettled) (inode : ℕ) (edit : Unsettled) (old new : List ℕ) : Type 0 where
   pub extends : Extends old new
-  pub there : (d : ℕ) → is_in d about ≡ true → test d ≡ true → Contains new d
-  pub only : (n : ℕ) → Contains new n → Contains old n ⊎ ((is_in n about ≡ true) × (test n ≡ true))
+  pub there : (d : ℕ) → keeps_name edits inode d edit ≡ true → is_new edits d ≡ true → Contains new d
+  pub only : (n : ℕ) → Contains new n → Contains old n ⊎ ((keeps_name edits inode n edit ≡ true) × (is_new edits n ≡ true))
 
--- those above an inode were added
-pub record HasAbove (test : ℕ → Bool) (edits : List Unsettled) (inode : ℕ) (old new : List ℕ) : Type 0 where
+-- one of the first edits, of the inode, is of a name in the directory that all of them leave to the inode
+pub record IsAboveBy (edits first : List Unsettled) (inode directory : ℕ) : Type 0 where
+  pub edit : Unsettled
+  pub there : Contains first edit
+  pub of_inode : is_of inode edit.about ≡ true
+  pub in_directory : keeps_name edits inode directory edit ≡ true
+
+-- the new directories above an inode by the first edits were added
+pub record HasAbove (edits first : List Unsettled) (inode : ℕ) (old new : List ℕ) : Type 0 where
   pub extends : Extends old new
-  pub there : (d : ℕ) → IsAbove edits inode d → test d ≡ true → Contains new d
-  pub only : (n : ℕ) → Contains new n → Contains old n ⊎ (IsAbove edits inode n × (test n ≡ true))
+  pub there : (d : ℕ) → IsAboveBy edits first inode d → is_new edits d ≡ true → Contains new d
+  pub only : (n : ℕ) → Contains new n → Contains old n ⊎ (IsAboveBy edits first inode n × (is_new edits n ≡ true))
 
 -- the greatest number of an edit of the inode or in the directory
 abbrev pub IsLast : List Unsettled → Bool → ℕ → Option ℕ → Type 0

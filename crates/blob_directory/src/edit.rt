@@ -1,6 +1,6 @@
 //! Edits of names.
 ghost use Rattle.std.specs.Prelude.{◌≡◌, ◌≤◌, true, [], ◌∷◌, length, option_map, IfOk, IfSome};
-ghost use Rattle.blob_directory.specs.Names.{binds_any, change_of, edit_of, entry, exchanges, is_binding, moves, new_name, resizes};
+ghost use Rattle.blob_directory.specs.Names.{binds_any, change_of, changed, edit_of, edited, entry, exchanges, is_binding, moves, new_name, resizes};
 ghost use Rattle.blob_directory.specs.Records.{Fits, FitsRecord, change_bytes};
 
 use crate::record::inode_told;
@@ -43,6 +43,17 @@ pub(crate) const LONGEST: usize = 1024;
 const OVERHEAD: usize = 17;
 
 impl Change {
+    /// Returns what an entry is bound to after the change, if it was bound to this.
+    fn apply(&self, was: Option<Binding>, entry: &[u8]) -> Option<Binding>
+        ensures { result ≡ changed (λ _. was) (change_of self.now) entry.now }
+    {
+        if self.entry[..] == entry[..] {
+            self.to
+        } else {
+            was
+        }
+    }
+
     /// Returns how many bytes of a record the change takes. `None` if its entry is empty or too long.
     fn size(&self) -> Option<usize>
         ensures fits { IfSome result (λ _. Fits (change_of self.now)) }
@@ -108,6 +119,17 @@ impl Edit {
             to: Some(moved),
         };
         Edit::two(first, second)
+    }
+
+    /// Returns what an entry is bound to after the edit, if it was bound to this.
+    pub(crate) fn apply(&self, was: Option<Binding>, entry: &[u8]) -> Option<Binding>
+        ensures { result ≡ edited (λ _. was) (edit_of self.now) entry.now }
+    {
+        let to = self.first.apply(was, entry);
+        match &self.second {
+            None => to,
+            Some(second) => second.apply(to, entry),
+        }
     }
 
     /// Returns whether the edit binds a name, and not only frees some.

@@ -19,8 +19,8 @@ pub enum Keeps {
 pub enum Settles {
     /// For a file, its truncations: the edits in its own number. For a directory, those in it.
     Own,
-    /// Those of a file's names and, upward, of the directories that have them and whose making isn't settled. For a directory also
-    /// those in it.
+    /// Those of a file's names, its truncations and, upward, the makings of the directories that its names are in. For a directory
+    /// also those in it, but of a file that moved into it the new name alone.
     Names,
     /// All up to the last one of the file or up to the last change of its size. A sync of its data leaves out exchanges of its name.
     /// For a directory, all up to its own last one.

@@ -1,11 +1,12 @@
 //! Which edits a sync settles, as a test.
-ghost use Rattle.std.specs.Prelude.{◌≡◌, ℕ, IfOk, OnOk};
+ghost use Rattle.std.specs.Prelude.{◌≡◌, ◌&&◌, ℕ, IfOk, OnOk};
 ghost use Rattle.std.specs.List.{Contains};
-ghost use Rattle.blob_directory.specs.Syncs.{Upward, Wants, is_new};
-ghost use Rattle.blob_directory.specs.Wanted.{HasAbove, HasDirectories, HasIf, HasToo, IsLast, is_of_any, is_up_to, wants};
+ghost use Rattle.blob_directory.specs.Syncs.{Upward, Wants, is_new, leaves, named};
+ghost use Rattle.blob_directory.specs.Wanted.{HasAbove, HasDirectories, HasToo, HasWhen, IsLast, is_up_to, is_upward, makes_any, wants};
 
+use crate::edit::{Binding, Change};
 use crate::profile::Settles;
-use crate::unsettled::{About, Synced, Unsettled};
+use crate::unsettled::{Synced, Unsettled};
 use std::alloc::{AllocError, Global};
 
 /// The edits that a sync settles.
@@ -14,23 +15,29 @@ pub(crate) enum Wanted {
     All,
     /// Those in a directory, or in a file's own number.
     In(u64),
-    /// Those of names of these inodes.
-    Of(Vec<u64>),
-    /// Those of names of these inodes, and those in a directory but for files that moved into it.
-    OfOrIn(Vec<u64>, u64),
+    /// Those of an inode, and those that make these directories.
+    Of(u64, Vec<u64>),
+    /// Those of a directory, those that make these ones, and those in it but for files that moved into it.
+    OfOrIn(u64, Vec<u64>),
     /// Those up to a number, and those below another.
     UpTo(Option<u64>, u64),
 }
 
-fn is_of_any(inodes: &[u64], about: &About) -> bool
-    ensures { result ≡ is_of_any inodes.now about.now }
+fn makes_any(inodes: &[u64], edit: &Unsettled) -> bool
+    ensures { result ≡ makes_any inodes.now edit.now }
 {
     for inode in inodes {
-        if about.is_of(*inode) {
+        if edit.makes(*inode) {
             return true;
         }
     }
     false
+}
+
+fn is_upward(inode: u64, above: &[u64], edit: &Unsettled) -> bool
+    ensures { result ≡ is_upward inode above.now edit.now }
+{
+    edit.about.is_of(inode) || makes_any(above, edit)
 }
 
 fn is_up_to(last: Option<u64>, number: u64) -> bool
@@ -51,9 +58,9 @@ impl Wanted {
         match self {
             Wanted::All => true,
             Wanted::In(directory) => about.is_in(*directory),
-            Wanted::Of(inodes) => is_of_any(inodes, about),
-            Wanted::OfOrIn(inodes, directory) => {
-                is_of_any(inodes, about) || about.is_settled_in(*directory)
+            Wanted::Of(inode, above) => is_upward(*inode, above, edit),
+            Wanted::OfOrIn(directory, above) => {
+                is_upward(*directory, above, edit) || about.is_settled_in(*directory)
             }
             Wanted::UpTo(last, below) => is_up_to(*last, edit.number) || edit.number < *below,
         }
@@ -85,44 +92,82 @@ fn is_new(edits: &[Unsettled], directory: u64) -> bool
     false
 }
 
-/// Appends a directory that one of these edits makes, unless the list has it. Fails only if memory runs out.
-fn add_new(numbers: &mut Vec<u64>, edits: &[Unsettled], directory: u64) -> Result<(), AllocError>
-    ensures { OnOk result (HasIf (is_new edits.now) numbers.old.items directory numbers.new.items) }
+/// Returns what these edits alone bind an entry to.
+fn named(edits: &[Unsettled], entry: &[u8]) -> Option<Binding>
+    ensures { result ≡ named edits.now entry.now }
 {
-    if !is_new(edits, directory) {
-        return Ok(());
+    let mut to = None;
+    for edit in edits {
+        to = edit.edit.apply(to, entry);
     }
-    add(numbers, directory)
+    to
 }
 
-/// Appends the directories of an edit that these edits make. Fails only if memory runs out.
+/// Returns whether these edits leave the name of a change to an inode.
+fn leaves(edits: &[Unsettled], inode: u64, change: &Change) -> bool
+    ensures { result ≡ leaves edits.now inode change.now }
+{
+    match named(edits, &change.entry) {
+        None => false,
+        Some(to) => to.inode == inode,
+    }
+}
+
+/// Appends the directory of a change if one of these edits makes it and they leave the name to the inode, unless the list has it. Fails
+/// only if memory runs out.
+fn add_new(
+    numbers: &mut Vec<u64>,
+    edits: &[Unsettled],
+    inode: u64,
+    change: &Change,
+    directory: u64,
+) -> Result<(), AllocError>
+    ensures { OnOk result (HasWhen (leaves edits.now inode change.now && is_new edits.now directory) numbers.old.items directory numbers.new.items) }
+{
+    if leaves(edits, inode, change) && is_new(edits, directory) {
+        return add(numbers, directory);
+    }
+    Ok(())
+}
+
+/// Appends the new directories of an edit in which it changes a name that the inode still has. Fails only if memory runs out.
 fn add_directories(
     numbers: &mut Vec<u64>,
     edits: &[Unsettled],
-    about: &About,
+    inode: u64,
+    edit: &Unsettled,
 ) -> Result<(), AllocError>
-    ensures { OnOk result (HasDirectories (is_new edits.now) about.now numbers.old.items numbers.new.items) }
+    ensures { OnOk result (HasDirectories edits.now inode edit.now numbers.old.items numbers.new.items) }
 {
-    add_new(numbers, edits, about.directory)?;
-    match about.other_directory {
+    add_new(
+        numbers,
+        edits,
+        inode,
+        &edit.edit.first,
+        edit.about.directory,
+    )?;
+    match edit.about.other_directory {
         None => Ok(()),
-        Some(other) => add_new(numbers, edits, other),
+        Some(other) => match &edit.edit.second {
+            None => Ok(()),
+            Some(second) => add_new(numbers, edits, inode, second, other),
+        },
     }
 }
 
-/// Appends the new directories in which these edits change names of an inode. Fails only if memory runs out.
+/// Appends the new directories in which an inode has a name by these edits. Fails only if memory runs out.
 fn add_above(numbers: &mut Vec<u64>, edits: &[Unsettled], inode: u64) -> Result<(), AllocError>
-    ensures { OnOk result (HasAbove (is_new edits.now) edits.now inode numbers.old.items numbers.new.items) }
+    ensures { OnOk result (HasAbove edits.now edits.now inode numbers.old.items numbers.new.items) }
 {
     for edit in edits {
         if edit.about.is_of(inode) {
-            add_directories(numbers, edits, &edit.about)?;
+            add_directories(numbers, edits, inode, edit)?;
         }
     }
     Ok(())
 }
 
-/// Returns an inode and, upward, the new directories in which these edits change its names. Fails only if memory runs out.
+/// Returns an inode and, upward, the new directories in which it has a name by these edits. Fails only if memory runs out.
 fn upward(alloc: Global, edits: &[Unsettled], inode: u64) -> Result<Vec<u64>, AllocError>
     ensures only { IfOk result (λ found. (i : ℕ) → Contains found.items i → Upward edits.now inode i) }
     ensures all { IfOk result (λ found. (i : ℕ) → Upward edits.now inode i → Contains found.items i) }
@@ -169,16 +214,16 @@ pub(crate) fn choose(
         (Settles::Own, Synced::Data { inode, .. }) => Ok(Wanted::In(inode)),
         (Settles::Own, Synced::Directory(directory)) => Ok(Wanted::In(directory)),
         (Settles::Names, Synced::File { inode, .. }) => {
-            let inodes = upward(alloc, edits, inode)?;
-            Ok(Wanted::Of(inodes))
+            let above = upward(alloc, edits, inode)?;
+            Ok(Wanted::Of(inode, above))
         }
         (Settles::Names, Synced::Data { inode, .. }) => {
-            let inodes = upward(alloc, edits, inode)?;
-            Ok(Wanted::Of(inodes))
+            let above = upward(alloc, edits, inode)?;
+            Ok(Wanted::Of(inode, above))
         }
         (Settles::Names, Synced::Directory(directory)) => {
-            let inodes = upward(alloc, edits, directory)?;
-            Ok(Wanted::OfOrIn(inodes, directory))
+            let above = upward(alloc, edits, directory)?;
+            Ok(Wanted::OfOrIn(directory, above))
         }
         (Settles::UpToLast, Synced::File { inode, sized }) => {
             Ok(Wanted::UpTo(last_of(edits, false, inode), sized))

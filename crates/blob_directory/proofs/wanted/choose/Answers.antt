@@ -1,36 +1,36 @@
 use Rattle.std.proofs.Common.{false, inl, inr, true, ⊎_elim}
 use Rattle.std.proofs.lemmas.Bool.{or_cases, or_left, or_right}
-use Rattle.blob_directory.specs.Wanted.{is_of_any}
+use Rattle.blob_directory.specs.Wanted.{is_upward}
 use Rattle.blob_directory.specs.Syncs.{is_settled_in}
 use Rattle.blob_directory.proofs.Syncs.{of_upward, up_to_alone, up_to_or_below, upward_of}
 use Rattle.blob_directory.proofs.wanted.choose.Goals as goal
 
-pub returns-in_ok-inodes-in-Names-File : goal.returns-in_ok-inodes-in-Names-File
-returns-in_ok-inodes-in-Names-File c = λ e there.
+pub returns-in_ok-above-in-Names-File : goal.returns-in_ok-above-in-Names-File
+returns-in_ok-above-in-Names-File c = λ e there.
     let edits = c.args.edits.now in
-    let found = c.in_ok-inodes-in-Names-File.inodes.items in
+    let found = c.in_ok-above-in-Names-File.above.items in
     rw (c.in-Names-File.is-0, c.in-Names-File.is-1) (
-      of_upward edits c.in-Names-File.inode found e c.in_ok-inodes-in-Names-File.ensures.only,
-      upward_of edits c.in-Names-File.inode found e c.in_ok-inodes-in-Names-File.ensures.all,
+      of_upward edits c.in-Names-File.inode found e c.in_ok-above-in-Names-File.ensures.only,
+      upward_of edits c.in-Names-File.inode found e c.in_ok-above-in-Names-File.ensures.all,
     )
 
-pub returns-in_ok-inodes-in-Names-Data : goal.returns-in_ok-inodes-in-Names-Data
-returns-in_ok-inodes-in-Names-Data c = λ e there.
+pub returns-in_ok-above-in-Names-Data : goal.returns-in_ok-above-in-Names-Data
+returns-in_ok-above-in-Names-Data c = λ e there.
     let edits = c.args.edits.now in
-    let found = c.in_ok-inodes-in-Names-Data.inodes.items in
+    let found = c.in_ok-above-in-Names-Data.above.items in
     rw (c.in-Names-Data.is-0, c.in-Names-Data.is-1) (
-      of_upward edits c.in-Names-Data.inode found e c.in_ok-inodes-in-Names-Data.ensures.only,
-      upward_of edits c.in-Names-Data.inode found e c.in_ok-inodes-in-Names-Data.ensures.all,
+      of_upward edits c.in-Names-Data.inode found e c.in_ok-above-in-Names-Data.ensures.only,
+      upward_of edits c.in-Names-Data.inode found e c.in_ok-above-in-Names-Data.ensures.all,
     )
 
-pub returns-in_ok-inodes-in-Names-Directory : goal.returns-in_ok-inodes-in-Names-Directory
-returns-in_ok-inodes-in-Names-Directory c = λ e there.
+pub returns-in_ok-above-in-Names-Directory : goal.returns-in_ok-above-in-Names-Directory
+returns-in_ok-above-in-Names-Directory c = λ e there.
     let edits = c.args.edits.now in
     let d = c.in-Names-Directory.directory in
-    let found = c.in_ok-inodes-in-Names-Directory.inodes.items in
+    let found = c.in_ok-above-in-Names-Directory.above.items in
     rw (c.in-Names-Directory.is-0, c.in-Names-Directory.is-1) (
-      λ h. ⊎_elim (λ x. inl (of_upward edits d found e c.in_ok-inodes-in-Names-Directory.ensures.only x)) (λ y. inr y) (or_cases (is_of_any found e.about) (is_settled_in d e.about) h),
-      λ s. ⊎_elim (λ x. or_left (is_of_any found e.about) (is_settled_in d e.about) (upward_of edits d found e c.in_ok-inodes-in-Names-Directory.ensures.all x)) (λ y. or_right (is_of_any found e.about) (is_settled_in d e.about) y) s,
+      λ h. ⊎_elim (λ x. inl (of_upward edits d found e c.in_ok-above-in-Names-Directory.ensures.only x)) (λ y. inr y) (or_cases (is_upward d found e) (is_settled_in d e.about) h),
+      λ s. ⊎_elim (λ x. or_left (is_upward d found e) (is_settled_in d e.about) (upward_of edits d found e c.in_ok-above-in-Names-Directory.ensures.all x)) (λ y. or_right (is_upward d found e) (is_settled_in d e.about) y) s,
     )
 
 pub returns-in-UpToLast-File : goal.returns-in-UpToLast-File
