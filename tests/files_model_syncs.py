@@ -25,15 +25,16 @@ class Syncs(Names):
         return max((edit.number + 1 for edit in edits if inode in edit.inodes + edit.directories), default=0)
 
     def settle_names(self, inode):
-        """Settles the edits of an inode's names and, upward, of the new directories that have them."""
+        """Settles the edits of an inode and, upward, those that make the new directories that its names are in."""
         edits, above, left = self.unsettled(), {inode}, [inode]
         # A move is in two directories, and a removal frees its name.
-        new = {edit.inodes[0] for edit in edits if len(edit.inodes) == len(edit.directories) == 1 and edit.changes and edit.changes[0][1]}
+        makes = {edit.number: edit.inodes[0] for edit in edits if len(edit.inodes) == len(edit.directories) == 1 and edit.changes and edit.changes[0][1]}
+        named = {entry: binding for edit in edits for entry, binding in edit.changes}
         while left:
-            inode = left.pop()
-            found = {directory for edit in edits if inode in edit.inodes for directory in edit.directories} & new - above
+            has = left.pop()
+            found = {entry[0] for entry, binding in named.items() if binding and binding[0] == has} & set(makes.values()) - above
             above, left = above | found, left + sorted(found)
-        self.settle_where(lambda edit: above & set(edit.inodes))
+        self.settle_where(lambda edit: inode in edit.inodes or makes.get(edit.number) in above)
 
     def fsync(self, asked, data=False):
         inode = self.inode_of(asked)
