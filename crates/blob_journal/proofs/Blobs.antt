@@ -211,6 +211,10 @@ pub on_ok : {T E : Type 0} (r : Result T E) (Q : Type 0) → Q → OnOk r Q
 on_ok (Ok x) Q q = q
 on_ok (Err e) Q q = tt
 
+pub on_both : {T E A B C : Type 0} (r : Result T E) → OnOk r A → OnOk r B → (A → B → C) → OnOk r C
+on_both (Ok x) a b f = f a b
+on_both (Err e) a b f = tt
+
 pub by_ok : {T A B C : Type 0} (r : Result T Error) → OnOk r A → (error_of r ≡ None → B) → (A → B → C) → OnOk r C
 by_ok (Ok x) a b f = f a (b refl)
 by_ok (Err e) a b f = tt

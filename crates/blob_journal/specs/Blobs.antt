@@ -1,5 +1,5 @@
 -- The blobs of files: their bytes, and what calls leave of them.
-use Rattle.std.specs.Prelude.{◌≡◌, ◌≢◌, ◌<◌, ◌≤◌, ◌^◌, ℕ, List, length, take, codes, Option, Some, option_and_then}
+use Rattle.std.specs.Prelude.{◌≡◌, ◌≢◌, ◌+◌, ◌<◌, ◌≤◌, ◌^◌, ℕ, List, length, take, drop, codes, Option, Some, option_and_then}
 use Rattle.std.specs.Int.{w64, to_be_bytes}
 use Rattle.blob_model.specs.Bytes.{resize, write_live}
 use Rattle.blob_model.specs.Directory.{current}
@@ -60,6 +60,10 @@ pub record IsFileOf {R : Type 0} (j : Journaled R) (inode : ℕ) (file : FileBlo
 pub record Sees (file : FileBlob) (bytes : List ℕ) : Type 0 where
   pub live : live (inside file.blob) ≡ bytes
   pub size : size_of file.blob ≡ length bytes
+
+-- these are as many bytes of the file from an offset on, as calls see them
+abbrev pub ReadsFile : FileBlob → ℕ → ℕ → List ℕ → Type 0
+ReadsFile file offset count bytes = (seen : List ℕ) → Sees file seen → (offset + count ≤ length seen) × (bytes ≡ take count (drop offset seen))
 
 -- its blob is the current one of this number, with some durable bytes, and its size is that of the bytes that calls see
 pub record IsOpen {R : Type 0} (j : Journaled R) (inode : ℕ) (file : FileBlob) : Type 0 where

@@ -30,7 +30,7 @@ pub(crate) fn number_of<R: Rng>(blob: &Handle) -> u64
 }
 
 impl<R: Rng + Drop> Journaled<R> {
-    ghost use Rattle.blob_journal.specs.Blobs.{ChangesFile, FixesFile, OpensFile, ResizesFile, SameFiles, SameFilesBut, SyncsFile, WritesFile, bytes_of};
+    ghost use Rattle.blob_journal.specs.Blobs.{ChangesFile, FixesFile, OpensFile, ReadsFile, ResizesFile, SameFiles, SameFilesBut, SyncsFile, WritesFile, bytes_of};
     ghost use Rattle.blob_journal.specs.Currents.{IsGiven, KeepsFiles};
     ghost use Rattle.blob_journal.specs.Errors.{FailsAtLimits, IsFaultless, IsReady, KeepsAllReady, KeepsReady, TracksSize};
     ghost use Rattle.blob_journal.specs.Fixed.{ChangesOpen, FixesOpen, IsBeside, KeepsHandles, KeepsOpen, KeepsOpenBut, ReopensFile};
@@ -159,8 +159,10 @@ impl<R: Rng + Drop> Journaled<R> {
     ///
     /// # Errors
     ///
-    /// Those of the layer's read.
+    /// Those of the layer's read. The buffer is unchanged.
     pub fn read_file(&mut self, file: &FileBlob, offset: u64, buf: &mut [u8]) -> Result<(), Error>
+        ensures read { OnOk result (ReadsFile file.now offset (length buf.old) buf.new) }
+        ensures refused { OnErr result (buf.new ≡ buf.old) }
         ensures names { KeepsTable self.old self.new }
         ensures told { KeepsTold self.old self.new }
         ensures files { KeepsFiles (store_of self.old) (store_of self.new) }

@@ -1,4 +1,4 @@
-use Rattle.std.proofs.Common.{◌≡◌, ap, refl, ◌∙◌}
+use Rattle.std.proofs.Common.{◌≡◌, ◌+◌, ◌≤◌, ℕ, List, length, take, drop, ap, refl, subst, ◌∙◌}
 use Rattle.blob_model.specs.Places.{Place}
 use Rattle.blob_model.specs.Directory.{Directory, is_current}
 use Rattle.blob_memory.specs.Store.{directory, durable, place}
@@ -10,6 +10,7 @@ use Rattle.std.specs.Prelude.{codes}
 use Rattle.blob_model.specs.Draws.{chosen_by}
 use Rattle.blob_draws.specs.Rows.{table_of}
 use Rattle.blob_journal.specs.Blobs.{file_name}
+use Rattle.blob_journal.proofs.Blobs.{on_both}
 use Rattle.blob_journal.proofs.Writes.{crashed_alike}
 use Rattle.blob_journal.proofs.Fixed.{incarnations_same, keeps_open}
 use Rattle.blob_journal.proofs.journaled.Journaled.read_file.Goals as goal
@@ -73,3 +74,12 @@ returns-clause-journal g c =
       unsettled = refl;
       told = refl;
     }
+
+pub returns-clause-read : goal.returns-clause-read
+returns-clause-read g c =
+    let offset = c.args.offset in
+    let count = length c.args.buf.now in
+    on_both c.read_into.result c.read_into.ensures.bytes c.read_into.ensures.within (λ bytes within seen is. (
+      subst (λ (l : List ℕ). offset + count ≤ length l) is.live within,
+      bytes ∙ ap (λ (l : List ℕ). take count (drop offset l)) is.live,
+    ))
