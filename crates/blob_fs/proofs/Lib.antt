@@ -29,4 +29,5 @@ pub mod Errors
 pub mod Performing
 pub mod Numbered
 pub mod Noting
+mod Reading
 mod Zeroing

@@ -26,6 +26,7 @@ use Rattle.blob_fs.specs.Noted.{HasSize, NotesTruncation}
 use Rattle.blob_fs.specs.Paths.{CreatesAt, FreesAt, IsBound, LinksAt, Lists, MakesDirectoryAt, OpensPath, RenamesPath, SyncsPath}
 use Rattle.blob_fs.specs.Performs.{Effect, IsBinding, Performs, RepliesFound, crash_reply, done_reply, found_reply, inode_reply, names_reply, opened_reply, size_reply, tree_reply}
 use Rattle.blob_fs.specs.Places.{FindsPlaces}
+use Rattle.blob_fs.specs.Reads.{ShowsWrite}
 use Rattle.blob_fs.specs.Writes.{RecordsWrite, failed_write_of, writes_zeros}
 
 -- the call and the reply that it is
@@ -139,10 +140,11 @@ pub reads : {R : Type 0} (r : Result ℕ FsError) (f : Descriptor) (offset len :
 reads (Ok x) f offset len fs fs' names told fixed found count = (((names, told), fixed), (found, count))
 reads (Err e) f offset len fs fs' names told fixed found count = (((names, told), fixed), tt)
 
-pub writes : {R : Type 0} (r : Result (Unit {0}) FsError) (f : Descriptor) (offset : ℕ) (bytes : List ℕ) (fs fs' : FileSystem R) → KeepsNames fs fs' → KeepsTold fs fs' → OnOk r (failed_write_of fs ≡ ByMode → writes_zeros fs f offset (length bytes) ≡ false → RecordsWrite f offset bytes fs fs') → KeepsSpared f (IsBeside offset (length bytes)) fs fs'
+pub writes : {R : Type 0} (r : Result (Unit {0}) FsError) (f : Descriptor) (offset : ℕ) (bytes : List ℕ) (fs fs' : FileSystem R) → KeepsNames fs fs' → KeepsTold fs fs' → OnOk r (failed_write_of fs ≡ ByMode → ShowsWrite f offset bytes fs fs')
+    → OnOk r (failed_write_of fs ≡ ByMode → writes_zeros fs f offset (length bytes) ≡ false → RecordsWrite f offset bytes fs fs') → KeepsSpared f (IsBeside offset (length bytes)) fs fs'
     → Effect (acts.Write f offset bytes) (done_reply r) fs fs'
-writes (Ok x) f offset bytes fs fs' names told recorded fixed = ((names, told), fixed, recorded)
-writes (Err e) f offset bytes fs fs' names told recorded fixed = ((names, told), fixed, tt)
+writes (Ok x) f offset bytes fs fs' names told shows recorded fixed = ((names, told), fixed, (shows, recorded))
+writes (Err e) f offset bytes fs fs' names told shows recorded fixed = ((names, told), fixed, tt)
 
 pub truncates : {R : Type 0} (r : Result (Unit {0}) FsError) (f : Descriptor) (n : ℕ) (fs fs' : FileSystem R) → KeepsNames fs fs' → MayTruncate f fs fs' → OnOk r (NotesTruncation f n fs fs') → OnOk r (HasSize fs' f n) → KeepsSpared f (λ at. at < n) fs fs'
     → Effect (acts.Truncate f n) (done_reply r) fs fs'

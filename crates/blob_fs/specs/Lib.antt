@@ -23,3 +23,4 @@ pub mod Acts
 pub mod Performs
 pub mod Writes
 pub mod Noted
+pub mod Reads

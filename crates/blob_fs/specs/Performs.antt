@@ -19,6 +19,7 @@ use Rattle.blob_fs.specs.Fixed.{FindsFixed, FixesAll, FixesFile, FixesFound, Kee
 use Rattle.blob_fs.specs.Noted.{HasSize, NotesTruncation}
 use Rattle.blob_fs.specs.Paths.{CreatesAt, FreesAt, IsBound, LinksAt, Lists, MakesDirectoryAt, OpensPath, RenamesPath, SyncsPath}
 use Rattle.blob_fs.specs.Places.{FindsPlaces}
+use Rattle.blob_fs.specs.Reads.{ShowsWrite}
 use Rattle.blob_fs.specs.Writes.{RecordsWrite, failed_write_of, writes_zeros}
 use Rattle.blob_journal.specs.Fixed.{IsBeside}
 use Rattle.blob_fs.specs.Acts as acts
@@ -148,7 +149,8 @@ Effect (acts.InodeOf f) reply fs fs' = (fs' ≡ fs) × IsInode reply (λ inode. 
 Effect (acts.Read f offset len) reply fs fs' = KeepsAll fs fs' × IsSize reply (λ n. IsSome (inode_opened fs f) × (n ≤ len)) (Unit {0})
 Effect (acts.Write f offset bytes) reply fs fs' =
     KeepsEdits fs fs' × KeepsSpared f (IsBeside offset (length bytes)) fs fs'
-    × IsDone reply (failed_write_of fs ≡ ByMode → writes_zeros fs f offset (length bytes) ≡ false → RecordsWrite f offset bytes fs fs') (Unit {0})
+    × IsDone reply ((failed_write_of fs ≡ ByMode → ShowsWrite f offset bytes fs fs')
+    × (failed_write_of fs ≡ ByMode → writes_zeros fs f offset (length bytes) ≡ false → RecordsWrite f offset bytes fs fs')) (Unit {0})
 Effect acts.SyncAll reply fs fs' =
     MaySettle fs fs' × KeepsFixed fs fs' × IsDone reply (syncs_of fs ≡ Honest → SyncsAll fs fs' × FixesAll fs fs') (Unit {0})
 Effect acts.Settle reply fs fs' = MaySettle fs fs' × KeepsFixed fs fs' × IsDone reply (SyncsAll fs fs' × FixesAll fs fs') (Unit {0})

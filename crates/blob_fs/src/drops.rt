@@ -1,10 +1,11 @@
 //! A sync that fails and drops what was unsynced: what reads return after it.
-ghost use Rattle.std.specs.Prelude.{◌≡◌};
+ghost use Rattle.std.specs.Prelude.{◌≡◌, ◌≤◌, ◌+◌, None, OnOk, drop, length, take};
 ghost use Rattle.blob_fs.specs.Files.{KeepsNames, KeepsOptions, KeepsTold, SameLinks, SameOpens, journaled_of};
 ghost use Rattle.blob_fs.specs.Fixed.{KeepsFixed, KeepsSeen};
 ghost use Rattle.blob_fs.specs.Named.{links_of};
 ghost use Rattle.blob_fs.specs.Noted.{ShowsSize};
 ghost use Rattle.blob_fs.specs.Open.{SameContent};
+ghost use Rattle.blob_fs.specs.Reads.{ReadsFrom};
 ghost use Rattle.blob_fs.specs.Tracked.{freed_of};
 ghost use Rattle.blob_journal.specs.Fixed.{KeepsOpen};
 ghost use Rattle.blob_journal.specs.Keeping.{KeepsTable, KeepsTold as keeps_told};
@@ -16,6 +17,16 @@ use blob_faulty::Config;
 use blob_journal::Journaled;
 use rand_core::Rng;
 use std::alloc::{AllocError, Global};
+
+/// Copies bytes from an offset on, as many as there are and as the buffer takes.
+fn copy_from(bytes: &[u8], offset: u64, buf: &mut [u8])
+    ensures { offset + length buf.old ≤ length bytes.now → buf.new ≡ take (length buf.old) (drop offset bytes.now) }
+{
+    let start = (offset as usize).min(bytes.len());
+    let end = start.saturating_add(buf.len()).min(bytes.len());
+    let part = &bytes[start..end];
+    buf[..part.len()].copy_from_slice(part);
+}
 
 impl File {
     /// Returns a copy of the bytes that reads return.
@@ -42,6 +53,7 @@ impl File {
         offset: u64,
         buf: &mut [u8],
     ) -> Result<(), Error>
+        ensures read { OnOk result (ReadsFrom store.old self.now offset (length buf.old) buf.new) }
         ensures names { KeepsTable store.old store.new }
         ensures told { keeps_told store.old store.new }
         ensures still { KeepsOpen store.old store.new }
@@ -50,16 +62,14 @@ impl File {
             return store.read_file(&self.blob, offset, buf);
         };
         store.read_file(&self.blob, 0, &mut [])?;
-        for i in 0..buf.len() {
-            let at = offset.saturating_add(i as u64) as usize;
-            buf[i] = shown.get(at).copied().unwrap_or(0);
-        }
+        copy_from(shown, offset, buf);
         Ok(())
     }
 
     /// Reserves capacity for what a call shows up to a position.
     pub(crate) fn reserve_shown(&mut self, end: u64) -> Result<(), AllocError>
         ensures content { SameContent self.old self.new }
+        ensures shown { self.old.shown ≡ None → self.new.shown ≡ None }
         ensures links { links_of self.new ≡ links_of self.old }
         ensures gone { freed_of self.new ≡ freed_of self.old }
     {
@@ -73,6 +83,7 @@ impl File {
     /// Shows a write that returned Ok. There is capacity for it.
     pub(crate) fn show_write(&mut self, offset: u64, bytes: &[u8])
         ensures content { SameContent self.old self.new }
+        ensures shown { self.old.shown ≡ None → self.new.shown ≡ None }
         ensures links { links_of self.new ≡ links_of self.old }
         ensures gone { freed_of self.new ≡ freed_of self.old }
     {

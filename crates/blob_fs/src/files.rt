@@ -1,11 +1,12 @@
 //! Open files: their bytes and sizes.
-ghost use Rattle.std.specs.Prelude.{◌≡◌, ◌≤◌, [], false, length, true, IfOk, IsSome, None, Some, OnOk};
+ghost use Rattle.std.specs.Prelude.{◌≡◌, ◌≤◌, ◌+◌, [], false, length, max, true, IfOk, IsSome, None, Some, OnOk};
 ghost use Rattle.blob_fs.specs.declared.switches.FailedWrite.TheVariants.{ByMode};
 ghost use Rattle.blob_fs.specs.Writes.{RecordsWrite, failed_write_of, leaves_zeros, profile_of, writes_zeros};
 ghost use Rattle.blob_fs.specs.Fixed.{KeepsFixed, KeepsFixedBut, KeepsSpared};
 ghost use Rattle.blob_fs.specs.Noted.{KeepsCuts, HasSize, IsEnd, size_in, size_read};
 ghost use Rattle.blob_fs.specs.Named.{links_of};
 ghost use Rattle.blob_fs.specs.Open.{SameContent};
+ghost use Rattle.blob_fs.specs.Reads.{AreZeros, Reads, ShowsWrite};
 ghost use Rattle.blob_fs.specs.Tracked.{freed_of};
 ghost use Rattle.blob_journal.specs.Fixed.{IsBeside};
 ghost use Rattle.blob_fs.specs.Files.{KeepsNames, KeepsOptions, KeepsTold, MayResize, SameFiles, SameLinks, SameOpens, fresh_inode, inode_opened, journaled_of};
@@ -44,6 +45,7 @@ impl File {
     /// Shows a write before this edit, if it returned Ok. Returns the size. There is capacity for it.
     fn end_write(&mut self, is_ok: bool, offset: u64, bytes: &[u8], before: u64, edit: u64) -> u64
         ensures content { SameContent self.old self.new }
+        ensures shown { self.old.shown ≡ None → self.new.shown ≡ None }
         ensures links { links_of self.new ≡ links_of self.old }
         ensures gone { freed_of self.new ≡ freed_of self.old }
     {
@@ -214,6 +216,7 @@ impl<R: Rng + Drop> FileSystem<R> {
     ///
     /// `Stale`, and `Injected` of the layer's read.
     pub fn read(&mut self, file: Descriptor, offset: u64, buf: &mut [u8]) -> Result<usize, FsError>
+        ensures read { IfOk result (λ n. Reads self.old file offset (length buf.old) n buf.new) }
         ensures names { KeepsNames self.old self.new }
         ensures told { KeepsTold self.old self.new }
         ensures fixed { KeepsFixed self.old self.new }
@@ -271,6 +274,8 @@ impl<R: Rng + Drop> FileSystem<R> {
     /// `Memory`.
     fn zeros_of(&self, inode: u64, offset: u64, end: u64) -> Result<(u64, Vec<u8>), FsError>
         ensures none { IfOk result (λ r. leaves_zeros (profile_of self.now) r.0 offset end ≡ false → length r.1.items ≡ 0) }
+        ensures zeros { IfOk result (λ r. AreZeros r.1.items) }
+        ensures within { IfOk result (λ r. r.0 + length r.1.items ≤ max r.0 (max offset end)) }
         ensures end { IfOk result (λ r. IsEnd self.now inode r.0) }
     {
         let Some(found) = self.files.get(&inode) else {
@@ -295,6 +300,7 @@ impl<R: Rng + Drop> FileSystem<R> {
     /// If the profile says so, a write that makes the file longer first writes zeros from its end on, of which a crash keeps what it
     /// keeps of writes (docs/FILES.md).
     pub fn write(&mut self, file: Descriptor, offset: u64, bytes: &[u8]) -> Result<(), FsError>
+        ensures shows { OnOk result (failed_write_of self.old ≡ ByMode → ShowsWrite file offset bytes.now self.old self.new) }
         ensures names { KeepsNames self.old self.new }
         ensures told { KeepsTold self.old self.new }
         ensures recorded { OnOk result (failed_write_of self.old ≡ ByMode → writes_zeros self.old file offset (length bytes.now) ≡ false

@@ -1,9 +1,11 @@
 //! Writes of a blob, by which bytes of a failed one are written.
-ghost use Rattle.std.specs.Prelude.{◌≡◌, ◌<◌, ◌≤◌, ◌-◌, IfOk, OnOk, Some, false, length};
+ghost use Rattle.std.specs.Prelude.{◌≡◌, ◌<◌, ◌≤◌, ◌⊎◌, ◌-◌, [], max, IfOk, OnOk, Some, false, length};
+ghost use Rattle.blob_model.specs.Bytes.{write_live};
 ghost use Rattle.blob_faulty.specs.Wrapper.{size_of};
 ghost use Rattle.blob_draws.specs.Faults.{retention};
 ghost use Rattle.blob_fs.specs.declared.switches.FailedWrite.TheVariants.{ByMode};
 ghost use Rattle.blob_fs.specs.Noted.{ResizesOpen};
+ghost use Rattle.blob_fs.specs.Reads.{AreZeros, Shows, write_some};
 ghost use Rattle.blob_fs.specs.Writes.{leaves_zeros};
 ghost use Rattle.blob_journal.specs.Fixed.{ChangesOpen, IsBeside};
 ghost use Rattle.blob_journal.specs.Keeping.{KeepsTable, KeepsTold};
@@ -35,7 +37,8 @@ pub(crate) const PAGE: u64 = 4096;
 /// Returns where the zeros end that a write from an offset up to an end first writes from the end of the file on. They are none if
 /// that isn't beyond it.
 pub(crate) fn zeros_end(profile: &Profile, size: u64, offset: u64, end: u64) -> u64
-    ensures { leaves_zeros profile.now size offset end ≡ false → result ≤ size }
+    ensures none { leaves_zeros profile.now size offset end ≡ false → result ≤ size }
+    ensures within { result ≤ max size (max offset end) }
 {
     if profile.zeros {
         return end;
@@ -50,7 +53,8 @@ pub(crate) fn zeros_end(profile: &Profile, size: u64, offset: u64, end: u64) -> 
 /// Returns as many zeros as there are bytes between two offsets, none if the second one isn't beyond the first. Fails only if memory
 /// runs out.
 pub(crate) fn zeros_between(alloc: Global, from: u64, to: u64) -> Result<Vec<u8>, AllocError>
-    ensures { IfOk result (λ zeros. length zeros.items ≡ to - from) }
+    ensures count { IfOk result (λ zeros. length zeros.items ≡ to - from) }
+    ensures zeros { IfOk result (λ zeros. AreZeros zeros.items) }
 {
     let mut zeros = Vec::new(alloc);
     zeros.resize(to.saturating_sub(from) as usize, 0)?;
@@ -68,6 +72,7 @@ fn put_zeros<R: Rng + Drop>(
     ensures told { KeepsTold store.old store.new }
     ensures unsettled { OnOk result (KeepsUnsettled store.old store.new) }
     ensures none { length zeros.now ≡ 0 → (store.new ≡ store.old) × (blob.new ≡ blob.old) }
+    ensures shows { OnOk result (Shows store.old blob.old (λ seen. write_some seen offset zeros.now) blob.new) }
     ensures still { ChangesOpen (IsBeside offset (length zeros.now)) store.old blob.old store.new blob.new }
 {
     if zeros.is_empty() {
@@ -90,6 +95,8 @@ pub(crate) fn write_grown<R: Rng + Drop>(
     ensures told { KeepsTold store.old store.new }
     ensures recorded { OnOk result (how ≡ ByMode → length zeros.entry.1.now ≡ 0
         → RecordsWrite bytes.entry.0 bytes.entry.1.now store.old blob.old store.new blob.new) }
+    ensures shows { OnOk result (how ≡ ByMode
+        → Shows store.old blob.old (λ seen. write_live (write_some seen zeros.entry.0 zeros.entry.1.now) bytes.entry.0 bytes.entry.1.now) blob.new) }
     ensures still { ChangesOpen (IsBeside bytes.entry.0 (length bytes.entry.1.now)) store.old blob.old store.new blob.new }
 {
     put_zeros(blob, store, zeros.0, zeros.1)?;
@@ -126,7 +133,7 @@ pub(crate) fn zeroing(faults: &Config) -> Config {
 
 /// Returns the zeros to write, or none of them.
 pub(crate) fn chosen(is_written: bool, zeros: &[u8]) -> &[u8]
-    ensures { length result.now ≤ length zeros.now }
+    ensures { (result.now ≡ zeros.now) ⊎ (result.now ≡ []) }
 {
     if is_written { zeros } else { &[] }
 }
@@ -143,6 +150,7 @@ pub(crate) fn write_blob<R: Rng + Drop>(
     ensures names { KeepsTable store.old store.new }
     ensures told { KeepsTold store.old store.new }
     ensures recorded { OnOk result (how ≡ ByMode → RecordsWrite offset bytes.now store.old blob.old store.new blob.new) }
+    ensures shows { OnOk result (how ≡ ByMode → Shows store.old blob.old (λ seen. write_live seen offset bytes.now) blob.new) }
     ensures still { ChangesOpen (IsBeside offset (length bytes.now)) store.old blob.old store.new blob.new }
 {
     match how {

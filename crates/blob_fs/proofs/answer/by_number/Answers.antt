@@ -56,7 +56,7 @@ returns-in-Read g c =
 pub returns-in-Write : goal.returns-in-Write
 returns-in-Write g c =
     performs _ _ _ _ c.args.fs.now c.write.new.self (ap number_act c.in-Write.is) c.done-in-Write.ensures c.write.ensures.options
-    (writes c.write.result c.in-Write.file c.in-Write.offset c.in-Write.bytes.now c.args.fs.now c.write.new.self c.write.ensures.names c.write.ensures.told c.write.ensures.recorded c.write.ensures.fixed)
+    (writes c.write.result c.in-Write.file c.in-Write.offset c.in-Write.bytes.now c.args.fs.now c.write.new.self c.write.ensures.names c.write.ensures.told c.write.ensures.shows c.write.ensures.recorded c.write.ensures.fixed)
 
 pub returns-in-Truncate : goal.returns-in-Truncate
 returns-in-Truncate g c =

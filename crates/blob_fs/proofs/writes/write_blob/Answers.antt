@@ -3,6 +3,8 @@ use Rattle.std.proofs.lemmas.Bool.{true≢false}
 use Rattle.blob_fs.specs.declared.switches.FailedWrite.{FailedWrite}
 use Rattle.blob_fs.specs.declared.switches.FailedWrite.TheVariants.{ByMode, Prefix}
 use Rattle.blob_fs.proofs.Calls.{always_ok, on_ok}
+use Rattle.blob_fs.proofs.Cutting.{on_map}
+use Rattle.blob_fs.proofs.Reading.{shows_written}
 use Rattle.blob_fs.proofs.writes.write_blob.Goals as goal
 
 abbrev is_by_mode : FailedWrite → Bool
@@ -17,3 +19,7 @@ returns-in-ByMode-clause-recorded g c = on_ok c.write_file.result c.write_file.e
 
 pub returns-in-Prefix-clause-recorded : goal.returns-in-Prefix-clause-recorded
 returns-in-Prefix-clause-recorded g c = always_ok c.write_by_prefix.result (λ by_mode. absurd (one_mode c.args.how c.in-Prefix.is by_mode))
+
+pub returns-in-ByMode-clause-shows : goal.returns-in-ByMode-clause-shows
+returns-in-ByMode-clause-shows g c = on_map c.write_file.result c.write_file.ensures.written (λ written by_mode.
+    shows_written c.args.offset c.args.bytes.now c.args.store.now c.write_file.new.self c.args.blob.now c.write_file.new.file written)

@@ -6,6 +6,7 @@ use Rattle.blob_journal.specs.Writes.{RecordsWrite}
 use Rattle.blob_fs.proofs.Cutting.{on_map}
 use Rattle.blob_fs.proofs.Fixed.{changes_twice}
 use Rattle.blob_fs.proofs.Syncing.{seen_below}
+use Rattle.blob_fs.specs.Reads.{write_some}
 use Rattle.blob_fs.proofs.writes.write_grown.Goals as goal
 
 pub returns-clause-recorded : goal.returns-clause-recorded
@@ -38,3 +39,8 @@ returns-in_err-put_zeros-clause-still g c =
       fixed = λ at byte spared h. put.fixed at byte (inl (omega (arith, c.requires, seen_below c.args.blob.now at byte h.seen))) h;
       others = put.others;
     }
+
+pub returns-clause-shows : goal.returns-clause-shows
+returns-clause-shows g c = on_map c.write_blob.result c.write_blob.ensures.shows (λ shows by_mode inode seen open_blob sees.
+    shows by_mode inode (write_some seen c.args.zeros.0 c.args.zeros.1.now) (c.put_zeros.ensures.still.still inode open_blob)
+    (c.in_ok-put_zeros.ensures.shows inode seen open_blob sees))

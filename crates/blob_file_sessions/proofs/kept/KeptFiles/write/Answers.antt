@@ -15,7 +15,7 @@ returns-clause-writes c =
       makes = record {
         reply = c.done.result;
         does = performs _ _ _ _ fs fs' (ap (λ (f : Descriptor). Write f c.args.offset c.args.bytes.now) (sym (is_descriptor c.numbered.result c.args.descriptor c.numbered.ensures))) c.done.ensures w.options
-            (writes c.write-written.result c.numbered.result c.args.offset c.args.bytes.now fs fs' w.names w.told w.recorded w.fixed);
+            (writes c.write-written.result c.numbered.result c.args.offset c.args.bytes.now fs fs' w.names w.told w.shows w.recorded w.fixed);
         last = refl;
         is = c.last.ensures;
       };

@@ -19,7 +19,14 @@ use Rattle.blob_fs.specs.Open.{KeepsCutsOf}
 use Rattle.blob_fs.proofs.Fixed.{changes_again, contents_same, contents_through, cuts_from, cuts_of, cuts_same, cuts_set, fixed_after, fixed_twice, keeps_spared, opened_changed, opened_none, opened_through, sets_through, still_self, synced_kept}
 use Rattle.blob_fs.proofs.Named.{links_set, named_after, named_none, named_through, same_at_most}
 use Rattle.blob_fs.proofs.Tracked.{freed_set, tracked_after, tracked_none, tracked_through}
-use Rattle.std.proofs.Common.{◌≡◌, ◌+◌, List, Option, ap₂, false, true}
+use Rattle.std.proofs.Common.{◌≡◌, ◌+◌, List, Option, ap₂, false, inl, inr, max, true, ⊎_elim}
+use Rattle.std.proofs.lemmas.Bool.{cond-true}
+use Rattle.std.specs.Ordering.{is_eq}
+use Rattle.blob_model.specs.Bytes.{write_live}
+use Rattle.blob_journal.specs.Blobs.{bytes_of}
+use Rattle.blob_journal.specs.Fixed.{IsOpen}
+use Rattle.blob_fs.proofs.Reading.{read_blob, shows_grown}
+use Rattle.blob_fs.proofs.Recovering.{key_self}
 use Rattle.blob_model.specs.Files.{all_logged}
 use Rattle.blob_model.specs.Log.{Entry}
 use Rattle.blob_model.specs.Rates.{Rate}
@@ -142,7 +149,8 @@ returns-in-Ok-clause-recorded g c = λ by_mode no_zeros.
     let entries : journal_entries (store_of one.store) offset bytes ≡ entries_of_write fs offset bytes =
     ap₂ (λ (k : Option (PartialWriteMode × Rate)) (n : ℕ). loose k n offset bytes) kept (drawn.crashes.next_write ∙ crashes.next_write) in
     was_ok c.write_grown-written.result _ c.in-Ok.is c.write_grown-written.ensures.recorded (λ recorded.
-    let empty : length c.chosen-zeros.result.now ≡ 0 = omega (arith, c.chosen-zeros.ensures, ap (λ (l : List ℕ). length l) c.deref.ensures.value, none) in
+    let empty : length c.chosen-zeros.result.now ≡ 0 =
+    ⊎_elim (λ same. ap (λ (l : List ℕ). length l) (same ∙ c.deref.ensures.value) ∙ none) (λ e. ap (λ (l : List ℕ). length l) e) c.chosen-zeros.ensures in
     let written = recorded how empty in
     record {
       inode = inode;
@@ -261,3 +269,43 @@ write_grown-written-requires g c =
     let end = c.in_ok-from.ensures.end found (ap (λ (m : BTreeMap ℕ File). get nat_cmp m c.in_ok-inode.inode) (sym c.draw_growth.ensures.drawn.files.files) ∙ sym there) in
     let same : size_of c.reserve_shown.new.self.blob.blob ≡ size_of found.blob.blob = ap (λ (b : FileBlob). size_of b.blob) c.reserve_shown.ensures.content.blob in
     omega (arith, same, end)
+
+pub returns-in-Ok-clause-shows : goal.returns-in-Ok-clause-shows
+returns-in-Ok-clause-shows g c = λ by_mode.
+    let begun = c.begin_call.new.self in
+    let one = c.draw_growth.new.self in
+    let same = c.begin_call.ensures.files in
+    let drawn = c.draw_growth.ensures.drawn in
+    let inode = c.in_ok-inode.inode in
+    let found : File = c.as_mut-found.result.now in
+    let there = ap Some c.as_mut-found.ensures.value ∙ c.in-Some.ensures.value in
+    let small : inode < 2 ^ 64 = omega arith in
+    let new : File = c.end_write-now.new.self in
+    let blob = c.reserve_shown.new.self.blob in
+    let offset = c.args.offset in
+    let bytes = c.args.bytes.now in
+    let from = c.in_ok-from.from in
+    let size : size_of found.blob.blob ≡ from = c.in_ok-from.ensures.end found (ap (λ (m : BTreeMap ℕ File). get nat_cmp m inode) (sym drawn.files.files) ∙ sym there) in
+    let how = c.in_ok-how.ensures.how (ap (λ (o : Options). o.failed_write) same.options ∙ by_mode) in
+    let less : from + length c.in_ok-from.zeros.items ≤ max from (offset + length bytes) = omega (arith, c.in_ok-from.ensures.within, c.saturating_add-end.ensures) in
+    let sets = sets_through one.files (c.get_mut.follows.lender new) inode found new there (c.get_mut.follows.holds new) in
+    was_ok c.write_grown-written.result _ c.in-Ok.is c.write_grown-written.ensures.shows (λ shows. record {
+      inode = inode;
+      was = found;
+      is = record {
+        opened = ap (λ (m : BTreeMap ℕ ℕ). get nat_cmp m (descriptor_number c.args.file)) (sym same.opens) ∙ c.in_ok-inode.ensures;
+        there = ap (λ (m : BTreeMap ℕ File). get nat_cmp m inode) (sym (drawn.files.files ∙ same.files)) ∙ sym there;
+      };
+      now = new;
+      there = ap (λ (m : BTreeMap ℕ File). get nat_cmp m inode) c.count.ensures.files.files ∙ sets inode ∙ cond-true (is_eq (nat_cmp inode inode)) (Some new) _ (key_self inode);
+      seen = λ none.
+          read_blob new (c.end_write-now.ensures.shown (c.reserve_shown.ensures.shown none))
+          ∙ ap (λ (b : FileBlob). bytes_of b) c.end_write-now.ensures.content.blob
+          ∙ ∥∥₁_elim one.opened (Coded-set (coded_list coded_ℕ) _ _) (λ each.
+          shows_grown one.store inode blob c.write_grown-written.new.blob from offset c.in_ok-from.zeros.items c.chosen-zeros.result.now bytes
+          (subst (λ (b : FileBlob). IsOpen one.store inode b) (sym c.reserve_shown.ensures.content.blob) (each inode found small (sym there)))
+          (ap (λ (b : FileBlob). size_of b.blob) c.reserve_shown.ensures.content.blob ∙ size) c.in_ok-from.ensures.zeros less
+          (⊎_elim (λ e. inl (e ∙ c.deref.ensures.value)) inr c.chosen-zeros.ensures) (shows how))
+          ∙ ap (λ (b : FileBlob). write_live (bytes_of b) offset bytes) c.reserve_shown.ensures.content.blob
+          ∙ ap (λ (l : List ℕ). write_live l offset bytes) (sym (read_blob found none));
+    })
