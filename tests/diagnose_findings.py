@@ -13,9 +13,10 @@ with open(os.path.join(DIAGNOSED, "check.py"), encoding="utf-8") as source:
     CHECK = source.read()
 
 
-def diagnosed(record, check=None):
+def diagnosed(record, check=None, *options, profile="posix"):
     with open(os.path.join(DIAGNOSED, f"{record}.script"), encoding="utf-8") as file:
-        return Diagnosed(file.read(), CHECK, "--whole", "--limit", "40", python=[check or record])
+        script = file.read().replace("\nprofile posix\n", f"\nprofile {profile}\n")
+    return Diagnosed(script, CHECK, "--whole", "--limit", "40", "--jobs", "2", *options, python=[check or record])
 
 
 def lacks(found, *syncs):
@@ -68,6 +69,33 @@ def test_etcd_new():
 def test_a_start_of_etcd():
     """Its log is durable before the first entry, which names the members. A server that is killed there leaves it too."""
     is_no_loss(diagnosed("etcd_new", "etcd_start"), "rename /data/member/wal.tmp -> /data/member/wal")
+
+
+def test_git():
+    """At `core.fsync=all` it syncs files before it renames or links them, and never a folder. On ext4 the sync of the next new file makes the
+    names of the objects durable, and the branch is renamed last. No earlier crash can fail, since all of the first commit is durable."""
+    git, branch = "/r/.git", "rename /r/.git/refs/heads/main.lock -> /r/.git/refs/heads/main"
+    last = ["--from", "186"]  # the sync before that rename
+    lacks(diagnosed("git_fsync", None, *last, profile="ext4"), f"fsyncdir {git}/refs/heads")
+    found = diagnosed("git_fsync", None, *last)
+    found.is_cause(0, "order", [f"mkdir {git}/objects/{folder}" for folder in ("61", "36", "8c")], branch, f"fsyncdir {git}/objects")
+    for number, folder in enumerate(("61", "36", "8c"), 1):
+        cause = found.causes[number]
+        assert cause["class"] == "order" and [loss["call"].split()[0] for loss in cause["lost"]] == ["link"], cause
+        assert cause["syncs"] == [{"sync": f"fsyncdir {git}/objects/{folder}", "before": cause["at"]["line"]}], cause
+    head = "8cc7989a4328bdb5866fe8d6add289b601036926"
+    found.is_cause(4, "acknowledged before durable", [branch], f"acknowledged {head}", f"fsyncdir {git}/refs/heads")
+    assert len(found.causes) == 5 and found.counts["unfixed"] == 0, found.causes
+
+
+def test_leveldb():
+    """At an open it removes the old log and manifest, and the folder isn't synced after the rename of CURRENT, nor after a log was made."""
+    current, renamed = diagnosed("leveldb", "leveldb_current"), "rename /store/000004.dbtmp -> /store/CURRENT"
+    current.only("order", [renamed], "unlink /store/MANIFEST-000002", "fsyncdir /store")
+    keys = diagnosed("leveldb", "leveldb_keys")
+    keys.is_cause(0, "order", [renamed], "unlink /store/000003.log", "fsyncdir /store")
+    keys.is_cause(1, "acknowledged before durable", ["create /store/000007.log"], "acknowledged last", "fsyncdir /store")
+    assert len(keys.causes) == 2 and keys.counts["unfixed"] == 0 and len(keys.counts["syncs"]) == 2, keys.causes
 
 
 if __name__ == "__main__":

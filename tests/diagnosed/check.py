@@ -2,9 +2,11 @@
 takes. Exits with 0 or 1."""
 
 import glob
+import hashlib
 import os
 import re
 import sys
+import zlib
 
 STATE = os.environ["STATE"]
 
@@ -70,6 +72,81 @@ def initdb(acknowledged):
 def postgres_start(_):
     """The lock file isn't empty."""
     return not os.path.exists(os.path.join(STATE, "cluster/postmaster.pid")) or content("cluster", "postmaster.pid") != b""
+
+
+def has_objects(name):
+    """Whether an object of git, a loose file, is there and whole, and so are all that it names."""
+    packed = content("r", ".git", "objects", name[:2], name[2:])
+    if not packed:
+        return False
+    found = zlib.decompress(packed)
+    head, body = found.split(b"\0", 1)
+    named = []
+    if head.startswith(b"commit "):
+        named = re.findall(r"^(?:tree|parent) (\w+)$", body.split(b"\n\n")[0].decode(), re.M)
+    elif head.startswith(b"tree "):
+        named = [each.hex() for each in re.findall(rb"\d+ [^\0]+\0(.{20})", body, re.S)]
+    return hashlib.sha1(found).hexdigest() == name and all(map(has_objects, named))
+
+
+def git_fsync(acknowledged):
+    """The commit that the branch names is there with all its objects, and is the acknowledged one."""
+    commit = content("r", ".git", "refs", "heads", "main").decode().strip()
+    return has_objects(commit) and (not acknowledged or commit == acknowledged[-1].decode())
+
+
+def number_at(record, at):
+    """A number in groups of seven bits, the lowest first, and where it ends."""
+    number = shift = 0
+    while record[at] & 128:
+        number, shift, at = number | (record[at] & 127) << shift, shift + 7, at + 1
+    return number | record[at] << shift, at + 1
+
+
+def text_at(record, at):
+    """A text after its length, and where it ends."""
+    length, at = number_at(record, at)
+    return record[at : at + length], at + length
+
+
+def leveldb_files(manifest):
+    """The first log that a manifest names, and its tables. Each edit is a record, with a checksum, its length and its kind before it."""
+    log, tables = 0, []
+    while len(manifest) > 7 and any(manifest[:7]):
+        end = 7 + int.from_bytes(manifest[4:6], "little")
+        record, manifest, at = manifest[7:end], manifest[end:], 0
+        while at < len(record):
+            tag, at = number_at(record, at)
+            if tag == 1:
+                _, at = text_at(record, at)
+            elif tag in (2, 3, 4, 9):
+                number, at = number_at(record, at)
+                log = number if tag == 2 else log
+            else:
+                # A table: its level, number and size, and its first and last key.
+                assert tag == 7, tag
+                _, at = number_at(record, at)
+                number, at = number_at(record, at)
+                tables.append(number)
+                _, at = number_at(record, at)
+                for _ in range(2):
+                    _, at = text_at(record, at)
+    return log, tables
+
+
+def leveldb_current(_):
+    """If there is a CURRENT, the manifest that it names exists."""
+    name = content("store", "CURRENT").decode().strip()
+    return not name or os.path.exists(os.path.join(STATE, "store", name))
+
+
+def leveldb_keys(acknowledged):
+    """Each key is in a table or a log of the manifest."""
+    log, tables = leveldb_files(content("store", content("store", "CURRENT").decode().strip()))
+    logs = sorted(int(name[:6]) for name in os.listdir(os.path.join(STATE, "store")) if name.endswith(".log"))
+    names = [f"{number:06}.ldb" for number in tables] + [f"{number:06}.log" for number in logs if number >= log]
+    found = b"".join(content("store", name) for name in names)
+    return all(bytes([len(key)]) + key in found for key in acknowledged)
 
 
 if __name__ == "__main__":
