@@ -196,6 +196,17 @@ def test_every_state():
     check("bad words", subprocess.run(["tools/check_program", "--limit", "0"], cwd=TOP, stderr=subprocess.DEVNULL).returncode == 2)
 
 
+def test_a_check_that_waits():
+    """A check that waits for ever on a state, as for a lock that a crash left, fails after the time limit. No process is left."""
+    work, waits = "echo 1 >$MOUNT/lock; sync $MOUNT/lock; rm $MOUNT/lock; sync $MOUNT; echo 1 >>$ACKNOWLEDGED", f"sleep 1000.{os.getpid()}"
+    command = ["tools/check_program", "--out", f"{FOLDER.name}/waits", "--timeout", "4", "--work", work]
+    ran = subprocess.run([*command, "--check", f"test ! -e $MOUNT/lock || {waits}"], cwd=TOP, stdin=subprocess.DEVNULL, stdout=subprocess.PIPE,
+                         stderr=subprocess.PIPE, text=True)
+    check("it fails", ran.returncode == 1 and "the check exits with 1: " in ran.stdout and "fails without any loss\n" in ran.stdout, ran)
+    left = subprocess.run(["ps", "-eo", "args"], stdout=subprocess.PIPE, text=True).stdout
+    check("nothing is left", waits not in left.splitlines(), left)
+
+
 def test_never_due():
     """A fault whose call no seed makes is named at the end, by its number also after an earlier one was due."""
     faults = ["fail /f1 sync 1 EIO", "fail /no write 1 EIO", "fail /f2 open 1 off"]
@@ -222,5 +233,5 @@ def test_folder():
 if __name__ == "__main__":
     os.environ["BLOBCRASH_TOLD"] = "1"
     all_tests = [test_without_a_crash, test_untested, test_points, test_halves, test_record, test_words, test_calls, test_swarm, test_profiles,
-                 test_every_state, test_never_due, test_folder]
+                 test_every_state, test_a_check_that_waits, test_never_due, test_folder]
     run_tests([test for test in all_tests if not sys.argv[1:] or test.__name__ in sys.argv[1:]])

@@ -12,7 +12,8 @@ run lacks, and writes page.html in --out, a page for a browser.
   --prepare, --from, --start, --work, --check, --timeout, --profile, --tear, --keep, --size, --allow-other   as for tools/crash_run
 
 A check finds the state in the plain folder $MOUNT, which it may change, and in $ACKNOWLEDGED what was acknowledged before the crash. With
---start the program is started there before each check, and killed after it.
+--start the program is started there before each check, and killed after it. With --start or --timeout a check of a state that takes longer
+fails: a program may wait for a lock that the crash left.
 Exit statuses: 0 if every check succeeds; 1 if one fails; 2 for bad options, or if a command fails without a crash; 3 without FUSE; 130 after
 Ctrl-C.
 """
@@ -78,9 +79,10 @@ def record(options):
 
 def check_of(options):
     """Returns the words of the check of a state."""
-    if not options.start:
+    if not options.start and options.timeout is None:
         return ["sh", "-c", options.check]
-    return [sys.executable, os.path.join(TOP, "adapters", "mount", "state_check.py"), options.start, options.check, options.timeout or "60"]
+    program = os.path.join(TOP, "adapters", "mount", "state_check.py")
+    return [sys.executable, program, options.start or ":", options.check, options.timeout or "60"]
 
 
 def search(options, tool, folder, *words):
