@@ -75,7 +75,7 @@ def postgres_start(_):
 
 
 def has_objects(name):
-    """Whether an object of git, a loose file, is there and whole, and so are all that it names."""
+    """Whether the loose file of an object of git exists and is whole, and so are those of all objects that it names."""
     packed = content("r", ".git", "objects", name[:2], name[2:])
     if not packed:
         return False
@@ -90,13 +90,13 @@ def has_objects(name):
 
 
 def git_fsync(acknowledged):
-    """The commit that the branch names is there with all its objects, and is the acknowledged one."""
+    """The commit that the branch names exists with all its objects, and is the acknowledged one."""
     commit = content("r", ".git", "refs", "heads", "main").decode().strip()
     return has_objects(commit) and (not acknowledged or commit == acknowledged[-1].decode())
 
 
 def number_at(record, at):
-    """A number in groups of seven bits, the lowest first, and where it ends."""
+    """A number in groups of seven bits, the lowest first, and the offset after it."""
     number = shift = 0
     while record[at] & 128:
         number, shift, at = number | (record[at] & 127) << shift, shift + 7, at + 1
@@ -104,7 +104,7 @@ def number_at(record, at):
 
 
 def text_at(record, at):
-    """A text after its length, and where it ends."""
+    """A text after its length, and the offset after it."""
     length, at = number_at(record, at)
     return record[at : at + length], at + length
 
