@@ -47,6 +47,15 @@ def test_redis_new():
     lacks(diagnosed("redis_new"), "fsyncdir /")
 
 
+def test_redis_zeros():
+    """On ext4 a crash may keep the size of an append and lose its bytes, so that the log ends with zeros. On XFS it doesn't."""
+    found, log = diagnosed("redis_new", "redis_zeros", profile="ext4"), "/appendonlydir/appendonly.aof.1.incr.aof"
+    for number, written in enumerate(("0..54", "54..85")):
+        found.is_cause(number, "torn", [f"write {written} of {log}"], f"write {written} of {log}")
+    assert len(found.causes) == found.counts["unfixed"] == 2, found.causes
+    assert diagnosed("redis_new", "redis_zeros", profile="xfs").causes == []
+
+
 def test_redis_truncation():
     """It truncates a torn log, and a manifest with the next log is durable before that is synced."""
     found = diagnosed("redis_truncation")

@@ -40,6 +40,11 @@ def redis_new(acknowledged):
     return all(value in content("appendonlydir", "appendonly.aof.1.incr.aof") for value in acknowledged)
 
 
+def redis_zeros(_):
+    """The log has no zeros, at which Redis doesn't start."""
+    return b"\0" not in content("appendonlydir", "appendonly.aof.1.incr.aof")
+
+
 def redis_truncation(acknowledged):
     """The files of the manifest have the key, and each log is whole but the last one, which Redis truncates."""
     names = re.findall(r"file (\S+) seq \d+ type [bi]", content("appendonlydir", "appendonly.aof.manifest").decode())
