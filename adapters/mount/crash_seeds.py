@@ -8,8 +8,6 @@ import os
 import shlex
 import subprocess
 import sys
-import threading
-from concurrent.futures import ThreadPoolExecutor
 
 import crash_options
 import interrupts
@@ -30,7 +28,7 @@ def run_one(options):
     """Runs one seed in this process, and prints its result."""
     ctypes.CDLL(None).prctl(SET_CHILD_SUBREAPER, 1, 0, 0, 0)  # the parent of all orphans that come from it
     try:
-        built = program()
+        built = options.built or program()
         result = (judge if options.one == "judge" else without_a_crash)(options, built)
     except (Broken, Failed) as error:
         result = {"error": str(error)}
@@ -55,40 +53,11 @@ def program():
     return built.strip()
 
 
-class Workers(ThreadPoolExecutor):
-    """The processes of this machine, a seed each."""
-
-    def __init__(self, count):
-        super().__init__(count)
-        self._lock, self._running, self._is_ending = threading.Lock(), set(), False
-
-    def run(self, command, **options):
-        """As subprocess.run."""
-        with self._lock:
-            if self._is_ending:
-                raise Broken("interrupted")
-            with interrupts.held():  # a Python that starts would print a traceback
-                process = subprocess.Popen(command, **options)
-            self._running.add(process)
-        try:
-            out = process.communicate()[0]
-            return subprocess.CompletedProcess(command, process.returncode, out)
-        finally:
-            with self._lock:
-                self._running.remove(process)
-
-    def end(self):
-        """Ends all of them, which unmount and remove what they have made."""
-        with self._lock:
-            self._is_ending = True
-            for process in self._running:
-                process.terminate()
-
-
 def start(executor, words, one):
     """Gives one seed to a worker."""
-    command = [sys.executable, TOOL, "--one", one, *words]
-    call = executor.run if isinstance(executor, Workers) else subprocess.run
+    built = getattr(executor, "built", None)  # a worker of a cluster builds on its machine
+    command = [sys.executable, "-S", TOOL, "--one", one, *(["--built", built] if built else []), *words]
+    call = executor.run if built else subprocess.run
     return executor.submit(call, command, cwd=os.getcwd(), stdin=subprocess.DEVNULL, stdout=subprocess.PIPE, text=True)
 
 
@@ -262,12 +231,16 @@ def main(words, executor=None):
     interrupts.install()
     if options.one:
         return run_one(options)
-    own = Workers(options.jobs) if executor is None else None
-    at_once = options.jobs if own else 2 * (getattr(executor, "_max_workers", None) or 64)
+    own = None
+    at_once = options.jobs if executor is None else 2 * (getattr(executor, "_max_workers", None) or 64)
     progress, points, status = progress_line(), None, 0
     totals = Totals(options, words, progress)
     try:
-        program()
+        built = program()
+        if executor is None:
+            from crash_workers import Workers
+
+            own = Workers(options.jobs, built)
         if options.record_only:
             with interrupts.interruptible():
                 return print_record(result_of(start(own or executor, of_seed(words, options.first, []), "record")))
