@@ -110,7 +110,7 @@ class Model(Syncs):
 
     def set(self, tokens):
         if tokens[:1] == ["words"]:
-            self.words = [int(word) for word in tokens[1:]]
+            self.words = [2**64 - 1 if word == "max" else int(word) for word in tokens[1:]]
         elif tokens[:1] == ["profile"]:
             self.profile = PROFILES[tokens[1]]
         elif tokens[:1] == ["edits"]:

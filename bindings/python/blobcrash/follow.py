@@ -18,6 +18,9 @@ from .power import PowerLoss, powered
 from .store import Store
 from .traversal import Traversal
 
+# The tokens of most words.
+_WORDS = {0: "0", MAX: "max"}
+
 
 class NotDeterministic(RuntimeError):
     """The body of an exploration made other calls, or other choices, than before on the same path."""
@@ -192,14 +195,12 @@ class OnPath(Bounded):
         self._run, self._bounds = run, run.bounds
         return lambda preamble: _Followed(powered(way(preamble)), run, self._of_files)
 
-    @property
-    def script(self) -> List[str]:
-        """The lines of all calls, and notes. The words are those of the draws so far."""
-        lines = super().script
-        if self._run.seed is None and hasattr(self, "_layer"):
-            drawn = " ".join("max" if word == MAX else str(word) for word in self._run.draws())
-            lines[:1] = [f"words {drawn}"] if drawn else []
-        return lines
+    def _words_line(self) -> List[str]:
+        """The words that the run is given, and once it has begun those of its draws so far."""
+        if self._run.seed is not None:
+            return []
+        words = self._run.draws() if hasattr(self, "_layer") else self._run.words
+        return ["words " + " ".join([_WORDS.get(word) or str(word) for word in words])] if words else []
 
     def choose(self, branches: int) -> int:
         """Returns a number below `branches`. Every one is tried, together with the outcomes of the draws."""
@@ -222,8 +223,8 @@ class ExploredStore(OnPath, Store):
         self, run: Run, settings: Iterable[str], images: Iterable[Tuple[str, bytes, bytes]], by: Any = None, allow_stale: bool = False
     ) -> None:
         self._images = images
-        way, words = self._follow_run(run, by or Library), run.words if run.seed is None else ()
-        super().__init__(run.seed, words=words, settings=settings, images=images, by=way, allow_stale=allow_stale)
+        way = self._follow_run(run, by or Library)
+        super().__init__(run.seed, settings=settings, images=images, by=way, allow_stale=allow_stale)
 
     def _expect(self, value: Any) -> None:
         # With a seed what follows depends on how many words were drawn.
@@ -239,5 +240,5 @@ class ExploredFiles(OnPath, Files):
     """The files of one run."""
 
     def __init__(self, run: Run, settings: Iterable[str], profile: Any, by: Any = None) -> None:
-        way, words = self._follow_run(run, files_way(by)), run.words if run.seed is None else ()
-        super().__init__(run.seed, profile=profile, words=words, settings=torn_unless_set(settings), by=way)
+        way = self._follow_run(run, files_way(by))
+        super().__init__(run.seed, profile=profile, settings=torn_unless_set(settings), by=way)

@@ -182,6 +182,7 @@ def loaded() -> ctypes.CDLL:
     return _functions
 
 
+@lru_cache(maxsize=None)
 def function(name: str) -> Any:
     """Returns a function, with the types of its result and its arguments. Raises `LibraryMissing` if an earlier library lacks it."""
     try:

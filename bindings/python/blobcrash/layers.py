@@ -44,6 +44,8 @@ _ASKED = Struct("@I4xQQQ")
 _ROOM = 4096
 # The least status of a call that was made and refused.
 _FIRST_REFUSAL = 16
+# Short lengths as arguments of an untyped function.
+_LENGTHS = [ctypes.c_size_t.from_param(length) for length in range(256)]
 # An untyped function takes numbers of this many bits as they are.
 INT_BITS = 31
 # `ctypes` takes a greater number modulo 2^64, without an error.
@@ -214,6 +216,7 @@ class InProcess(InLibrary):
     def __init__(self, preamble: bytes = b"") -> None:
         preamble = data_of(preamble, "a preamble")
         self._apply, self._kinds = untyped(f"{self._functions}apply", keeps_lock=False), kinds(self._table)
+        self._words_left = untyped(f"{self._functions}words_left")
         self._session, self._asked = Session(), ctypes.create_string_buffer(_ASKED.size)
         self.at, self._asked_at = ctypes.byref(self._session), ctypes.byref(self._asked)
         self.room: Any = ctypes.create_string_buffer(_ROOM)
@@ -225,8 +228,10 @@ class InProcess(InLibrary):
 
     def words_left(self) -> int:
         """Returns how many words the generator has up to the last one that isn't zero. `ValueError` if a seed gives more."""
-        ran = self._call("words_left")
-        self._check(ran.status)
+        ran = self._words_left(self.at)
+        status = ran.status
+        if status:
+            self._check(status)
         return int(ran.len)
 
     def push_words(self, words: List[int]) -> None:
@@ -253,7 +258,9 @@ class InProcess(InLibrary):
         if (len(one) | len(other)) >> INT_BITS:
             raise MemoryError
         # The last one isn't passed in a register.
-        return self._apply(self.at, self._asked_at, one, len(one), other, ctypes.c_size_t(len(other)))
+        length = len(other)
+        last_one = _LENGTHS[length] if length < len(_LENGTHS) else ctypes.c_size_t(length)
+        return self._apply(self.at, self._asked_at, one, len(one), other, last_one)
 
     def _check(self, status: int) -> None:
         if status == POWER_LOSS:
@@ -288,16 +295,16 @@ class Library(InProcess):
 
     def apply(self, asked: Call) -> Any:
         """Makes a typed call, and returns its value, or the `Reply` of a refusal. That of a `Line` is the words of its reply."""
-        word = asked.word
         if type(asked) is Line:
             return made(asked, self.call(asked.text.encode()).decode())
+        word, number, first, last, partition, name = asked
         if word == "read":
-            return self.read(asked.number, asked.first or 0, asked.last or 0)
+            return self.read(number, first or 0, last or 0)
         if word in ("write", "writes"):
-            return self.write(asked.number, asked.first or 0, asked.name or b"", word == "writes")
-        kind = self._kinds[word] if asked.name is not None or word != "remove" else REMOVE_PARTITION
-        partition = asked.partition.encode("utf-8", "replace")
-        reply = self._applied(kind, asked.number, asked.first or 0, asked.last or 0, partition, asked.name or b"")
+            return self.write(number, first or 0, name or b"", word == "writes")
+        kind = self._kinds[word] if name is not None or word != "remove" else REMOVE_PARTITION
+        text = partition.encode("utf-8", "replace") if partition else b""
+        reply = self._applied(kind, number, first or 0, last or 0, text, name or b"")
         status = reply.status
         return self.refusal(status) if status else self._value(word, reply)
 

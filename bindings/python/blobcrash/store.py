@@ -55,7 +55,8 @@ class Store(Session):
         lines = [image_line(*image) for image in images]
         if seed is not None:
             lines.append(f"seed {number(seed, 'a seed')}")
-        self._has_draws = bool(self._words or self._ahead) or seed is not None
+        words_line = self._words_line()
+        self._has_draws = bool(words_line) or seed is not None
         self._unsynced = Unsynced()
         for setting in settings:
             lines.append(self._setting_line(setting))
@@ -66,7 +67,7 @@ class Store(Session):
         way = by or (Library if pushed else default_way())
         if pushed and not hasattr(way, "push_words"):
             raise ValueError("words can be pushed with `by=Library` alone")
-        self._layer = way("\n".join([*self._words_line(), *lines, ""]).encode())
+        self._layer = way("\n".join([*words_line, *lines, ""]).encode())
         # The library, if reads and writes are made by it without a layer between.
         self._direct: Any = self._layer if type(self._layer) is Library and not self._is_bounded else None
 
