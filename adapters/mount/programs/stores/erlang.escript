@@ -6,7 +6,7 @@ main(Words) ->
 
 run([Kind, Path, Command | Rest]) ->
     logger:set_primary_config(level, critical),
-    open(Kind, Path),
+    open(Kind, Path, Command),
     case Command of
         "make" -> ok;
         "work" -> work(Kind, lists:map(fun list_to_integer/1, lists:sublist(Rest, 2)), lists:last(Rest));
@@ -21,14 +21,15 @@ work(Kind, [Operations, Keys], Acknowledged) ->
          ok = file:write_file(Acknowledged, integer_to_list(N) ++ "\n", [append])
      end || N <- lists:seq(1, Operations)].
 
-open("erlang-dets", Path) -> {ok, d} = dets:open_file(d, [{file, Path}, {auto_save, infinity}]);
-open("erlang-disklog", Path) -> opened(disk_log:open([{name, d}, {file, Path}]));
-open("erlang-mnesia", Path) ->
+open("erlang-dets", Path, _) -> {ok, d} = dets:open_file(d, [{file, Path}, {auto_save, infinity}]);
+open("erlang-disklog", Path, _) -> opened(disk_log:open([{name, d}, {file, Path}]));
+open("erlang-mnesia", Path, Command) ->
     application:set_env(mnesia, dir, Path),
+    application:set_env(mnesia, core_dir, filename:dirname(os:getenv("ACKNOWLEDGED"))),
     application:set_env(mnesia, dump_log_write_threshold, 20),
-    _ = mnesia:create_schema([node()]),
+    [ok = mnesia:create_schema([node()]) || Command =:= "make"],
     ok = mnesia:start(),
-    _ = mnesia:create_table(d, [{disc_copies, [node()]}, {attributes, [key, value]}]),
+    [{atomic, ok} = mnesia:create_table(d, [{disc_copies, [node()]}, {attributes, [key, value]}]) || Command =:= "make"],
     ok = mnesia:wait_for_tables([d], 10000).
 
 opened({ok, d}) -> ok;
