@@ -23,6 +23,11 @@ while [ "$copy" -lt "$copies" ]; do
     [ -s "$ACKNOWLEDGED" ] || continue
     copy=$((copy + 1))
     kill -STOP "-$group" 2>/dev/null || copies=$copy
+    # A process that waits for the disk stops only after that.
+    for _ in 1 2 3 4 5 6 7 8 9 10; do
+        pgrep -s "$group" -r R,S,D >/dev/null || break
+        sleep 0.05
+    done
     cp "$ACKNOWLEDGED" "$at/acknowledged.$copy"
     cp --sparse=always "$at/disk" "$at/disk.$copy"
     kill -CONT "-$group" 2>/dev/null || :
