@@ -126,21 +126,32 @@ def test_words():
     check("in order", -1 not in places and places == sorted(places), ran.stdout)
 
 
+def file_told(path, after):
+    """What `files explain --json` tells of a file that had three bytes."""
+    return {"file": path, "was": path, "before": 3, "after": after}
+
+
+def bytes_told(path, line, end, outcome):
+    """What it tells of a write of the first bytes, which have one outcome."""
+    return {"file": path, "bytes": [0, end], "of": line, "zeros": False, "kept": [], "lost": [], "covered": [], outcome: [[0, end]]}
+
+
 def test_calls():
     """Paths of calls follow directories that move."""
     script = ["seed 1", "mkdir_at 1 d", "mkdir_at 2 e", "create_at 3 f", "# descriptor 0 is /d/e/f", "write 0 0 6162", "rename_at 1 d 1 g",
               "fsyncdir_at 3", "link_at 4 3 h", "unlink_at 3 f", "truncate 0 1", "fsync 0", "close 0", "crash"]
-    said = ["inode 2", "inode 3", "opened 0", "ok", "# a remark", "ok", "ok", "ok", "ok", "error injected", "ok", "ok", "crashed - 1:2"]
+    said = ["inode 2", "inode 3", "opened 0", "ok", "ok", "ok", "ok", "ok", "error injected", "ok", "ok", "crashed - 1:2"]
     wanted = ["write /d/e/f 0..2", "rename /d -> /g", "fsyncdir /g/e", "link /g/e/h", "unlink /g/e/f", "truncate /d/e/f 1: error injected",
               "fsync /d/e/f"]
     found = losses._Calls(script, said).last()
     check("calls by path", found[-7:] == wanted and len(found) == 8, found)
-    said = ["ok", "crashed 01", "# unsettled edits:", "#   line 1: create /a: kept", "#   line 2: create /b: lost", "# /a: size 3 before, 3 after",
-            "#   line 3: write 0..3: kept", "# /b: removed, since no name of it was kept", "# /c: size 3 before, 3 after",
-            "#   line 4: write 0..3: lost", "# /d: size 3 before, 2 after", "#   line 5: write 0..2: kept", "ok"]
+    told = [{"call": "crash", "reply": "crashed 01"}, {"edit": "create /a", "of": 1, "outcome": "kept"},
+            {"edit": "create /b", "of": 2, "outcome": "lost"}, file_told("/a", 3), bytes_told("/a", 3, 3, "kept"),
+            {**file_told("/b", None), "file": None}, file_told("/c", 3), bytes_told("/c", 4, 3, "lost"), file_told("/d", 2),
+            bytes_told("/d", 5, 2, "kept"), {"call": "tree", "reply": "tree"}]
     wanted = ["unsettled edits:", "  line 2: create /b: lost", "/b: removed, since no name of it was kept", "/c: size 3 before, 3 after",
               "  line 4: write 0..3: lost", "/d: size 3 before, 2 after"]
-    check("what is lost", losses._lost(said) == wanted, losses._lost(said))
+    check("what is lost", losses.lost(told) == wanted, losses.lost(told))
     check("no record", losses.described("/none", f"{FOLDER.name}/none") == ([], []))
 
 
