@@ -96,6 +96,8 @@ def test_syncs():
                 mapped[0:4] = b"page"
                 before = mount.control.status()["unsynced"]
                 check("syncfs", libc.syncfs(file.fileno()) == 0, ctypes.get_errno())
+                # The kernel doesn't wait for the answer to this write.
+                comes(lambda: mount.control.status()["unsynced"] != before)
                 after = mount.control.status()["unsynced"]
                 check("a mapped page was written", (before, after) == ("0", "4096"), (before, after))
                 mount.ask("crash")
