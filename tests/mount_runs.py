@@ -66,10 +66,11 @@ def test_untested():
 def test_points():
     """After which calls the power goes off."""
     for words, wanted in ((["--after-acknowledgement", "3", "--stop-after", "2"], {3}), (["--from-call", "10", "--stop-after", "2"], {3}),
-                          (["--from-acknowledged", "--stop-after", "0"], {1}), (["--from-call", "18"], {6})):
+                          (["--from-acknowledged", "--stop-after", "0"], {1}), (["--from-call", "18"], {5, 6})):
         status, found, said = crash_run("--seeds", "4", *words, "--work", SIX, "--check", f"{ALL_SIX} && test -z $(cat $MOUNT/f9)")
         counts = {acknowledged(failure) for failure in found[:-1]}
-        check(f"{words}", (status, counts or {6}) == (int(wanted != {6}), wanted), (status, counts, said))
+        # After the last call the power may go off before its acknowledgement is written, or after it.
+        check(f"{words}", status == int(bool(counts)) and (counts or {6}) <= wanted, (status, counts, said))
     for words, why in ((["--after-acknowledgement", "7"], "acknowledges only 6 times"), (["--from-call", "19"], "makes only 18 changing calls")):
         status, found, said = crash_run("--seeds", "1", *words, "--work", SIX, "--check", "true")
         check(f"too many: {words}", status == 2 and said == f"crash_run: the run without a crash {why}\n", said)
