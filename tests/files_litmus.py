@@ -130,7 +130,7 @@ def compare_page(count):
     """Compares the page's tables."""
     most = 0
     rows = list(page_rows())
-    count.tell(len(rows) == 58 and all(len(row) == 7 for _, row in rows), f"the page's tables have 58 rows of 7 cells: {len(rows)}")
+    count.tell(len(rows) == 60 and all(len(row) == 7 for _, row in rows), f"the page's tables have 60 rows of 7 cells: {len(rows)}")
     for letter, (program, before, looks_at, *cells) in rows:
         expected = []
         for profile, cell in zip(PROFILES, cells):

@@ -295,21 +295,27 @@ class Model(Syncs):
         self.base = dict(self.names)
         self.files = {inode: file for inode, file in self.files.items() if (inode, IS_FILE) in self.names.values()}
         self.edits, self.opened, self.gone = [], {}, {}
+        self.log.clear()
         return Kept([], edits, [])
 
     def kept_edits(self):
         """Returns the numbers of the edits that are kept."""
-        kept, is_lost = set(), False
+        kept, is_lost, is_behind = set(), False, False
         for edit in self.edits:
-            if edit.number in self.settled or (self.draw(edit.rate) and not (is_lost and self.is_ordered(edit))):
+            is_settled = edit.number in self.settled
+            is_found = is_settled or self.draw(edit.rate)
+            if is_settled or (is_found and not (is_lost and self.is_ordered(edit, is_behind))):
                 kept.add(edit.number)
             else:
                 is_lost = True
+            is_behind = is_behind or (edit.is_followed and not is_found)
         return kept
 
-    def is_ordered(self, edit):
-        """Whether an unsettled edit is kept only with all before it. One that the last sync left unsettled isn't, if it binds a name."""
-        is_alone = edit.number < self.synced and any(binding for _, binding in edit.changes)
+    def is_ordered(self, edit, is_behind):
+        """Whether an unsettled edit is kept only with all before it. One that the last sync left unsettled isn't, if it binds a name or if
+        the log followed it, which it does in order."""
+        is_followed = edit.is_followed and not is_behind
+        is_alone = edit.number < self.synced and (is_followed or any(binding for _, binding in edit.changes))
         return self.profile.keeps == "prefix" or (self.profile.keeps == "logged" and not is_alone)
 
     def crash_bytes(self, file, kept):

@@ -18,13 +18,15 @@ class Refused(Exception):
 
 
 class Edit(NamedTuple):
-    """A change of one name or two: what each is bound to, the inodes and the directories that it is about, its number and its rate."""
+    """A change of one name or two: what each is bound to, the inodes and the directories that it is about, its number, its rate, and
+    whether the log of the syncs has a name that it frees."""
 
     changes: tuple
     inodes: tuple
     directories: tuple
     number: int
     rate: tuple
+    is_followed: bool
 
 
 class Names:
@@ -34,6 +36,8 @@ class Names:
         # Each name with what it is bound to, and each directory with the one that has it.
         self.names, self.directories = {}, {ROOT: ROOT}
         self.edits, self.keep = [], (1, 2)
+        # The names of edits that syncs settled since the last commit, in a profile whose syncs write a log.
+        self.log = {}
         self.next_inode, self.next_edit = ROOT + 1, 0
 
     def entry_in(self, directory, name):
@@ -64,8 +68,11 @@ class Names:
         return self.entry_in(directory, name)
 
     def bind(self, changes, inodes, directories):
-        """Makes an edit."""
-        self.edits.append(Edit(tuple(changes), tuple(inodes), tuple(directories), self.next_edit, self.keep))
+        """Makes an edit. The log follows it if it frees a name that the log has."""
+        is_followed = any(binding is None and entry in self.log for entry, binding in changes)
+        self.edits.append(Edit(tuple(changes), tuple(inodes), tuple(directories), self.next_edit, self.keep, is_followed))
+        if is_followed:
+            apply(self.log, changes)
         self.next_edit += 1
         apply(self.names, changes)
 

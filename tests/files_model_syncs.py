@@ -1,6 +1,6 @@
 """The syncs of files_model.py: which edits each of them settles, by the profile."""
 
-from files_model_names import Names, Refused
+from files_model_names import Names, Refused, apply
 
 from blobcrash.foreign_files import IS_FILE
 
@@ -10,8 +10,17 @@ class Syncs(Names):
 
     def settle_where(self, holds):
         """Settles edits, as a sync does."""
-        self.settled |= {edit.number for edit in self.edits if holds(edit)}
+        for edit in self.unsettled():
+            if holds(edit):
+                self.settled.add(edit.number)
+                if self.profile.settles == "its names":
+                    apply(self.log, edit.changes)
         self.synced = self.next_edit
+
+    def settle_all(self):
+        """Settles all edits, as a commit does."""
+        self.settle_where(lambda edit: True)
+        self.log.clear()
 
     def settle_before(self, end):
         self.settle_where(lambda edit: edit.number < end)
@@ -67,7 +76,7 @@ class Syncs(Names):
         if self.lies:
             return
         if self.profile.settles == "up to its last or size":
-            self.settle_where(lambda edit: True)
+            self.settle_all()
         elif self.profile.settles == "up to its last":
             self.settle_before(self.after_last(directory))
         else:
@@ -93,13 +102,13 @@ class Syncs(Names):
         for inode, file in sorted(self.files.items()):
             if inode not in self.gone:
                 self.sync_bytes(file)
-        self.settle_where(lambda edit: True)
+        self.settle_all()
 
     def settle(self, asked):
         for file in self.files.values():
             file.flush()
             file.shown = None
-        self.settle_where(lambda edit: True)
+        self.settle_all()
 
     def commit(self, asked):
-        self.settle_where(lambda edit: True)
+        self.settle_all()

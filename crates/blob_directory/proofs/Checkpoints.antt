@@ -16,12 +16,11 @@ use Rattle.blob_packed.proofs.Fits.{fit_append}
 use Rattle.blob_packed.proofs.Losses.{packed_append}
 use Rattle.blob_packed.proofs.Scans.{packed_are_found}
 use Rattle.blob_directory.specs.declared.edit.Binding.{Binding}
-use Rattle.blob_directory.specs.declared.rule.Rule.{Rule}
 use Rattle.blob_directory.specs.Checkpoints.{Bindings, FitRecords, bindings_in, settled_records}
 use Rattle.blob_directory.specs.Names.{Edit, Names, Same, all_edited, changed, entry}
 use Rattle.blob_directory.specs.Settled.{AreSettled}
 use Rattle.blob_directory.specs.Tables.{HasName}
-use Rattle.blob_directory.specs.Profiles.{edits_of, kept_edits, names_told, with_seen}
+use Rattle.blob_directory.specs.Profiles.{Rule, edits_of, kept_edits, names_told, with_seen}
 use Rattle.blob_directory.specs.Records.{FitsRecord, Found, edit_bytes, edit_found, edit_told, found_in, has_edit, record_of}
 use Rattle.blob_directory.proofs.Rules.{seen_settled}
 use Rattle.blob_directory.proofs.Records.{round_trip}
@@ -70,9 +69,9 @@ all_settled (b ∷ bs) = (refl, all_settled bs)
 -- the names of settled records
 pub records_told : (rule : Rule) (bs : Bindings) → FitFrom 0 (settled_records bs) → All (λ b. FitsRecord (edit_for b)) bs → edits_of rule (packed (settled_records bs)) ≡ edits_for bs
 records_told rule bs room fit =
-    ap (λ l. kept_edits rule false (with_seen rule 0 (map edit_found l))) (packed_are_found (settled_records bs) room)
-    ∙ ap (λ l. kept_edits rule false (with_seen rule 0 l)) (all_records bs fit)
-    ∙ ap (kept_edits rule false) (seen_settled rule 0 (founds_for bs) (all_settled bs))
+    ap (λ l. kept_edits rule false (with_seen rule false 0 (map edit_found l))) (packed_are_found (settled_records bs) room)
+    ∙ ap (λ l. kept_edits rule false (with_seen rule false 0 l)) (all_records bs fit)
+    ∙ ap (kept_edits rule false) (seen_settled rule false 0 (founds_for bs) (all_settled bs))
     ∙ all_kept rule bs
 
 -- what edits that bind as some names do leave

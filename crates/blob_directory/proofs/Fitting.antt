@@ -9,10 +9,9 @@ use Rattle.std.proofs.lemmas.List.{length-take-le}
 use Rattle.std.proofs.lemmas.List.Elements.{All-drop, All-head, All-tail, All-take}
 use Rattle.blob_packed.specs.Numbers.{number_told}
 use Rattle.blob_packed.specs.Records.{Record, begins_record, first_length, first_number, first_record, found_from, scanned}
-use Rattle.blob_directory.specs.declared.rule.Rule.{Rule}
 use Rattle.blob_directory.specs.Checkpoints.{FitRecords}
 use Rattle.blob_directory.specs.Names.{Change, Edit, Names, all_edited, changed, edited}
-use Rattle.blob_directory.specs.Profiles.{edits_of, is_prefix, kept_edits, names_told, with_seen}
+use Rattle.blob_directory.specs.Profiles.{Rule, edits_of, kept_edits, names_told, with_seen}
 use Rattle.blob_directory.specs.Records.{FitsRecord, Found, binding_told, change_told, edit_bytes, edit_found, edit_told, found_in, has_change, has_edit, inode_told, more_told}
 use Rattle.blob_directory.proofs.Records.{length-change_bytes, one_bytes}
 
@@ -136,16 +135,16 @@ records_fit bytes all = scanned_fit (length bytes) 0 bytes all
 
 kept_fit : (rule : Rule) (lost : Bool) (found : List Found) → FitFounds found → FitEdits (kept_edits rule lost found)
 kept_fit rule lost [] h = tt
-kept_fit rule lost (None ∷ found) h = kept_fit rule (lost || is_prefix rule) found h.1
+kept_fit rule lost (None ∷ found) h = kept_fit rule (lost || rule.is_prefix) found h.1
 kept_fit rule lost (Some (edit, settled) ∷ found) h = ⊎_elim
     (λ y. subst FitEdits (sym (cond-true (settled || not lost) (edit ∷ kept_edits rule lost found) (kept_edits rule lost found) y)) (h.0, kept_fit rule lost found h.1))
     (λ n. subst FitEdits (sym (cond-false (settled || not lost) (edit ∷ kept_edits rule lost found) (kept_edits rule lost found) n)) (kept_fit rule lost found h.1))
     (cases_Bool (settled || not lost))
 
-seen_fit : (rule : Rule) (n : ℕ) (found : List Found) → FitFounds found → FitFounds (with_seen rule n found)
-seen_fit rule n [] h = tt
-seen_fit rule n (None ∷ found) h = (h.0, seen_fit rule (suc n) found h.1)
-seen_fit rule n (Some (edit, settled) ∷ found) h = (h.0, seen_fit rule (suc n) found h.1)
+seen_fit : (rule : Rule) (behind : Bool) (n : ℕ) (found : List Found) → FitFounds found → FitFounds (with_seen rule behind n found)
+seen_fit rule behind n [] h = tt
+seen_fit rule behind n (None ∷ found) h = (h.0, seen_fit rule (behind || rule.is_followed n) (suc n) found h.1)
+seen_fit rule behind n (Some (edit, settled) ∷ found) h = (h.0, seen_fit rule behind (suc n) found h.1)
 
 changed_fits : (a : Names) (c : Change) → FitRecords a → FitsRecord (c ∷ []) → FitRecords (changed a c)
 changed_fits a c before fits e to h = ⊎_elim
@@ -168,4 +167,4 @@ all_fit a (edit ∷ edits) before fits = all_fit (edited a edit) edits (edited_f
 pub told_fits : (rule : Rule) (journal : List ℕ) → All (λ b. b < 256) journal → FitRecords (names_told rule journal)
 told_fits rule journal all =
     all_fit (λ _. None) (edits_of rule journal) (λ e to h. absurd (let none : None ≡ Some to = h in cc))
-    (kept_fit rule false (with_seen rule 0 (found_in journal)) (seen_fit rule 0 (found_in journal) (records_fit journal all)))
+    (kept_fit rule false (with_seen rule false 0 (found_in journal)) (seen_fit rule false 0 (found_in journal) (records_fit journal all)))

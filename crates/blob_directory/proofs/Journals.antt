@@ -3,10 +3,8 @@ use Rattle.std.proofs.Common.{◌≡◌, ℕ, zero, suc, ◌+◌, ◌-◌, ◌�
 use Rattle.std.specs.Str.{bytes_eq}
 use Rattle.std.proofs.lemmas.List.{length-replicate}
 use Rattle.blob_packed.specs.Records.{Record, found_from}
-use Rattle.blob_directory.specs.declared.rule.Rule.{Rule}
-use Rattle.blob_directory.specs.declared.rule.Rule.TheVariants.{Any, Behind, Prefix}
 use Rattle.blob_directory.specs.Names.{Change, Edit, Names, Same, all_edited, changed, edited}
-use Rattle.blob_directory.specs.Profiles.{all_counts, counts, is_prefix, kept_edits, lost_behind, with_found}
+use Rattle.blob_directory.specs.Profiles.{Rule, all_counts, counts, kept_edits, lost_behind, with_found}
 use Rattle.blob_directory.specs.Records.{Found, edit_found, edits_from}
 
 same_changed : (a b : Names) (c : Change) → Same a b → Same (changed a c) (changed b c)
@@ -21,68 +19,59 @@ pub same_all : (a b : Names) (edits : List Edit) → Same a b → Same (all_edit
 same_all a b [] h = h
 same_all a b (edit ∷ edits) h = same_all (edited a edit) (edited b edit) edits (same_edited a b edit h)
 
+and_false : (a : Bool) → (a && false) ≡ false
+and_false true = refl
+and_false false = refl
+
+and_true : (a : Bool) → (a && true) ≡ a
+and_true true = refl
+and_true false = refl
+
+or_false : (a : Bool) → (a || false) ≡ a
+or_false true = refl
+or_false false = refl
+
+-- an edit that counts loses none behind it
+still_lost : (rule : Rule) (lost : Bool) → (lost || (rule.is_prefix && false)) ≡ lost
+still_lost rule lost = ap (λ (b : Bool). lost || b) (and_false rule.is_prefix) ∙ or_false lost
+
 apply_one : (rule : Rule) (lost : Bool) (names : Names) (f : Found) (found : List Found)
-    → all_edited (with_found names lost f) (kept_edits rule (lost || (is_prefix rule && not (counts lost f))) found) ≡ all_edited names (kept_edits rule lost (f ∷ found))
-apply_one Any lost names None found = refl
-apply_one Prefix lost names None found = refl
-apply_one (Behind last) lost names None found = refl
-apply_one Any true names (Some (edit, true)) found = refl
-apply_one Any false names (Some (edit, true)) found = refl
-apply_one Any true names (Some (edit, false)) found = refl
-apply_one Any false names (Some (edit, false)) found = refl
-apply_one Prefix true names (Some (edit, true)) found = refl
-apply_one (Behind last) true names (Some (edit, true)) found = refl
-apply_one Prefix false names (Some (edit, true)) found = refl
-apply_one (Behind last) false names (Some (edit, true)) found = refl
-apply_one Prefix true names (Some (edit, false)) found = refl
-apply_one (Behind last) true names (Some (edit, false)) found = refl
-apply_one Prefix false names (Some (edit, false)) found = refl
-apply_one (Behind last) false names (Some (edit, false)) found = refl
+    → all_edited (with_found names lost f) (kept_edits rule (lost || (rule.is_prefix && not (counts lost f))) found) ≡ all_edited names (kept_edits rule lost (f ∷ found))
+apply_one rule lost names None found = ap (λ (b : Bool). all_edited names (kept_edits rule (lost || b) found)) (and_true rule.is_prefix)
+apply_one rule lost names (Some (edit, true)) found = ap (λ (b : Bool). all_edited (edited names edit) (kept_edits rule b found)) (still_lost rule lost)
+apply_one rule true names (Some (edit, false)) found = refl
+apply_one rule false names (Some (edit, false)) found = ap (λ (b : Bool). all_edited (edited names edit) (kept_edits rule b found)) (still_lost rule false)
 
 flag_one : (rule : Rule) (lost : Bool) (f : Found) (found : List Found)
-    → counts lost f ∷ all_counts rule (lost || (is_prefix rule && not (counts lost f))) found ≡ all_counts rule lost (f ∷ found)
-flag_one Any true None found = refl
-flag_one Any false None found = refl
-flag_one Prefix true None found = refl
-flag_one (Behind last) true None found = refl
-flag_one Prefix false None found = refl
-flag_one (Behind last) false None found = refl
-flag_one Any true (Some (edit, true)) found = refl
-flag_one Any false (Some (edit, true)) found = refl
-flag_one Any true (Some (edit, false)) found = refl
-flag_one Any false (Some (edit, false)) found = refl
-flag_one Prefix true (Some (edit, true)) found = refl
-flag_one (Behind last) true (Some (edit, true)) found = refl
-flag_one Prefix false (Some (edit, true)) found = refl
-flag_one (Behind last) false (Some (edit, true)) found = refl
-flag_one Prefix true (Some (edit, false)) found = refl
-flag_one (Behind last) true (Some (edit, false)) found = refl
-flag_one Prefix false (Some (edit, false)) found = refl
-flag_one (Behind last) false (Some (edit, false)) found = refl
+    → counts lost f ∷ all_counts rule (lost || (rule.is_prefix && not (counts lost f))) found ≡ all_counts rule lost (f ∷ found)
+flag_one rule lost None found = ap (λ (b : Bool). false ∷ all_counts rule (lost || b) found) (and_true rule.is_prefix)
+flag_one rule lost (Some (edit, true)) found = ap (λ (b : Bool). true ∷ all_counts rule b found) (still_lost rule lost)
+flag_one rule true (Some (edit, false)) found = refl
+flag_one rule false (Some (edit, false)) found = ap (λ (b : Bool). true ∷ all_counts rule b found) (still_lost rule false)
 
 -- Records that are passed over.
 
-lost_more : (rule : Rule) (lost : Bool) (k : ℕ) → lost_behind rule (lost || is_prefix rule) k ≡ (lost || is_prefix rule)
+lost_more : (rule : Rule) (lost : Bool) (k : ℕ) → lost_behind rule (lost || rule.is_prefix) k ≡ (lost || rule.is_prefix)
 lost_more rule lost zero = refl
-lost_more Any true (suc k) = refl
-lost_more Any false (suc k) = refl
-lost_more Prefix true (suc k) = refl
-lost_more (Behind last) true (suc k) = refl
-lost_more Prefix false (suc k) = refl
-lost_more (Behind last) false (suc k) = refl
+lost_more rule true (suc k) = refl
+lost_more rule false (suc k) = twice rule.is_prefix
+  where
+    twice : (a : Bool) → (a || a) ≡ a
+    twice true = refl
+    twice false = refl
 
 flags_behind : (rule : Rule) (lost : Bool) (k : ℕ) (found : List Found)
     → replicate k false ++ all_counts rule (lost_behind rule lost k) found ≡ all_counts rule lost (replicate k None ++ found)
 flags_behind rule lost zero found = refl
 flags_behind rule lost (suc k) found =
     ap (λ (l : Bool). false ∷ (replicate k false ++ all_counts rule l found)) (sym (lost_more rule lost k))
-    ∙ ap (λ l. false ∷ l) (flags_behind rule (lost || is_prefix rule) k found)
+    ∙ ap (λ l. false ∷ l) (flags_behind rule (lost || rule.is_prefix) k found)
 
 kept_behind : (rule : Rule) (lost : Bool) (k : ℕ) (found : List Found)
     → kept_edits rule (lost_behind rule lost k) found ≡ kept_edits rule lost (replicate k None ++ found)
 kept_behind rule lost zero found = refl
 kept_behind rule lost (suc k) found =
-    ap (λ (l : Bool). kept_edits rule l found) (sym (lost_more rule lost k)) ∙ kept_behind rule (lost || is_prefix rule) k found
+    ap (λ (l : Bool). kept_edits rule l found) (sym (lost_more rule lost k)) ∙ kept_behind rule (lost || rule.is_prefix) k found
 
 edits_behind : (k : ℕ) (found : List (Option Record)) → map edit_found (replicate k None ++ found) ≡ replicate k None ++ map edit_found found
 edits_behind zero found = refl
@@ -107,7 +96,7 @@ flags_long flags between flags' kept number low eb ef =
 pub one_flag : (rule : Rule) (lost passed lost' kept : Bool) (flags between flags' : List Bool) (k : ℕ) (here more : List Found) (f : Found) (all : List Bool)
     → here ≡ replicate k None ++ (f ∷ more)
     → between ≡ flags ++ replicate k false → passed ≡ lost_behind rule lost k
-    → kept ≡ counts passed f → lost' ≡ (passed || (is_prefix rule && not (counts passed f))) → flags' ≡ between ++ kept ∷ []
+    → kept ≡ counts passed f → lost' ≡ (passed || (rule.is_prefix && not (counts passed f))) → flags' ≡ between ++ kept ∷ []
     → flags ++ all_counts rule lost here ≡ all
     → flags' ++ all_counts rule lost' more ≡ all
 one_flag rule lost passed lost' kept flags between flags' k here more f all step eb ep ek el ef before =
@@ -125,13 +114,13 @@ one_flag rule lost passed lost' kept flags between flags' k here more f all step
 pub one_record : (rule : Rule) (lost passed lost' : Bool) (names names' : Names) (k : ℕ) (here more : List Found) (f : Found) (told : Names)
     → here ≡ replicate k None ++ (f ∷ more)
     → passed ≡ lost_behind rule lost k
-    → Same names' (with_found names passed f) → lost' ≡ (passed || (is_prefix rule && not (counts passed f)))
+    → Same names' (with_found names passed f) → lost' ≡ (passed || (rule.is_prefix && not (counts passed f)))
     → Same (all_edited names (kept_edits rule lost here)) told
     → Same (all_edited names' (kept_edits rule lost' more)) told
 one_record rule lost passed lost' names names' k here more f told step ep same el before =
     λ e.
     ap (λ l. all_edited names' (kept_edits rule l more) e) el
-    ∙ same_all names' (with_found names passed f) (kept_edits rule (passed || (is_prefix rule && not (counts passed f))) more) same e
+    ∙ same_all names' (with_found names passed f) (kept_edits rule (passed || (rule.is_prefix && not (counts passed f))) more) same e
     ∙ ap (λ x. x e) (apply_one rule passed names f more)
     ∙ ap (λ p. all_edited names (kept_edits rule p (f ∷ more)) e) ep
     ∙ ap (λ l. all_edited names l e) (kept_behind rule lost k (f ∷ more))

@@ -2,9 +2,8 @@
 use Rattle.std.proofs.Common.{◌≡◌, ℕ, Bool, true, false, ◌||◌, not, List, [], ◌∷◌, ◌++◌, Some, None, refl, sym, ap, ◌∙◌, ⊎_elim}
 use Rattle.std.specs.Str.{bytes_eq}
 use Rattle.std.proofs.lemmas.Bool.{cases_Bool, cond-false, cond-true, or_cases, or_parts, both_ways}
-use Rattle.blob_directory.specs.declared.rule.Rule.{Rule}
 use Rattle.blob_directory.specs.Names.{Edit, Names, all_edited, changed, edited}
-use Rattle.blob_directory.specs.Profiles.{is_prefix, kept_edits, with_seen}
+use Rattle.blob_directory.specs.Profiles.{Rule, kept_edits, with_seen}
 use Rattle.blob_directory.specs.Records.{Found, found_in}
 use Rattle.blob_directory.specs.Settled.{IsBeside, SettledIsFound, changes_entry}
 use Rattle.blob_directory.proofs.Rules.{seen_beside, seen_parts}
@@ -13,7 +12,7 @@ use Rattle.blob_directory.proofs.Rules.{seen_beside, seen_parts}
 kept_parts : (rule : Rule) (lost : Bool) (before rest : List Found)
     → (later : Bool) × (kept_edits rule lost (before ++ rest) ≡ kept_edits rule lost before ++ kept_edits rule later rest)
 kept_parts rule lost [] rest = (lost, refl)
-kept_parts rule lost (None ∷ before) rest = kept_parts rule (lost || is_prefix rule) before rest
+kept_parts rule lost (None ∷ before) rest = kept_parts rule (lost || rule.is_prefix) before rest
 kept_parts rule lost (Some (edit, settled) ∷ before) rest =
     let h = kept_parts rule lost before rest in
     let counts : Bool = settled || not lost in
@@ -52,7 +51,7 @@ edit_here a b (c ∷ edit) e here = ⊎_elim
 -- edits after it
 behind_beside : (rule : Rule) (lost : Bool) (found : List Found) (names : Names) (e : List ℕ) → IsBeside e found → all_edited names (kept_edits rule lost found) e ≡ names e
 behind_beside rule lost [] names e beside = refl
-behind_beside rule lost (None ∷ found) names e beside = behind_beside rule (lost || is_prefix rule) found names e beside
+behind_beside rule lost (None ∷ found) names e beside = behind_beside rule (lost || rule.is_prefix) found names e beside
 behind_beside rule lost (Some (edit, settled) ∷ found) names e (other, beside) =
     let counts : Bool = settled || not lost in
     let more : List Edit = kept_edits rule lost found in
@@ -78,10 +77,10 @@ settled_counts rule found before after edit e is changes beside =
 
 -- and by a rule
 pub settled_by : (rule : Rule) (found before after : List Found) (edit : Edit) (e : List ℕ) → found ≡ before ++ Some (edit, true) ∷ after → changes_entry e edit ≡ true → IsBeside e after
-    → all_edited (λ _. None) (kept_edits rule false (with_seen rule 0 found)) e ≡ edited (λ _. None) edit e
+    → all_edited (λ _. None) (kept_edits rule false (with_seen rule false 0 found)) e ≡ edited (λ _. None) edit e
 settled_by rule found before after edit e is changes beside =
-    let p = seen_parts rule 0 before after edit in
-    settled_counts rule (with_seen rule 0 found) p.0 (with_seen rule p.1 after) edit e (ap (with_seen rule 0) is ∙ p.2) changes (seen_beside rule p.1 e after beside)
+    let p = seen_parts rule false 0 before after edit in
+    settled_counts rule (with_seen rule false 0 found) p.0 (with_seen rule p.1 p.2 after) edit e (ap (with_seen rule false 0) is ∙ p.3) changes (seen_beside rule p.1 p.2 e after beside)
 
 pub settled_is_found : SettledIsFound
 settled_is_found rule journal edit e last = settled_by rule (found_in journal) last.before last.after edit e last.found last.changes last.beside

@@ -3,10 +3,9 @@ use Rattle.std.specs.Prelude.{◌≡◌, ℕ, true, List, [], ◌∷◌, Some, V
 use Rattle.std.specs.Global.{Global}
 use Rattle.blob_packed.specs.Records.{Record, packed_from}
 use Rattle.blob_directory.specs.declared.edit.Binding.{Binding}
-use Rattle.blob_directory.specs.declared.rule.Rule.{Rule}
 use Rattle.blob_directory.specs.declared.tree.Tree.{Tree}
 use Rattle.blob_directory.specs.Names.{Names, Same, entry}
-use Rattle.blob_directory.specs.Profiles.{names_told}
+use Rattle.blob_directory.specs.Profiles.{Rule, names_told}
 use Rattle.blob_directory.specs.Records.{FitsRecord, record_of}
 use Rattle.blob_directory.specs.Tables.{bound}
 use Rattle.blob_directory.specs.Trees.{HasPlaces}

@@ -5,6 +5,7 @@ pub mod Counts
 pub mod Checkpoints
 pub mod Records
 pub mod Profiles
+pub mod Logs
 pub mod Rules
 pub mod Syncs
 pub mod Wanted

@@ -1,9 +1,8 @@
 -- A name that a settled edit changes, and no later one.
 use Rattle.std.specs.Prelude.{◌≡◌, ℕ, Bool, true, false, ◌||◌, List, [], ◌∷◌, ◌++◌, Some, None}
 use Rattle.std.specs.Str.{bytes_eq}
-use Rattle.blob_directory.specs.declared.rule.Rule.{Rule}
 use Rattle.blob_directory.specs.Names.{Edit, edited}
-use Rattle.blob_directory.specs.Profiles.{names_told}
+use Rattle.blob_directory.specs.Profiles.{Rule, names_told}
 use Rattle.blob_directory.specs.Records.{Found, found_in}
 
 -- some change of the edit is of this entry

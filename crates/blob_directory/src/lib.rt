@@ -4,10 +4,11 @@
 pub mod checkpoint;
 pub mod edit;
 pub mod laws;
+pub mod log;
 pub mod path;
 pub mod profile;
 pub mod record;
-pub mod rule;
+mod rule;
 pub mod table;
 pub mod tree;
 pub mod unsettled;
@@ -15,4 +16,3 @@ mod wanted;
 
 pub use edit::{Binding, Change, Edit, Kind};
 pub use profile::{Keeps, Profile, Settles};
-pub use rule::Rule;

@@ -10,7 +10,8 @@ pub enum Keeps {
     /// Those up to some point, as in one with a journal.
     Prefix,
     /// The same. But of those that the last sync left unsettled a crash may also keep any that bind a name: the sync wrote a log, which has
-    /// the names of single files and directories. Later ones are kept only with all before them.
+    /// the names of single files and directories. Such a log follows the edits that free a name which it has, so a crash may also keep
+    /// those of them before which none was lost. Later edits are kept only with all before them.
     Logged,
 }
 

@@ -1,5 +1,6 @@
 //! The names of all directories, as a table of entries.
-ghost use Rattle.std.specs.Prelude.{◌≡◌, None, Some, IfOk, OnOk, OnErr, false, true};
+ghost use Rattle.std.specs.Prelude.{◌≡◌, ◌&&◌, is_none, is_some, None, Some, IfOk, OnOk, OnErr, false, true};
+ghost use Rattle.blob_directory.specs.Logs.{frees_any};
 ghost use Rattle.blob_directory.specs.Names.{Same, change_of, changed, edit_of, edited, entry};
 ghost use Rattle.blob_directory.specs.Tables.{HasAll, HasNoName, HasOnly, HasRoom, HasRoomFor, IsWithin, KeepsRoom, bound};
 
@@ -44,6 +45,23 @@ impl Table {
         match self.entries.get(entry) {
             None => None,
             Some(binding) => *binding,
+        }
+    }
+
+    /// Returns whether a change frees an entry that is bound.
+    fn is_freed_by(&self, change: &Change) -> bool
+        ensures { result ≡ (is_none change.now.to && is_some (bound self.now change.now.entry.items)) }
+    {
+        change.to.is_none() && self.get(&change.entry).is_some()
+    }
+
+    /// Returns whether an edit frees an entry that is bound.
+    pub fn frees_any(&self, edit: &Edit) -> bool
+        ensures { result ≡ frees_any (bound self.now) (edit_of edit.now) }
+    {
+        match &edit.second {
+            None => self.is_freed_by(&edit.first),
+            Some(second) => self.is_freed_by(&edit.first) || self.is_freed_by(second),
         }
     }
 

@@ -1,17 +1,20 @@
 //! The names that a crash leaves, from the records of a journal.
-ghost use Rattle.std.specs.Prelude.{◌≡◌, ◌&&◌, ◌||◌, ◌-◌, ◌++◌, ℕ, false, length, nat_eq, not, replicate, None, IfOk, OnOk};
+ghost use Rattle.std.specs.Prelude.{◌≡◌, ◌&&◌, ◌||◌, ◌-◌, ◌++◌, ℕ, false, is_some, length, nat_eq, not, replicate, None, IfOk, OnOk};
 ghost use Rattle.blob_directory.specs.Checkpoints.{FitRecords};
 ghost use Rattle.blob_directory.specs.Counts.{CountsNames, count_then, link_count};
 ghost use Rattle.blob_directory.specs.Names.{Names, Same, entry};
 ghost use Rattle.blob_directory.specs.Profiles.{counts, counts_in, lost_behind, names_told, seen_one, with_found};
 ghost use Rattle.blob_directory.specs.Records.{found_by};
+ghost use Rattle.blob_directory.specs.Rules.{rule_in, rule_of};
 ghost use Rattle.blob_directory.specs.Tables.{bound};
 ghost use Rattle.blob_directory.specs.Trees.{Finds, HasLinks, HasNamedLinks, HasPlaces, added, has_directory, has_then, is_directory, links_then, has_link};
 
 use crate::edit::{Binding, Kind};
+use crate::profile::Keeps;
 use crate::record::decode;
 use crate::rule::Rule;
 use crate::table::Table;
+use crate::unsettled::Unsettled;
 use blob_packed::record::{Record, next_record};
 use std::alloc::{AllocError, Global};
 use std::collections::BTreeMap;
@@ -74,26 +77,29 @@ impl Tree {
     }
 }
 
-/// Applies the edit of a record, if the record has one and the edit is settled, or none before it was lost, or it was
-/// seen by a sync and binds a name. Returns whether it did. Fails only if memory runs out.
+/// Applies the edit of a record, if the record has one that counts: it is settled, or none before it was lost, or it was seen by a
+/// sync and binds a name, or the log followed it. Returns whether the record has an edit, and whether that counts. Fails only if
+/// memory runs out.
 fn keep(
     alloc: Global,
     names: &mut Table,
     found: Record<'_>,
     is_lost: bool,
     is_seen: bool,
-) -> Result<bool, AllocError>
-    ensures kept { IfOk result (λ kept. kept ≡ counts is_lost (seen_one is_seen (found_by found.entry))) }
-    ensures names { OnOk result (Same (bound names.new) (with_found (bound names.old) is_lost (seen_one is_seen (found_by found.entry)))) }
+    is_in_log: bool,
+) -> Result<(bool, bool), AllocError>
+    ensures there { IfOk result (λ r. r.0 ≡ is_some (found_by found.entry)) }
+    ensures kept { IfOk result (λ r. r.1 ≡ counts is_lost (seen_one is_seen is_in_log (found_by found.entry))) }
+    ensures names { OnOk result (Same (bound names.new) (with_found (bound names.old) is_lost (seen_one is_seen is_in_log (found_by found.entry)))) }
 {
     let Some(edit) = decode(alloc, found.bytes)? else {
-        return Ok(false);
+        return Ok((false, false));
     };
-    if is_lost && !found.is_settled && !(is_seen && edit.binds_any()) {
-        return Ok(false);
+    if is_lost && !found.is_settled && !(is_seen && (edit.binds_any() || is_in_log)) {
+        return Ok((true, false));
     }
     names.make(&edit)?;
-    Ok(true)
+    Ok((true, true))
 }
 
 /// Notes that the records up to a number are lost, if they weren't noted. Returns whether an unsettled edit of the next
@@ -101,11 +107,11 @@ fn keep(
 fn pass_over(
     kept: &mut Vec<bool>,
     number: usize,
-    rule: Rule,
+    rule: &Rule,
     is_lost: bool,
 ) -> Result<bool, AllocError>
     ensures kept { OnOk result (kept.new.items ≡ kept.old.items ++ replicate (number - length kept.old.items) false) }
-    ensures lost { IfOk result (λ lost. lost ≡ lost_behind rule is_lost (number - length kept.old.items)) }
+    ensures lost { IfOk result (λ lost. lost ≡ lost_behind (rule_in rule.now) is_lost (number - length kept.old.items)) }
 {
     if number <= kept.len() {
         return Ok(is_lost);
@@ -114,21 +120,33 @@ fn pass_over(
     Ok(rule.is_next_lost(is_lost, false))
 }
 
-/// Applies the edits of a journal that count by a rule, in order. Returns the names, and of each record whether its edit
-/// counts. Fails only if memory runs out.
-pub fn kept_names(alloc: Global, bytes: &[u8], rule: Rule) -> Result<(Table, Vec<bool>), AllocError>
-    ensures names { IfOk result (λ r. Same (bound r.0) (names_told rule bytes.now)) }
-    ensures kept { IfOk result (λ r. r.1.items ≡ counts_in rule bytes.now) }
+/// Applies the edits of a journal that count by the rule of a profile for the edits that nothing settled, in order. Returns the
+/// names, and of each record whether its edit counts. Fails only if memory runs out.
+pub fn kept_names(
+    alloc: Global,
+    bytes: &[u8],
+    keeps: Keeps,
+    edits: &[Unsettled],
+) -> Result<(Table, Vec<bool>), AllocError>
+    ensures names { IfOk result (λ r. Same (bound r.0) (names_told (rule_of keeps edits.now) bytes.now)) }
+    ensures kept { IfOk result (λ r. r.1.items ≡ counts_in (rule_of keeps edits.now) bytes.now) }
     ensures fit { IfOk result (λ r. FitRecords (bound r.0)) }
 {
+    let rule = Rule::of(alloc, keeps, edits)?;
     let mut names = Table::new(alloc);
     let mut kept = Vec::new(alloc);
     let mut is_lost = false;
+    // An edit that the log followed is lost.
+    let mut is_behind = false;
     let mut left = bytes;
     while let Some(found) = next_record(left, kept.len() as u64) {
-        is_lost = pass_over(&mut kept, found.number as usize, rule, is_lost)?;
-        let is_seen = rule.is_seen(found.number);
-        let is_kept = keep(alloc, &mut names, found, is_lost, is_seen)?;
+        let number = found.number;
+        is_behind = rule.is_behind(is_behind, kept.len() as u64, number);
+        is_lost = pass_over(&mut kept, number as usize, &rule, is_lost)?;
+        let is_seen = rule.is_seen(number);
+        let is_in_log = rule.is_in_log(is_behind, number);
+        let (has_edit, is_kept) = keep(alloc, &mut names, found, is_lost, is_seen, is_in_log)?;
+        is_behind = rule.is_next_behind(is_behind, number, has_edit);
         is_lost = rule.is_next_lost(is_lost, is_kept);
         kept.push(is_kept)?;
         left = found.rest;

@@ -22,6 +22,8 @@ pub struct Unsettled {
     pub is_wanted: bool,
     /// A sync left it unsettled.
     pub is_seen: bool,
+    /// It frees a name that the log of the syncs has.
+    pub is_followed: bool,
 }
 
 /// What an edit is about: one inode or two, and the directories of its names. A truncation is about its file, in the file's

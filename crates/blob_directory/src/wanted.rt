@@ -40,7 +40,8 @@ fn is_upward(inode: u64, above: &[u64], edit: &Unsettled) -> bool
     edit.about.is_of(inode) || makes_any(above, edit)
 }
 
-fn is_up_to(last: Option<u64>, number: u64) -> bool
+/// Returns whether a number is at most the last one. If there is none, it isn't.
+pub(crate) fn is_up_to(last: Option<u64>, number: u64) -> bool
     ensures { result ≡ is_up_to last number }
 {
     match last {

@@ -12,7 +12,6 @@ use Rattle.std.specs.Str.{bytes_eq}
 use Rattle.std.proofs.lemmas.Bool.{cases_Bool, cond-false, cond-true}
 use Rattle.std.proofs.lemmas.List.Elements.{All-head, All-tail}
 use Rattle.blob_directory.specs.declared.edit.Binding.{Binding}
-use Rattle.blob_directory.specs.declared.rule.Rule.TheVariants.{Any}
 use Rattle.blob_directory.specs.declared.profile.Keeps.{Keeps}
 use Rattle.blob_directory.specs.declared.table.Table.{Table}
 use Rattle.blob_directory.specs.declared.tree.Tree.{Tree}
@@ -20,7 +19,7 @@ use Rattle.blob_directory.specs.Counts.{NamedAtMost}
 use Rattle.blob_directory.specs.Names.{Edit, Names, edited, entry, file, resizes}
 use Rattle.blob_directory.specs.Records.{Found}
 use Rattle.blob_directory.specs.Settled.{AreSettled}
-use Rattle.blob_directory.specs.Rules.{rule_of}
+use Rattle.blob_directory.specs.Rules.{any, rule_of}
 use Rattle.blob_directory.specs.Tables.{bound}
 use Rattle.blob_directory.specs.Trees.{HasNamedLinks, has_link}
 use Rattle.blob_journal.specs.declared.journaled.Journaled.{Journaled}
@@ -259,7 +258,7 @@ tracked_settled laws j j' m names some h = ∥∥₁_map h (λ t.
 pub tracked_new : {R : Type 0} (given : WithinGiven) (j : Journaled R) (m : BTreeMap ℕ of_fs.File) → GivesTold j → AllNamed (names_in j) m → AllPresent m → IsTracked (told_in j) (names_in j) m
 tracked_new given j m gives each present = record {
   within = given (told_in j) (names_in j) gives.names;
-  found = λ i may. named_there (names_in j) m i may.entry each (sym (gives.names Any may.chosen may.entry) ∙ may.is);
+  found = λ i may. named_there (names_in j) m i may.entry each (sym (gives.names any may.chosen may.entry) ∙ may.is);
   freed = λ i limit is. absurd (none_some (sym (present i) ∙ is));
 }
 
@@ -272,8 +271,8 @@ tracked_names j j' m same told h = ∥∥₁_map h (λ t.
 tracked_anew : {R : Type 0} (given : WithinGiven) (j : Journaled R) (m : BTreeMap ℕ of_fs.File) → GivesTold j → AllNamed (names_in j) m → IsTracked (told_in j) (names_in j) m
 tracked_anew given j m gives each = record {
   within = given (told_in j) (names_in j) gives.names;
-  found = λ i may. named_there (names_in j) m i may.entry each (sym (gives.names Any may.chosen may.entry) ∙ may.is);
-  freed = λ i limit is chosen e below named. freed_unnamed (names_in j) m i limit each is e (sym (gives.names Any chosen e) ∙ named);
+  found = λ i may. named_there (names_in j) m i may.entry each (sym (gives.names any may.chosen may.entry) ∙ may.is);
+  freed = λ i limit is chosen e below named. freed_unnamed (names_in j) m i limit each is e (sym (gives.names any chosen e) ∙ named);
 }
 
 pub tracked_begun : {R T E : Type 0} (given : WithinGiven) (r : Result T E) (j j' : Journaled R) (m : BTreeMap ℕ of_fs.File) → SameBindings j j' → OnOk r (KeepsTold j j' ⊎ GivesTold j') → OnErr r (KeepsTold j j')

@@ -3,17 +3,16 @@ use Rattle.std.proofs.Common.{◌≡◌, ◌⊎◌, inl, inr, ⊎_elim, ℕ, zer
 use Rattle.std.specs.Prelude.{if◌then◌else◌, Option}
 use Rattle.std.specs.Str.{bytes_eq}
 use Rattle.blob_directory.specs.declared.edit.Binding.{Binding}
-use Rattle.blob_directory.specs.declared.rule.Rule.{Rule}
-use Rattle.blob_directory.specs.declared.rule.Rule.TheVariants.{Any}
 use Rattle.blob_directory.specs.Names.{Edit, Names, all_edited, binds_any, changed, edited, file}
-use Rattle.blob_directory.specs.Profiles.{is_prefix, is_seen_by, kept_edits, seen_one, with_seen}
+use Rattle.blob_directory.specs.Profiles.{Rule, kept_edits, with_seen}
 use Rattle.blob_directory.specs.Records.{Found}
+use Rattle.blob_directory.specs.Rules.{any}
 use Rattle.blob_directory.specs.Settled.{AreSettled}
 use Rattle.blob_directory.proofs.Rules.{seen_any}
 use Rattle.blob_journal.specs.Bindings.{FreedIsNotNamed, FreedNow, FreedOneMore, FreedSettled, KeepsBelow, KeptMayName, MayNameOneMore, MayNameSettled, WithinGiven, WithinOneMore, WithinSettled, edits_in}
 use Rattle.blob_journal.specs.Told.{Grows, Stays, after_loss, names_kept, settle_one, settled_in, was_settled}
 
--- the edits that a crash keeps by `Any`
+-- the edits that a crash keeps by `any`
 abbrev edits_left : (ℕ → Bool) → ℕ → List Found → List Edit
 edits_left chosen n [] = []
 edits_left chosen n (None ∷ told) = edits_left chosen (suc n) told
@@ -21,15 +20,15 @@ edits_left chosen n (Some (edit, settled) ∷ told) =
     if settled || chosen n then edit ∷ edits_left chosen (suc n) told else edits_left chosen (suc n) told
 
 left_kept : (chosen : ℕ → Bool) (n : ℕ) (told : List Found)
-    → kept_edits Any false (after_loss chosen n told) ≡ edits_left chosen n told
+    → kept_edits any false (after_loss chosen n told) ≡ edits_left chosen n told
 left_kept chosen n [] = refl
 left_kept chosen n (None ∷ told) = left_kept chosen (suc n) told
 left_kept chosen n (Some (edit, true) ∷ told) = ap (λ (l : List Edit). edit ∷ l) (left_kept chosen (suc n) told)
 left_kept chosen n (Some (edit, false) ∷ told) =
     one (chosen n) (after_loss chosen (suc n) told) (edits_left chosen (suc n) told) (left_kept chosen (suc n) told)
   where
-    one : (b : Bool) (rest : List Found) (more : List Edit) → kept_edits Any false rest ≡ more
-        → kept_edits Any false ((if b then Some (edit, false) else None) ∷ rest) ≡ (if b then edit ∷ more else more)
+    one : (b : Bool) (rest : List Found) (more : List Edit) → kept_edits any false rest ≡ more
+        → kept_edits any false ((if b then Some (edit, false) else None) ∷ rest) ≡ (if b then edit ∷ more else more)
     one true rest more is = ap (λ (l : List Edit). edit ∷ l) is
     one false rest more is = is
 
@@ -37,12 +36,12 @@ left_kept chosen n (Some (edit, false) ∷ told) =
 abbrev names_of : List Edit → Names
 names_of edits = all_edited (λ _. None) edits
 
-left_names : (chosen : ℕ → Bool) (told : List Found) (e : List ℕ) → names_kept Any chosen told e ≡ names_of (edits_left chosen 0 told) e
+left_names : (chosen : ℕ → Bool) (told : List Found) (e : List ℕ) → names_kept any chosen told e ≡ names_of (edits_left chosen 0 told) e
 left_names chosen told e =
-    ap (λ (l : List Found). names_of (kept_edits Any false l) e) (seen_any 0 (after_loss chosen 0 told))
+    ap (λ (l : List Found). names_of (kept_edits any false l) e) (seen_any false 0 (after_loss chosen 0 told))
     ∙ ap (λ (l : List Edit). names_of l e) (left_kept chosen 0 told)
 
--- Whatever a crash keeps by a rule, another crash keeps by `Any`.
+-- Whatever a crash keeps by a rule, another crash keeps by `any`.
 
 -- a choice for the first record, and for those behind it
 abbrev first : Bool → (ℕ → Bool) → ℕ → Bool
@@ -58,33 +57,33 @@ left_behind chosen n (Some (edit, settled) ∷ told) =
 left_first : (b : Bool) (chosen : ℕ → Bool) (told : List Found) → edits_left (first b chosen) 1 told ≡ edits_left chosen 0 told
 left_first b chosen told = left_behind (first b chosen) 0 told
 
-any_left : (rule : Rule) (lost : Bool) (chosen : ℕ → Bool) (n : ℕ) (told : List Found)
-    → (c : ℕ → Bool) × (kept_edits rule lost (with_seen rule n (after_loss chosen n told)) ≡ edits_left c 0 told)
-any_left rule lost chosen n [] = (chosen, refl)
-any_left rule lost chosen n (None ∷ told) =
-    let h = any_left rule (lost || is_prefix rule) chosen (suc n) told in
+any_left : (rule : Rule) (lost behind : Bool) (chosen : ℕ → Bool) (n : ℕ) (told : List Found)
+    → (c : ℕ → Bool) × (kept_edits rule lost (with_seen rule behind n (after_loss chosen n told)) ≡ edits_left c 0 told)
+any_left rule lost behind chosen n [] = (chosen, refl)
+any_left rule lost behind chosen n (None ∷ told) =
+    let h = any_left rule (lost || rule.is_prefix) (behind || rule.is_followed n) chosen (suc n) told in
     (first false h.0, h.1 ∙ sym (left_first false h.0 told))
-any_left rule lost chosen n (Some (edit, true) ∷ told) =
-    let h = any_left rule lost chosen (suc n) told in
+any_left rule lost behind chosen n (Some (edit, true) ∷ told) =
+    let h = any_left rule lost behind chosen (suc n) told in
     (first false h.0, ap (λ (l : List Edit). edit ∷ l) (h.1 ∙ sym (left_first false h.0 told)))
-any_left rule lost chosen n (Some (edit, false) ∷ told) =
-    one (chosen n) (with_seen rule (suc n) (after_loss chosen (suc n) told)) (any_left rule lost chosen (suc n) told)
-    (any_left rule (lost || is_prefix rule) chosen (suc n) told)
+any_left rule lost behind chosen n (Some (edit, false) ∷ told) =
+    one (chosen n) (any_left rule lost behind chosen (suc n) told)
+    (any_left rule (lost || rule.is_prefix) (behind || rule.is_followed n) chosen (suc n) told)
   where
-    seen : Bool
-    seen = is_seen_by rule n && binds_any edit
+    later : List Found
+    later = after_loss chosen (suc n) told
 
-    one : (b : Bool) (rest : List Found) → (c : ℕ → Bool) × (kept_edits rule lost rest ≡ edits_left c 0 told)
-        → (c : ℕ → Bool) × (kept_edits rule (lost || is_prefix rule) rest ≡ edits_left c 0 told)
-        → (c : ℕ → Bool) × (kept_edits rule lost (seen_one (is_seen_by rule n) (if b then Some (edit, false) else None) ∷ rest) ≡ edits_left c 0 (Some (edit, false) ∷ told))
-    one true rest h gone =
-        let counts : Bool = seen || not lost in
+    one : (b : Bool) → (c : ℕ → Bool) × (kept_edits rule lost (with_seen rule behind (suc n) later) ≡ edits_left c 0 told)
+        → (c : ℕ → Bool) × (kept_edits rule (lost || rule.is_prefix) (with_seen rule (behind || rule.is_followed n) (suc n) later) ≡ edits_left c 0 told)
+        → (c : ℕ → Bool) × (kept_edits rule lost (with_seen rule behind n ((if b then Some (edit, false) else None) ∷ later)) ≡ edits_left c 0 (Some (edit, false) ∷ told))
+    one true h gone =
+        let counts : Bool = (rule.is_seen n && (binds_any edit || (rule.is_followed n && not behind))) || not lost in
         (first counts h.0, ap (λ (l : List Edit). if counts then edit ∷ l else l) (h.1 ∙ sym (left_first counts h.0 told)))
-    one false rest h gone = (first false gone.0, gone.1 ∙ sym (left_first false gone.0 told))
+    one false h gone = (first false gone.0, gone.1 ∙ sym (left_first false gone.0 told))
 
 pub kept_may_name : KeptMayName
 kept_may_name rule chosen told e inode h =
-    let k = any_left rule false chosen 0 told in
+    let k = any_left rule false false chosen 0 told in
     record { chosen = k.0; entry = e; is = left_names k.0 told e ∙ ap (λ (l : List Edit). names_of l e) (sym k.1) ∙ h }
 
 -- One more edit.
@@ -124,15 +123,15 @@ left_last chosen n (Some (x, settled) ∷ told) edit =
 
 -- what is found was found before, or the edit binds it
 one_more : (chosen : ℕ → Bool) (told : List Found) (edit : Edit) (names : Names) (e : List ℕ) (to : Option Binding)
-    → names_kept Any chosen (told ++ Some (edit, false) ∷ []) e ≡ to
-    → (names_kept Any chosen told e ≡ to) ⊎ (edited names edit e ≡ to)
+    → names_kept any chosen (told ++ Some (edit, false) ∷ []) e ≡ to
+    → (names_kept any chosen told e ≡ to) ⊎ (edited names edit e ≡ to)
 one_more chosen told edit names e to h =
     let last = left_last chosen 0 told edit in
     one last.0
     (ap (λ (l : List Edit). names_of l e) (sym last.1) ∙ sym (left_names chosen (told ++ Some (edit, false) ∷ []) e) ∙ h)
   where
     one : (b : Bool) → names_of (edits_left chosen 0 told ++ (if b then edit ∷ [] else [])) e ≡ to
-        → (names_kept Any chosen told e ≡ to) ⊎ (edited names edit e ≡ to)
+        → (names_kept any chosen told e ≡ to) ⊎ (edited names edit e ≡ to)
     one true is =
         let before : Names = names_of (edits_left chosen 0 told) in
         let now : edited before edit e ≡ to = sym (all_last (λ _. None) (edits_left chosen 0 told) edit e) ∙ is in
@@ -215,12 +214,12 @@ keeps_settled limit chosen which n (Some (edit, settled) ∷ told) h =
 
 -- a crash before it may leave the names that one after it leaves
 names_settled : (chosen which : ℕ → Bool) (told told' : List Found) (e : List ℕ) → told' ≡ settled_in which 0 told
-    → names_kept Any (λ i. which i || chosen i) told e ≡ names_kept Any chosen told' e
+    → names_kept any (λ i. which i || chosen i) told e ≡ names_kept any chosen told' e
 names_settled chosen which told told' e is =
     left_names (λ i. which i || chosen i) told e
     ∙ ap (λ (l : List Edit). names_of l e) (sym (left_settled chosen which 0 told))
     ∙ sym (left_names chosen (settled_in which 0 told) e)
-    ∙ ap (λ (l : List Found). names_kept Any chosen l e) (sym is)
+    ∙ ap (λ (l : List Found). names_kept any chosen l e) (sym is)
 
 pub may_name_settled : MayNameSettled
 may_name_settled told told' inode s m =
@@ -273,7 +272,7 @@ all_chosen n (Some (edit, false) ∷ told) = ap (λ (l : List Edit). edit ∷ l)
 
 pub within_given : WithinGiven
 within_given told names given e to h =
-    sym (given Any (λ _. true) e) ∙ left_names (λ _. true) told e
+    sym (given any (λ _. true) e) ∙ left_names (λ _. true) told e
     ∙ ap (λ (l : List Edit). names_of l e) (all_chosen 0 told) ∙ h
 
 all_left : (limit : ℕ) (chosen : ℕ → Bool) (n : ℕ) (told : List Found) → n + length told ≤ limit

@@ -8,9 +8,8 @@ use Rattle.blob_faulty.specs.Keeps.{OverMemory}
 use Rattle.blob_faulty.specs.Wrapper.{inner_of, inside}
 use Rattle.blob_model.proofs.FileSteps.{durable_is}
 use Rattle.blob_packed.specs.Losses.{LeftAreFound, PackedAreFound, may_be_left}
-use Rattle.blob_directory.specs.declared.rule.Rule.{Rule}
 use Rattle.blob_directory.specs.declared.unsettled.Unsettled.{Unsettled}
-use Rattle.blob_directory.specs.Profiles.{edits_of}
+use Rattle.blob_directory.specs.Profiles.{Rule, edits_of}
 use Rattle.blob_directory.specs.Records.{Found, found_in}
 use Rattle.blob_journal.specs.declared.journal.Journal.{Journal}
 use Rattle.blob_journal.specs.Found.{IsKept}

@@ -5,9 +5,8 @@ use Rattle.blob_packed.specs.Losses as losses
 use Rattle.blob_packed.specs.Losses.{HasThese}
 use Rattle.blob_packed.specs.Records.{Record, found_from}
 use Rattle.blob_packed.specs.Records as packed
-use Rattle.blob_directory.specs.declared.rule.Rule.{Rule}
 use Rattle.blob_directory.specs.Names.{Edit}
-use Rattle.blob_directory.specs.Profiles.{edits_of, is_prefix, kept_edits, with_seen}
+use Rattle.blob_directory.specs.Profiles.{Rule, edits_of, kept_edits, with_seen}
 use Rattle.blob_directory.specs.Records.{Found, edit_found, edit_told, found_in, has_edit}
 use Rattle.blob_directory.proofs.Rules.{seen_before}
 use Rattle.blob_journal.specs.Told.{after_loss, edits_kept}
@@ -60,8 +59,8 @@ with_lost (x ∷ found) last = ap (λ (l : List Found). edit_found x ∷ l) (wit
 
 kept_before : (rule : Rule) (lost : Bool) (found : List Found) (last : ℕ) → kept_edits rule lost (found ++ replicate last None) ≡ kept_edits rule lost found
 kept_before rule lost [] zero = refl
-kept_before rule lost [] (suc last) = kept_before rule (lost || is_prefix rule) [] last
-kept_before rule lost (None ∷ found) last = kept_before rule (lost || is_prefix rule) found last
+kept_before rule lost [] (suc last) = kept_before rule (lost || rule.is_prefix) [] last
+kept_before rule lost (None ∷ found) last = kept_before rule (lost || rule.is_prefix) found last
 kept_before rule lost (Some (edit, settled) ∷ found) last =
     ap (λ (l : List Edit). if settled || not lost then edit ∷ l else l) (kept_before rule lost found last)
 
@@ -105,6 +104,6 @@ found_edits rule rs bytes h =
     let found : List Found = found_in bytes in
     let all : found ++ replicate h.last None ≡ after_loss h.chosen 0 (told_of rs) =
     sym (with_lost (found_from 0 bytes) h.last) ∙ ap (map edit_found) h.is ∙ all_left h.chosen 0 rs in
-    sym (kept_before rule false (with_seen rule 0 found) h.last)
-    ∙ ap (kept_edits rule false) (sym (seen_before rule 0 h.last found))
-    ∙ ap (λ (l : List Found). kept_edits rule false (with_seen rule 0 l)) (all ∙ sym (same_lost h.chosen (chosen_of found) 0 h.last found (told_of rs) all (λ i. ap (chosen_of found) (omega arith))))
+    sym (kept_before rule false (with_seen rule false 0 found) h.last)
+    ∙ ap (kept_edits rule false) (sym (seen_before rule false 0 h.last found))
+    ∙ ap (λ (l : List Found). kept_edits rule false (with_seen rule false 0 l)) (all ∙ sym (same_lost h.chosen (chosen_of found) 0 h.last found (told_of rs) all (λ i. ap (chosen_of found) (omega arith))))

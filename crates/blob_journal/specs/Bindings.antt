@@ -1,10 +1,10 @@
 -- Which files a crash may find a name of, by the edits that were told.
 use Rattle.std.specs.Prelude.{◌≡◌, ◌⊎◌, ℕ, suc, ◌<◌, ◌≤◌, Bool, true, false, ◌||◌, List, [], ◌∷◌, ◌++◌, length, take, Some, None}
 use Rattle.blob_directory.specs.declared.edit.Binding.{Binding}
-use Rattle.blob_directory.specs.declared.rule.Rule.{Rule}
-use Rattle.blob_directory.specs.declared.rule.Rule.TheVariants.{Any}
 use Rattle.blob_directory.specs.Names.{Edit, Names, Same, all_edited, edited, file}
+use Rattle.blob_directory.specs.Profiles.{Rule}
 use Rattle.blob_directory.specs.Records.{Found}
+use Rattle.blob_directory.specs.Rules.{any}
 use Rattle.blob_directory.specs.Settled.{AreSettled}
 use Rattle.blob_journal.specs.Told.{OnlySettles, names_kept}
 
@@ -22,7 +22,7 @@ BindsWithin told names = (e : List ℕ) (to : Binding) → all_edited (λ _. Non
 pub record MayName (told : List Found) (inode : ℕ) : Type 0 where
   pub chosen : ℕ → Bool
   pub entry : List ℕ
-  pub is : names_kept Any chosen told entry ≡ Some (file inode)
+  pub is : names_kept any chosen told entry ≡ Some (file inode)
 
 -- none of the edits below a number is lost
 abbrev pub KeepsBelow : ℕ → (ℕ → Bool) → ℕ → List Found → Type 0
@@ -32,7 +32,7 @@ KeepsBelow limit chosen n (Some (edit, settled) ∷ told) = (n < limit → (sett
 
 -- no crash that keeps this many of the first edits finds a name of the file
 abbrev pub IsFreed : ℕ → List Found → ℕ → Type 0
-IsFreed limit told inode = (chosen : ℕ → Bool) (e : List ℕ) → KeepsBelow limit chosen 0 told → names_kept Any chosen told e ≡ Some (file inode) → ⊥
+IsFreed limit told inode = (chosen : ℕ → Bool) (e : List ℕ) → KeepsBelow limit chosen 0 told → names_kept any chosen told e ≡ Some (file inode) → ⊥
 
 -- Laws of these.
 

@@ -6,13 +6,13 @@ use Rattle.blob_model.specs.Bytes.{write_live}
 use Rattle.blob_packed.specs.Records.{record_bytes}
 use Rattle.blob_directory.specs.declared.table.Table.{Table}
 use Rattle.blob_directory.specs.Names.{Edit, Names, Same, edited}
+use Rattle.blob_directory.specs.Profiles.{Rule}
 use Rattle.blob_directory.specs.Records.{Found, record_of}
 use Rattle.blob_directory.specs.Settled.{AreSettled}
 use Rattle.blob_directory.specs.Tables.{bound}
 use Rattle.blob_directory.specs.Trees.{Finds}
 use Rattle.blob_directory.specs.declared.profile.Keeps.{Keeps}
 use Rattle.blob_directory.specs.Rules.{rule_of}
-use Rattle.blob_directory.specs.declared.rule.Rule.{Rule}
 use Rattle.blob_journal.specs.declared.journal.Journal.{Journal}
 use Rattle.blob_journal.specs.declared.journaled.Journaled.{Journaled}
 pub use Rattle.blob_journal.specs.Found.{bytes_in, told_by}

@@ -9,6 +9,7 @@ pub mod Keeping
 pub mod Blobs
 pub mod Incarnations
 pub mod Settling
+pub mod Logs
 pub mod Moves
 pub mod Writes
 pub mod Fixed

@@ -1,10 +1,9 @@
 -- The edits of a journal as they were told, and those of them that a crash keeps.
 use Rattle.std.specs.Prelude.{◌≡◌, ℕ, suc, Bool, true, false, ◌&&◌, ◌||◌, List, [], ◌∷◌, ◌++◌, length, drop, Option, Some, None, option_map, if◌then◌else◌, nat_eq}
 use Rattle.std.specs.List.{list_any}
-use Rattle.blob_directory.specs.declared.rule.Rule.{Rule}
 use Rattle.blob_directory.specs.declared.unsettled.Unsettled.{Unsettled}
 use Rattle.blob_directory.specs.Names.{Edit, Names, all_edited, edited}
-use Rattle.blob_directory.specs.Profiles.{kept_edits, with_seen}
+use Rattle.blob_directory.specs.Profiles.{Rule, kept_edits, with_seen}
 use Rattle.blob_directory.specs.Records.{Found}
 use Rattle.blob_directory.specs.Settled.{IsBeside, changes_entry}
 
@@ -17,7 +16,7 @@ after_loss chosen n (Some (edit, settled) ∷ told) =
 
 -- the edits that count after such a crash, by a rule
 abbrev pub edits_kept : Rule → (ℕ → Bool) → List Found → List Edit
-edits_kept rule chosen told = kept_edits rule false (with_seen rule 0 (after_loss chosen 0 told))
+edits_kept rule chosen told = kept_edits rule false (with_seen rule false 0 (after_loss chosen 0 told))
 
 -- the names that they give
 abbrev pub names_kept : Rule → (ℕ → Bool) → List Found → Names

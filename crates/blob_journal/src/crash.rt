@@ -15,6 +15,7 @@ impl<R: Rng + Drop> Journaled<R> {
     ghost use Rattle.blob_journal.specs.Fixed.{KeepsOpen};
     ghost use Rattle.blob_journal.specs.Journals.{CrashKeeps, GivesNames, store_of};
     ghost use Rattle.blob_journal.specs.Keeping.{KeepsTable, KeepsTold};
+    ghost use Rattle.blob_journal.specs.Logs.{KeepsLog};
     ghost use Rattle.blob_journal.specs.Settling.{CrashKeepsEdits, KeepsUnsettled};
 
     /// Crashes the store. The draws decide which unsynced bytes and which unsettled edits are kept. Handles keep their live
@@ -33,6 +34,7 @@ impl<R: Rng + Drop> Journaled<R> {
         ensures bytes { IfOk result (λ rows. (i : ℕ) → current_file self.new i ≡ crashed_file self.old rows i) }
         ensures edits { IfOk result (λ rows. CrashKeepsEdits self.old rows self.new) }
         ensures unsettled { KeepsUnsettled self.old self.new }
+        ensures log { KeepsLog self.old self.new }
         ensures still { KeepsOpen self.old self.new }
         ensures errors { OnErr result (IsMemory result) }
     {

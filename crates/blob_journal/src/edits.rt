@@ -18,6 +18,7 @@ use crate::store::Store;
 use blob_base::{Error, Probability};
 use blob_directory::edit::{Edit, truncation_of};
 use blob_directory::laws as directory;
+use blob_directory::log::Log;
 use blob_directory::profile::Settles;
 use blob_directory::table::Table;
 use blob_directory::unsettled::{About, Synced, Unsettled, want};
@@ -56,6 +57,7 @@ impl<R: Rng + Drop> Journaled<R> {
     ghost use Rattle.blob_journal.specs.Fixed.{KeepsOpen};
     ghost use Rattle.blob_journal.specs.Settling.{AddsUnsettled, KeepsJournal, KeepsUnsettled, NotesEdit, SettlesEdits, unsettled_of};
     ghost use Rattle.blob_journal.specs.Journals.{store_of};
+    ghost use Rattle.blob_journal.specs.Logs.{Follows, KeepsLog, MarksLast, NotesSync, logged_in};
     ghost use Rattle.blob_journal.specs.Writes.{SameCrashes};
     ghost use Rattle.blob_journal.specs.Keeping.{AddsRecord, AddsTold, Edits, KeepsTable, KeepsTold, SameBindings, SettlesSome, generator_in, names_in, table_in, told_in, with_generator};
 
@@ -67,6 +69,7 @@ impl<R: Rng + Drop> Journaled<R> {
     pub fn new(alloc: Global, rng: R) -> Result<Journaled<R>, Error>
         ensures names { IfOk result (λ j. Same (names_in j) (λ _. None)) }
         ensures told { IfOk result (λ j. told_in j ≡ []) }
+        ensures log { IfOk result (λ j. Same (logged_in j) (λ _. None)) }
     {
         records();
         let memory = blob_memory::Storage::new(alloc);
@@ -78,6 +81,7 @@ impl<R: Rng + Drop> Journaled<R> {
             journal,
             names: Table::new(alloc),
             unsettled: Vec::new(alloc),
+            log: Log::new(alloc),
             next_edit: 0,
             opened: 0,
         })
@@ -103,6 +107,7 @@ impl<R: Rng + Drop> Journaled<R> {
         ensures set { self.new ≡ with_generator self.old rng }
         ensures names { KeepsTable self.old self.new }
         ensures told { KeepsTold self.old self.new }
+        ensures log { KeepsLog self.old self.new }
         ensures still { KeepsOpen self.old self.new }
     {
         self.store.replace_rng(rng)
@@ -114,6 +119,7 @@ impl<R: Rng + Drop> Journaled<R> {
         ensures names { KeepsTable self.old self.new }
         ensures journal { KeepsJournal self.old self.new }
         ensures crashes { SameCrashes self.old self.new }
+        ensures log { KeepsLog self.old self.new }
         ensures still { KeepsOpen self.old self.new }
     {
         self.store.set_config(config);
@@ -164,8 +170,8 @@ impl<R: Rng + Drop> Journaled<R> {
         self.store.next_write()
     }
 
-    /// Adds an edit to the journal, unsynced, in a record of its own, and to those that nothing settled. Changes no name.
-    /// Returns the edit's number.
+    /// Adds an edit to the journal, unsynced, in a record of its own, and to those that nothing settled, with whether the log follows
+    /// it. Changes no name. Returns the edit's number.
     ///
     /// # Errors
     ///
@@ -175,8 +181,10 @@ impl<R: Rng + Drop> Journaled<R> {
         edit: Edit,
         about: About,
         rate: Probability,
+        is_followed: bool,
     ) -> Result<u64, Error>
         ensures noted { IfOk result (λ number. AddsUnsettled (edit_of edit) about number self.old self.new) }
+        ensures marked { OnOk result (MarksLast is_followed self.old self.new) }
         ensures refused { OnErr result (KeepsUnsettled self.old self.new) }
         ensures names { KeepsTable self.old self.new }
         ensures record { OnOk result (AddsRecord (edit_of edit) self.old self.new) }
@@ -184,6 +192,7 @@ impl<R: Rng + Drop> Journaled<R> {
         ensures ends { OnOk result (∥ EndsWithEdit (edit_of edit) rate self.new ∥₁) }
         ensures told { OnOk result (AddsTold (edit_of edit) self.old self.new) }
         ensures untold { OnErr result (KeepsTold self.old self.new) }
+        ensures log { KeepsLog self.old self.new }
         ensures still { KeepsOpen self.old self.new }
     {
         directory::records();
@@ -206,6 +215,7 @@ impl<R: Rng + Drop> Journaled<R> {
             about,
             is_wanted: false,
             is_seen: false,
+            is_followed,
         });
         Ok(number)
     }
@@ -225,14 +235,18 @@ impl<R: Rng + Drop> Journaled<R> {
         ensures refused { OnErr result (SameBindings self.old self.new) }
         ensures told { OnOk result (AddsTold (edit_of edit) self.old self.new) }
         ensures untold { OnErr result (KeepsTold self.old self.new) }
+        ensures followed { OnOk result (Follows (edit_of edit) self.old self.new) }
+        ensures log { OnErr result (Same (logged_in self.old) (logged_in self.new)) }
         ensures still { KeepsOpen self.old self.new }
     {
         self.names.prepare(&edit)?;
-        self.add_edit(edit, about, rate)?;
+        let is_followed = self.log.prepare(&edit)?;
+        self.add_edit(edit, about, rate, is_followed)?;
         let Some(added) = self.unsettled.last() else {
             return Ok(());
         };
         self.names.apply(&added.edit);
+        self.log.follow(&added.edit, is_followed);
         Ok(())
     }
 
@@ -251,10 +265,11 @@ impl<R: Rng + Drop> Journaled<R> {
         ensures ends { OnOk result (∥ EndsWithEdit (resizes inode) rate self.new ∥₁) }
         ensures told { OnOk result (AddsTold (resizes inode) self.old self.new) }
         ensures untold { OnErr result (KeepsTold self.old self.new) }
+        ensures log { KeepsLog self.old self.new }
         ensures still { KeepsOpen self.old self.new }
     {
         let edit = truncation_of(self.alloc, inode)?;
-        self.add_edit(edit, About::of_truncation(inode), rate)
+        self.add_edit(edit, About::of_truncation(inode), rate, false)
     }
 
     /// Settles the edits that a sync settles, and notes that it left the others unsettled. Draws nothing.
@@ -266,10 +281,12 @@ impl<R: Rng + Drop> Journaled<R> {
         ensures names { KeepsTable self.old self.new }
         ensures settled { OnOk result (SettlesEdits settles synced self.old self.new) }
         ensures some { SettlesSome self.old self.new }
+        ensures log { OnOk result (NotesSync settles synced self.old self.new) }
         ensures still { KeepsOpen self.old self.new }
     {
         records();
         want(self.alloc, &mut self.unsettled, settles, synced)?;
+        self.log.note(settles, &self.unsettled)?;
         settle_marked(
             self.alloc,
             &mut self.store,

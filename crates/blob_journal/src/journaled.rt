@@ -9,6 +9,7 @@ ghost use Rattle.blob_journal.specs.Limits.{AcceptsOpens};
 
 use crate::journal::Journal;
 use crate::store::Store;
+use blob_directory::log::Log;
 use blob_directory::table::Table;
 use blob_directory::unsettled::Unsettled;
 use std::alloc::Global;
@@ -21,6 +22,8 @@ pub struct Journaled<R> {
     pub(crate) journal: Journal,
     pub(crate) names: Table,
     pub(crate) unsettled: Vec<Unsettled>,
+    /// The names that the syncs since the last commit have settled.
+    pub(crate) log: Log,
     /// The number of the next edit, counted from the start.
     pub(crate) next_edit: u64,
     /// Above the number of each blob of a file that was opened.

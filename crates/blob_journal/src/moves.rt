@@ -18,6 +18,7 @@ fn is_same(a: Binding, b: Binding) -> bool
 impl<R: Rng + Drop> Journaled<R> {
     ghost use Rattle.blob_journal.specs.Fixed.{KeepsOpen};
     ghost use Rattle.blob_journal.specs.Keeping.{KeepsTable};
+    ghost use Rattle.blob_journal.specs.Logs.{KeepsLog};
     ghost use Rattle.blob_journal.specs.Moves.{AddsName, BindsMoved, BindsMovedAt, TellsAgain};
 
     /// Records a name as an edit of its own, in a directory, if calls see it bound so.
@@ -30,6 +31,7 @@ impl<R: Rng + Drop> Journaled<R> {
     ) -> Result<(), Error>
         ensures names { KeepsTable self.old self.new }
         ensures told { TellsAgain self.old self.new }
+        ensures log { KeepsLog self.old self.new }
         ensures added { OnOk result (AddsName (option_map view_name name) inode directory self.old self.new) }
         ensures still { KeepsOpen self.old self.new }
     {
@@ -43,7 +45,7 @@ impl<R: Rng + Drop> Journaled<R> {
             return Ok(());
         }
         let about = About::of_name(inode, directory);
-        self.add_edit(Edit::one(entry, Some(to)), about, rate)?;
+        self.add_edit(Edit::one(entry, Some(to)), about, rate, false)?;
         Ok(())
     }
 
@@ -51,6 +53,7 @@ impl<R: Rng + Drop> Journaled<R> {
     fn bind_one(&mut self, at: usize, directory: u64, rate: Probability) -> Result<(), Error>
         ensures names { KeepsTable self.old self.new }
         ensures told { TellsAgain self.old self.new }
+        ensures log { KeepsLog self.old self.new }
         ensures bound { OnOk result (BindsMovedAt at directory self.old self.new) }
         ensures still { KeepsOpen self.old self.new }
     {
@@ -75,6 +78,7 @@ impl<R: Rng + Drop> Journaled<R> {
     pub fn bind_moved(&mut self, directory: u64, rate: Probability) -> Result<(), Error>
         ensures names { KeepsTable self.old self.new }
         ensures told { TellsAgain self.old self.new }
+        ensures log { KeepsLog self.old self.new }
         ensures bound { OnOk result (BindsMoved directory self.old self.new) }
         ensures still { KeepsOpen self.old self.new }
     {

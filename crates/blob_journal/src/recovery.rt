@@ -1,8 +1,9 @@
 //! The recovery: names from the journal, and a new journal.
-ghost use Rattle.std.specs.Prelude.{◌≡◌, ◌≤◌, ◌+◌, ◌⊎◌, [], codes, IfOk, OnOk, OnErr};
+ghost use Rattle.std.specs.Prelude.{◌≡◌, ◌≤◌, ◌+◌, ◌⊎◌, [], None, codes, IfOk, OnOk, OnErr};
 ghost use Rattle.std.specs.Int.{w64, to_be_bytes};
 ghost use Rattle.blob_directory.specs.Checkpoints.{FitsJournal};
 ghost use Rattle.blob_directory.specs.Counts.{CountsNames};
+ghost use Rattle.blob_directory.specs.Names.{Same};
 ghost use Rattle.blob_directory.specs.Tables.{bound};
 ghost use Rattle.blob_directory.specs.Trees.{Finds, HasLinks, HasNamedLinks};
 ghost use Rattle.blob_faulty.specs.Wrapper.{inner_of, inside};
@@ -18,8 +19,8 @@ use crate::journaled::Journaled;
 use crate::store::{JOURNALS, Store, discard, remove};
 use blob_base::Error;
 use blob_directory::checkpoint::checkpoint;
+use blob_directory::log::Log;
 use blob_directory::profile::Keeps;
-use blob_directory::rule::Rule;
 use blob_directory::tree::{Tree, kept_names, reached};
 use blob_faulty::Config;
 use blob_faulty::laws::leaves;
@@ -63,6 +64,7 @@ impl<R: Rng + Drop> Journaled<R> {
     ghost use Rattle.blob_journal.specs.Blobs.{SameFiles};
     ghost use Rattle.blob_journal.specs.Errors.{IsFaultless};
     ghost use Rattle.blob_journal.specs.Fixed.{KeepsOpen};
+    ghost use Rattle.blob_journal.specs.Logs.{KeepsLog, logged_in};
     ghost use Rattle.blob_journal.specs.Journals.{FindsNames, GivesNames, store_of};
     ghost use Rattle.blob_journal.specs.Settling.{FindsEdits, KeepsUnsettled, counted, unsettled_of};
     ghost use Rattle.blob_journal.specs.Keeping.{FindsTold, GivesTold, KeepsTable, KeepsTold, SameBindings, names_in, table_in};
@@ -88,6 +90,7 @@ impl<R: Rng + Drop> Journaled<R> {
         ensures counts { IfOk result (λ r. CountsNames r.0) }
         ensures same { OnOk result (SameFiles self.old self.new) }
         ensures still { KeepsOpen self.old self.new }
+        ensures log { KeepsLog self.old self.new }
         ensures faultless { IsFaultless self.new }
         ensures errors { FailsAtLimits (store_of self.new) result }
     {
@@ -95,8 +98,7 @@ impl<R: Rng + Drop> Journaled<R> {
         self.store.set_config(Config::default());
         let generation = self.journal.generation;
         let (_, bytes) = Journal::open(self.alloc, &mut self.store, generation)?;
-        let rule = Rule::of(keeps, &self.unsettled);
-        let (names, kept) = kept_names(self.alloc, &bytes, rule)?;
+        let (names, kept) = kept_names(self.alloc, &bytes, keeps, &self.unsettled)?;
         let edits = self.kept_edits(&kept)?;
         let tree = reached(self.alloc, &names)?;
         Ok((tree, edits))
@@ -139,6 +141,8 @@ impl<R: Rng + Drop> Journaled<R> {
         ensures untold { OnErr result (KeepsTold self.old self.new) }
         ensures same { OnOk result (SameFiles self.old self.new) }
         ensures still { KeepsOpen self.old self.new }
+        ensures log { OnOk result (Same (logged_in self.new) (λ _. None)) }
+        ensures kept_log { OnErr result (KeepsLog self.old self.new) }
         ensures errors { IsFaultless self.old → FailsAtLimits (store_of self.new) result }
     {
         records();
@@ -155,6 +159,7 @@ impl<R: Rng + Drop> Journaled<R> {
         self.journal = journal;
         self.names = names;
         self.unsettled.clear();
+        self.log = Log::new(self.alloc);
         let old_name = old.to_be_bytes();
         let _ = remove(&mut self.store, JOURNALS, &old_name);
         Ok(directories)

@@ -63,7 +63,8 @@ pub enum Edits {
     Prefix,
     /// Any.
     Any,
-    /// Those up to some point, and of the later ones that the last sync left unsettled any that give a name.
+    /// As btrfs does: those up to some point, and of the later ones that the last sync left unsettled any that give a name, and some
+    /// removals.
     Logged,
 }
 

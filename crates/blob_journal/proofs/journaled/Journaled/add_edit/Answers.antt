@@ -87,6 +87,7 @@ returns-clause-noted g c =
       about = c.args.about;
       is_wanted = false;
       is_seen = false;
+      is_followed = c.args.is_followed;
     } in
     record {
       last = last;
@@ -94,6 +95,24 @@ returns-clause-noted g c =
       edit = refl;
       about = refl;
       number = refl;
+    }
+
+pub returns-clause-marked : goal.returns-clause-marked
+returns-clause-marked g c =
+    let last : Unsettled = record {
+      edit = c.args.edit;
+      «record» = c.in_ok-record.record;
+      offset = c.in_ok-record.offset;
+      number = c.args.self.now.next_edit;
+      about = c.args.about;
+      is_wanted = false;
+      is_seen = false;
+      is_followed = c.args.is_followed;
+    } in
+    record {
+      last = last;
+      is = c.push_reserved.ensures.items ∙ ap (λ (l : List Unsettled). l ++ last ∷ []) c.reserve.ensures.items;
+      followed = refl;
     }
 
 pub returns-clause-logged : goal.returns-clause-logged

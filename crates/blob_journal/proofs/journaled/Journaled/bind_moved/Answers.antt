@@ -26,6 +26,7 @@ loop-at-preserved g c =
     record {
       names = c.bind_one.ensures.names ∙ i.names;
       told = tells_twice _ _ _ i.names i.told c.bind_one.ensures.told;
+      log = c.bind_one.ensures.log ∙ i.log;
       still = open_twice _ _ _ i.still c.bind_one.ensures.still;
       more = i.more ++ b.more;
       adds = adds_twice _ _ _ i.more b.more i.adds b.adds;

@@ -21,9 +21,8 @@ use Rattle.blob_memory.specs.declared.storage.Storage as memory
 use Rattle.blob_faulty.specs.Keeps.{OverMemory}
 use Rattle.blob_faulty.specs.Wrapper.{inner_of, inside}
 use Rattle.blob_directory.specs.Names.{Same}
-use Rattle.blob_directory.specs.Profiles.{counts_in, names_told}
+use Rattle.blob_directory.specs.Profiles.{Rule, counts_in, names_told}
 use Rattle.blob_directory.specs.Rules.{rule_of}
-use Rattle.blob_directory.specs.declared.rule.Rule.{Rule}
 use Rattle.blob_directory.specs.Tables.{bound}
 use Rattle.blob_journal.specs.Keeping.{names_in}
 use Rattle.blob_journal.proofs.Currents.{current_of_name}
@@ -39,7 +38,7 @@ pub returns-clause-found : goal.returns-clause-found
 returns-clause-found g c =
     let self = c.args.self.now in
     let rule : Rule = rule_of c.args.keeps self.unsettled.items in
-    let by : c.of-rule.result ≡ rule = c.of-rule.ensures ∙ ap (rule_of c.args.keeps) c.deref.ensures.value in
+    let by : rule_of c.args.keeps c.deref-2.result.now ≡ rule = ap (rule_of c.args.keeps) c.deref-2.ensures.value in
     let at : Place = place (inside self.journal.blob) in
     let name : List ℕ = to_be_bytes w64 self.journal.generation in
     let here : current (directory (inner_of self.store)) (codes "j") name ≡ Some at =
@@ -47,9 +46,9 @@ returns-clause-found g c =
     let inner : inner_of c.set_config.new.self ≡ inner_of self.store = ap (λ (s : OverMemory g.row.R.Denot). inner_of s) c.set_config.ensures.set in
     let found : durable (inner_of c.set_config.new.self) at ≡ Some c.in_ok-bytes.bytes.items =
     c.in_ok-bytes.ensures.found at (ap (λ (s : memory.Storage). current (directory s) (codes "j") name) inner ∙ here) in
-    let told : Same (bound c.in_ok-names.names) (names_told rule c.deref-2.result.now) =
-    λ e. c.in_ok-names.ensures.names e ∙ ap (λ r. names_told r c.deref-2.result.now e) by in
-    let same : Same (bound c.in_ok-names.names) (names_told rule c.in_ok-bytes.bytes.items) = λ e. told e ∙ ap (λ l. names_told rule l e) c.deref-2.ensures.value in
+    let told : Same (bound c.in_ok-names.names) (names_told rule c.deref.result.now) =
+    λ e. c.in_ok-names.ensures.names e ∙ ap (λ r. names_told r c.deref.result.now e) by in
+    let same : Same (bound c.in_ok-names.names) (names_told rule c.in_ok-bytes.bytes.items) = λ e. told e ∙ ap (λ l. names_told rule l e) c.deref.ensures.value in
     record {
       journal = c.in_ok-bytes.bytes.items;
       is = record { place = at; current = here; durable = sym (ap (λ (s : memory.Storage). durable s at) inner) ∙ found };
@@ -60,7 +59,7 @@ pub returns-clause-edits : goal.returns-clause-edits
 returns-clause-edits g c =
     let self = c.args.self.now in
     let rule : Rule = rule_of c.args.keeps self.unsettled.items in
-    let by : c.of-rule.result ≡ rule = c.of-rule.ensures ∙ ap (rule_of c.args.keeps) c.deref.ensures.value in
+    let by : rule_of c.args.keeps c.deref-2.result.now ≡ rule = ap (rule_of c.args.keeps) c.deref-2.ensures.value in
     let at : Place = place (inside self.journal.blob) in
     let name : List ℕ = to_be_bytes w64 self.journal.generation in
     let bytes : List ℕ = c.in_ok-bytes.bytes.items in
@@ -70,7 +69,7 @@ returns-clause-edits g c =
     let found : durable (inner_of c.set_config.new.self) at ≡ Some bytes =
     c.in_ok-bytes.ensures.found at (ap (λ (s : memory.Storage). current (directory s) (codes "j") name) inner ∙ here) in
     let counts : c.deref-3.result.now ≡ counts_in rule bytes =
-    c.deref-3.ensures.value ∙ c.in_ok-names.ensures.kept ∙ ap (λ r. counts_in r c.deref-2.result.now) by ∙ ap (λ l. counts_in rule l) c.deref-2.ensures.value in
+    c.deref-3.ensures.value ∙ c.in_ok-names.ensures.kept ∙ ap (λ r. counts_in r c.deref.result.now) by ∙ ap (λ l. counts_in rule l) c.deref.ensures.value in
     record {
       journal = bytes;
       is = record { place = at; current = here; durable = sym (ap (λ (s : memory.Storage). durable s at) inner) ∙ found };
@@ -89,7 +88,7 @@ pub returns-clause-again : goal.returns-clause-again
 returns-clause-again g c = λ gives.
     let self = c.args.self.now in
     let rule : Rule = rule_of c.args.keeps self.unsettled.items in
-    let by : c.of-rule.result ≡ rule = c.of-rule.ensures ∙ ap (rule_of c.args.keeps) c.deref.ensures.value in
+    let by : rule_of c.args.keeps c.deref-2.result.now ≡ rule = ap (rule_of c.args.keeps) c.deref-2.ensures.value in
     let at : Place = place (inside self.journal.blob) in
     let name : List ℕ = to_be_bytes w64 self.journal.generation in
     let here : current (directory (inner_of self.store)) (codes "j") name ≡ Some at =
@@ -100,9 +99,9 @@ returns-clause-again g c = λ gives.
     let there : at ≡ gives.is.place = some_same (sym here ∙ gives.is.current) in
     let both : Some c.in_ok-bytes.bytes.items ≡ Some gives.journal = sym found ∙ ap (λ (s : memory.Storage). durable s at) inner ∙ ap (λ (o : Place). durable (inner_of self.store) o) there ∙ gives.is.fixed.durable in
     let bytes : c.in_ok-bytes.bytes.items ≡ gives.journal = some_same both in
-    let told : Same (bound c.in_ok-names.names) (names_told rule c.deref-2.result.now) =
-    λ e. c.in_ok-names.ensures.names e ∙ ap (λ r. names_told r c.deref-2.result.now e) by in
-    let same : Same (bound c.in_ok-names.names) (names_in self) = λ e. told e ∙ ap (λ l. names_told rule l e) (c.deref-2.ensures.value ∙ bytes) ∙ gives.gives rule e in
+    let told : Same (bound c.in_ok-names.names) (names_told rule c.deref.result.now) =
+    λ e. c.in_ok-names.ensures.names e ∙ ap (λ r. names_told r c.deref.result.now e) by in
+    let same : Same (bound c.in_ok-names.names) (names_in self) = λ e. told e ∙ ap (λ l. names_told rule l e) (c.deref.ensures.value ∙ bytes) ∙ gives.gives rule e in
     c.in_ok-tree.ensures.finds (names_in self) same
 
 pub returns-clause-files : goal.returns-clause-files
@@ -130,7 +129,7 @@ pub returns-clause-kept : goal.returns-clause-kept
 returns-clause-kept g c =
     let self = c.args.self.now in
     let rule : Rule = rule_of c.args.keeps self.unsettled.items in
-    let by : c.of-rule.result ≡ rule = c.of-rule.ensures ∙ ap (rule_of c.args.keeps) c.deref.ensures.value in
+    let by : rule_of c.args.keeps c.deref-2.result.now ≡ rule = ap (rule_of c.args.keeps) c.deref-2.ensures.value in
     let at : Place = place (inside self.journal.blob) in
     let name : List ℕ = to_be_bytes w64 self.journal.generation in
     let bytes : List ℕ = c.in_ok-bytes.bytes.items in
@@ -141,11 +140,11 @@ returns-clause-kept g c =
     c.in_ok-bytes.ensures.found at (ap (λ (s : memory.Storage). current (directory s) (codes "j") name) inner ∙ here) in
     let there : durable (inner_of self.store) at ≡ Some bytes = sym (ap (λ (s : memory.Storage). durable s at) inner) ∙ found in
     let edits = found_now c.records.ensures.kept c.records.ensures.found rule self.store self.journal self.unsettled.items bytes self.kept there in
-    let told : Same (bound c.in_ok-names.names) (names_told rule c.deref-2.result.now) =
-    λ e. c.in_ok-names.ensures.names e ∙ ap (λ r. names_told r c.deref-2.result.now e) by in
+    let told : Same (bound c.in_ok-names.names) (names_told rule c.deref.result.now) =
+    λ e. c.in_ok-names.ensures.names e ∙ ap (λ r. names_told r c.deref.result.now e) by in
     let chosen = chosen_of (found_in bytes) in
     let same : Same (bound c.in_ok-names.names) (names_kept rule chosen (told_in self)) =
-    λ e. told e ∙ ap (λ l. names_told rule l e) c.deref-2.ensures.value ∙ ap (λ es. all_edited (λ _. None) es e) edits in
+    λ e. told e ∙ ap (λ l. names_told rule l e) c.deref.ensures.value ∙ ap (λ es. all_edited (λ _. None) es e) edits in
     record { chosen = chosen; finds = c.in_ok-tree.ensures.finds (names_kept rule chosen (told_in self)) same }
 
 pub returns-clause-same : goal.returns-clause-same

@@ -169,7 +169,7 @@ returns-clause-told g c = λ fits.
     record {
       settled = subst AreSettled (sym told) settled;
       names = λ rule chosen e. ap (λ (l : List Found). names_kept rule chosen l e) told
-          ∙ ap (λ (l : List Found). all_edited (λ _. None) (kept_edits rule false (with_seen rule 0 l)) e) (none_lost chosen 0 (found_in bytes) settled)
+          ∙ ap (λ (l : List Found). all_edited (λ _. None) (kept_edits rule false (with_seen rule false 0 l)) e) (none_lost chosen 0 (found_in bytes) settled)
           ∙ c.in_ok-bytes.ensures.gives fits rule e;
     }
 

@@ -21,6 +21,8 @@ use Rattle.blob_directory.specs.declared.unsettled.Unsettled.{Unsettled}
 use Rattle.blob_directory.specs.Syncs.{Wants, marked}
 use Rattle.blob_memory.specs.Store.{place}
 use Rattle.blob_faulty.specs.Wrapper.{inside}
+use Rattle.blob_directory.specs.Logs.{logged_after}
+use Rattle.blob_journal.specs.Logs.{logged_in}
 use Rattle.blob_journal.specs.Settling.{Changes, all_settled}
 use Rattle.std.specs.Prelude.{codes, filter}
 use Rattle.blob_journal.proofs.Blobs.{journal_apart}
@@ -56,6 +58,27 @@ invariant_of-self-in-Break-branch-2 g c =
     c.deref.ensures.value
     ∙ whole c.want.new.edits edits self.unsettled.len (ap (λ (l : List Unsettled). length l) m.is ∙ length-map c.deref_mut.result.now (marked m.wants) ∙ ap (λ (l : List Unsettled). length l) value) self.unsettled.ok.0
     ∙ m.is ∙ ap (map (marked m.wants)) value in
+    record {
+      partition = self.partition;
+      name = self.name;
+      current = self.current;
+      given = self.given;
+      numbered = self.numbered;
+      accepted = self.accepted;
+      kept = ∥∥₁_map self.kept (λ k. subst (λ (es : List Unsettled). IsKept self.store self.journal es) c.deref.ensures.value
+          (marked_kept self.store self.journal edits c.deref.result.now m.wants same k));
+    }
+
+pub invariant_of-self-in-Break-branch-3 : goal.invariant_of-self-in-Break-branch-3
+invariant_of-self-in-Break-branch-3 g c =
+    let self = c.args.self.now in
+    let edits : List Unsettled = self.unsettled.items in
+    let m = c.in_ok-want.ensures.marks in
+    let value : c.deref_mut.result.now ≡ edits = c.deref_mut.ensures.value in
+    let same : c.deref-2.result.now ≡ map (marked m.wants) edits =
+    c.deref-2.ensures.value
+    ∙ whole c.want.new.edits edits self.unsettled.len (ap (λ (l : List Unsettled). length l) m.is ∙ length-map c.deref_mut.result.now (marked m.wants) ∙ ap (λ (l : List Unsettled). length l) value) self.unsettled.ok.0
+    ∙ m.is ∙ ap (map (marked m.wants)) value in
     let new = c.settle_marked.new.store in
     let s = c.settle_marked.ensures in
     record {
@@ -65,8 +88,8 @@ invariant_of-self-in-Break-branch-2 g c =
       given = still_given self.store new self.opened (same_next (directory (inner_of self.store)) (directory (inner_of new)) s.directory) self.given;
       numbered = still_numbered self.journal c.settle_marked.new.journal s.place s.generation self.numbered;
       accepted = still_accepted self.store new s.directory self.accepted;
-      kept = ∥∥₁_map self.kept (λ k. subst (λ (es : List Unsettled). IsKept new c.settle_marked.new.journal es) c.deref.ensures.value
-          (s.kept (marked_kept self.store self.journal edits c.deref.result.now m.wants same k)));
+      kept = ∥∥₁_map self.kept (λ k. subst (λ (es : List Unsettled). IsKept new c.settle_marked.new.journal es) c.deref-2.ensures.value
+          (s.kept (marked_kept self.store self.journal edits c.deref-2.result.now m.wants same k)));
     }
 
 pub invariant_of-self-2 : goal.invariant_of-self-2
@@ -75,8 +98,8 @@ invariant_of-self-2 g c =
     let edits : List Unsettled = self.unsettled.items in
     let m = c.in_ok-want.ensures.marks in
     let value : c.deref_mut.result.now ≡ edits = c.deref_mut.ensures.value in
-    let same : c.deref.result.now ≡ map (marked m.wants) edits =
-    c.deref.ensures.value
+    let same : c.deref-2.result.now ≡ map (marked m.wants) edits =
+    c.deref-2.ensures.value
     ∙ whole c.want.new.edits edits self.unsettled.len (ap (λ (l : List Unsettled). length l) m.is ∙ length-map c.deref_mut.result.now (marked m.wants) ∙ ap (λ (l : List Unsettled). length l) value) self.unsettled.ok.0
     ∙ m.is ∙ ap (map (marked m.wants)) value in
     let new = c.settle_marked.new.store in
@@ -90,8 +113,8 @@ invariant_of-self-2 g c =
       numbered = still_numbered self.journal c.settle_marked.new.journal s.place s.generation self.numbered;
       accepted = still_accepted self.store new s.directory self.accepted;
       kept = ∥∥₁_map self.kept (λ k.
-          let was : IsKept self.store self.journal c.deref.result.now = marked_kept self.store self.journal edits c.deref.result.now m.wants same k in
-          filtered_kept self.store new self.journal c.settle_marked.new.journal c.deref.result.now _ (left ∙ ap (filter unwanted) (sym c.deref.ensures.value))
+          let was : IsKept self.store self.journal c.deref-2.result.now = marked_kept self.store self.journal edits c.deref-2.result.now m.wants same k in
+          filtered_kept self.store new self.journal c.settle_marked.new.journal c.deref-2.result.now _ (left ∙ ap (filter unwanted) (sym c.deref-2.ensures.value))
           (c.in_ok-settle_marked.ensures.told was) was (s.kept was));
     }
 
@@ -101,8 +124,8 @@ returns-clause-settled g c =
     let edits : List Unsettled = self.unsettled.items in
     let m = c.in_ok-want.ensures.marks in
     let value : c.deref_mut.result.now ≡ edits = c.deref_mut.ensures.value in
-    let same : c.deref.result.now ≡ map (marked m.wants) edits =
-    c.deref.ensures.value
+    let same : c.deref-2.result.now ≡ map (marked m.wants) edits =
+    c.deref-2.ensures.value
     ∙ whole c.want.new.edits edits self.unsettled.len (ap (λ (l : List Unsettled). length l) m.is ∙ length-map c.deref_mut.result.now (marked m.wants) ∙ ap (λ (l : List Unsettled). length l) value) self.unsettled.ok.0
     ∙ m.is ∙ ap (map (marked m.wants)) value in
     record {
@@ -110,12 +133,15 @@ returns-clause-settled g c =
       wants = m.wants;
       exactly = subst (λ (l : List Unsettled). Wants c.args.settles c.args.synced l m.wants) value m.exactly;
       journal = subst (λ (l : List Unsettled). Changes self.store c.settle_marked.new.store (place (inside self.journal.blob)) (all_settled l)) same c.in_ok-settle_marked.ensures.settled;
-      told = ∥∥₁_elim self.kept (told_prop _ _) (λ k. c.in_ok-settle_marked.ensures.told (marked_kept self.store self.journal edits c.deref.result.now m.wants same k)
+      told = ∥∥₁_elim self.kept (told_prop _ _) (λ k. c.in_ok-settle_marked.ensures.told (marked_kept self.store self.journal edits c.deref-2.result.now m.wants same k)
           ∙ ap (λ (es : List Unsettled). settled_in (is_marked_in es) 0 (told_by self.journal)) same);
     }
 
 pub returns-in_err-want-clause-some : goal.returns-in_err-want-clause-some
 returns-in_err-want-clause-some g c = record { grows = grows_same (told_by c.args.self.now.journal); length = refl }
+
+pub returns-in_err-note-clause-some : goal.returns-in_err-note-clause-some
+returns-in_err-note-clause-some g c = record { grows = grows_same (told_by c.args.self.now.journal); length = refl }
 
 pub returns-in_err-settle_marked-clause-some : goal.returns-in_err-settle_marked-clause-some
 returns-in_err-settle_marked-clause-some g c =
@@ -123,14 +149,14 @@ returns-in_err-settle_marked-clause-some g c =
     let edits : List Unsettled = self.unsettled.items in
     let m = c.in_ok-want.ensures.marks in
     let value : c.deref_mut.result.now ≡ edits = c.deref_mut.ensures.value in
-    let same : c.deref.result.now ≡ map (marked m.wants) edits =
-    c.deref.ensures.value
+    let same : c.deref-2.result.now ≡ map (marked m.wants) edits =
+    c.deref-2.ensures.value
     ∙ whole c.want.new.edits edits self.unsettled.len (ap (λ (l : List Unsettled). length l) m.is ∙ length-map c.deref_mut.result.now (marked m.wants) ∙ ap (λ (l : List Unsettled). length l) value) self.unsettled.ok.0
     ∙ m.is ∙ ap (map (marked m.wants)) value in
     record {
-      grows = ∥∥₁_elim self.kept (grows_prop _ _) (λ k. c.settle_marked.ensures.grows (marked_kept self.store self.journal edits c.deref.result.now m.wants same k));
-      length = same_length c.records.ensures.found self.store c.settle_marked.new.store self.journal c.settle_marked.new.journal edits c.deref.result.now c.settle_marked.ensures.records self.kept
-          (∥∥₁_map self.kept (λ k. c.settle_marked.ensures.kept (marked_kept self.store self.journal edits c.deref.result.now m.wants same k)));
+      grows = ∥∥₁_elim self.kept (grows_prop _ _) (λ k. c.settle_marked.ensures.grows (marked_kept self.store self.journal edits c.deref-2.result.now m.wants same k));
+      length = same_length c.records.ensures.found self.store c.settle_marked.new.store self.journal c.settle_marked.new.journal edits c.deref-2.result.now c.settle_marked.ensures.records self.kept
+          (∥∥₁_map self.kept (λ k. c.settle_marked.ensures.kept (marked_kept self.store self.journal edits c.deref-2.result.now m.wants same k)));
     }
 
 pub returns-clause-some : goal.returns-clause-some
@@ -139,14 +165,14 @@ returns-clause-some g c =
     let edits : List Unsettled = self.unsettled.items in
     let m = c.in_ok-want.ensures.marks in
     let value : c.deref_mut.result.now ≡ edits = c.deref_mut.ensures.value in
-    let same : c.deref.result.now ≡ map (marked m.wants) edits =
-    c.deref.ensures.value
+    let same : c.deref-2.result.now ≡ map (marked m.wants) edits =
+    c.deref-2.ensures.value
     ∙ whole c.want.new.edits edits self.unsettled.len (ap (λ (l : List Unsettled). length l) m.is ∙ length-map c.deref_mut.result.now (marked m.wants) ∙ ap (λ (l : List Unsettled). length l) value) self.unsettled.ok.0
     ∙ m.is ∙ ap (map (marked m.wants)) value in
     record {
-      grows = ∥∥₁_elim self.kept (grows_prop _ _) (λ k. c.settle_marked.ensures.grows (marked_kept self.store self.journal edits c.deref.result.now m.wants same k));
-      length = same_length c.records.ensures.found self.store c.settle_marked.new.store self.journal c.settle_marked.new.journal edits c.deref.result.now c.settle_marked.ensures.records self.kept
-          (∥∥₁_map self.kept (λ k. c.settle_marked.ensures.kept (marked_kept self.store self.journal edits c.deref.result.now m.wants same k)));
+      grows = ∥∥₁_elim self.kept (grows_prop _ _) (λ k. c.settle_marked.ensures.grows (marked_kept self.store self.journal edits c.deref-2.result.now m.wants same k));
+      length = same_length c.records.ensures.found self.store c.settle_marked.new.store self.journal c.settle_marked.new.journal edits c.deref-2.result.now c.settle_marked.ensures.records self.kept
+          (∥∥₁_map self.kept (λ k. c.settle_marked.ensures.kept (marked_kept self.store self.journal edits c.deref-2.result.now m.wants same k)));
     }
 
 pub returns-in_err-settle_marked-clause-still : goal.returns-in_err-settle_marked-clause-still
@@ -164,3 +190,19 @@ returns-clause-still g c =
     let s = c.settle_marked.ensures in
     keeps_open _ _ (incarnations_same self.store c.settle_marked.new.store s.directory (codes "f"))
     (λ o test f k. s.beside (current_given self.store at self.current) o test (journal_apart at o self.partition f) k)
+
+pub returns-clause-log : goal.returns-clause-log
+returns-clause-log g c =
+    let self = c.args.self.now in
+    let edits : List Unsettled = self.unsettled.items in
+    let m = c.in_ok-want.ensures.marks in
+    let value : c.deref_mut.result.now ≡ edits = c.deref_mut.ensures.value in
+    let same : c.deref.result.now ≡ map (marked m.wants) edits =
+    c.deref.ensures.value
+    ∙ whole c.want.new.edits edits self.unsettled.len (ap (λ (l : List Unsettled). length l) m.is ∙ length-map c.deref_mut.result.now (marked m.wants) ∙ ap (λ (l : List Unsettled). length l) value) self.unsettled.ok.0
+    ∙ m.is ∙ ap (map (marked m.wants)) value in
+    record {
+      wants = m.wants;
+      exactly = subst (λ (l : List Unsettled). Wants c.args.settles c.args.synced l m.wants) value m.exactly;
+      log = λ e. c.in_ok-note.ensures e ∙ ap (λ (l : List Unsettled). logged_after c.args.settles l (logged_in self) e) same;
+    }
