@@ -269,6 +269,11 @@ def test_outcomes():
     assert list(outcomes(edits[:3], 2, None)) == [(0, 0, 0), (1, 0, 1), (0, 1, 1), (0, 0, 1), (1, 1, 1)] and count_outcomes(edits[:3], 2) == 5
     removal = [edits[0], edits[1]._replace(is_removal=True), edits[2]]
     assert list(outcomes(removal, 2, None)) == [(0, 0, 0), (1, 1, 1), (0, 1, 1), (0, 0, 1)] and count_outcomes(removal, 2) == 4
+    # If the log follows the removal, it may be kept alone too, but not without an earlier edit that the log follows.
+    removal[1] = removal[1]._replace(is_followed=True)
+    assert list(outcomes(removal, 2, None)) == [(0, 0, 0), (1, 0, 1), (0, 1, 1), (0, 0, 1), (1, 1, 1)] and count_outcomes(removal, 2) == 5
+    removal[0] = removal[0]._replace(is_followed=True)
+    assert list(outcomes(removal, 2, None)) == [(0, 0, 0), (1, 1, 1), (0, 1, 1), (0, 0, 1)] and count_outcomes(removal, 2) == 4
     assert runs("110100", "1", 8) == [(8, 10), (11, 12)] and runs("110100", "0", 8) == [(10, 11), (12, 14)]
 
 

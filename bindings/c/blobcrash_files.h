@@ -202,6 +202,15 @@ struct blobcrash_file_reply blobcrash_files_kept_place(struct blobcrash_files *f
  */
 struct blobcrash_ran blobcrash_files_kept_edit(struct blobcrash_files *files, size_t index);
 
+/*
+ * Returns in `len` 1 if the log of the syncs follows the unsettled edit with this index, from 0 on in the order of their issue, and 0 if
+ * not: it frees a name that a sync has settled since the last commit, in a profile whose syncs write a log. docs/FILES.md says what a
+ * crash keeps of such edits.
+ *
+ * DONE; OTHER_REPLY if there is no such edit; CLOSED. None changes anything.
+ */
+struct blobcrash_ran blobcrash_files_follows(struct blobcrash_files *files, size_t index);
+
 /* As blobcrash_words_left and blobcrash_push_words. */
 struct blobcrash_ran blobcrash_files_words_left(struct blobcrash_files *files);
 uint32_t blobcrash_files_push_words(struct blobcrash_files *files, const uint64_t *words, size_t count);

@@ -47,6 +47,7 @@ static void closed_files(void) {
         CHECK(blobcrash_files_kept_run(&files, 0, 0).status == BLOBCRASH_CLOSED);
         CHECK(refuses(blobcrash_files_kept_place(&files, 0), BLOBCRASH_CLOSED));
         CHECK(blobcrash_files_kept_edit(&files, 0).status == BLOBCRASH_CLOSED);
+        CHECK(blobcrash_files_follows(&files, 0).status == BLOBCRASH_CLOSED);
         CHECK(refuses(blobcrash_files_path(&files, 0, into, 3), BLOBCRASH_CLOSED) && memcmp(into, "...", 4) == 0);
         CHECK(refuses(blobcrash_files_path_found(&files, 0), BLOBCRASH_CLOSED));
         CHECK(durable_is(2, into, 3, BLOBCRASH_CLOSED, 0) && memcmp(into, "...", 4) == 0);
@@ -277,6 +278,17 @@ static bool is_run(struct blobcrash_kept_run run, size_t bytes, size_t start, si
     return run.status == BLOBCRASH_DONE && run.bytes == bytes && run.start == start && run.len == len;
 }
 
+/* On btrfs the log follows the removal of a name that a sync has settled, and not the making of another one. */
+static void follows(void) {
+    begin("profile btrfs\n");
+    CHECK(is(on(BLOBCRASH_F_CREATE, "/a"), 0, 0, 0) && blobcrash_files_follows(&files, 0).status == BLOBCRASH_DONE);
+    CHECK(is(by(BLOBCRASH_F_SYNC, 0), 0, 0, 0) && blobcrash_files_follows(&files, 0).status == BLOBCRASH_OTHER_REPLY);
+    CHECK(ends(BLOBCRASH_F_UNLINK, "/a") == BLOBCRASH_DONE && is(on(BLOBCRASH_F_CREATE, "/b"), 0, 1, 0));
+    CHECK(blobcrash_files_follows(&files, 0).len == 1 && blobcrash_files_follows(&files, 1).len == 0);
+    CHECK(blobcrash_files_follows(&files, 2).status == BLOBCRASH_OTHER_REPLY &&
+          blobcrash_files_follows(&files, SIZE_MAX).status == BLOBCRASH_OTHER_REPLY);
+}
+
 /* A word of 0 keeps, `max` loses. */
 static void crashes(void) {
     begin("words max\nprofile posix\nconfig write 0 1 1 2 sectors 2\n");
@@ -391,6 +403,7 @@ int main(void) {
     refusals();
     hostile_arguments();
     trees();
+    follows();
     crashes();
     refused_memory();
     too_many_links();

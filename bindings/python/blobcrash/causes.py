@@ -7,7 +7,7 @@ from typing import List, NamedTuple, Optional, Set, Tuple
 
 from .called import Called
 from .crash_places import Place, State
-from .crash_units import Key, Lost, Unit, is_alone, runs
+from .crash_units import Key, Lost, Unit, is_alone, is_in_log, runs
 from .recorded_run import AddedSync, RecordedRun
 from .state_checks import Known
 from .states import CrashState
@@ -114,11 +114,12 @@ def dropped_cause(place: Place, dropped: List[Tuple[int, List[Unit]]], shown: Cr
 
 def _losses(place: Place, lost: Lost, state: State) -> List[Loss]:
     """What an outcome loses. Of edits that are lost since an earlier one is, only that one."""
-    losses, has_edit = [], False
+    losses, has_edit, is_behind = [], False, False
     for unit, bits, row in zip(place.units, lost, place.rows(state)):
-        if not bits or (unit.is_edit and not is_alone(unit, place.alone_to) and has_edit):
+        is_with = has_edit and not is_alone(unit, place.alone_to) or is_behind and is_in_log(unit, place.alone_to)
+        if not bits or (unit.is_edit and is_with):
             continue
-        has_edit = has_edit or unit.is_edit
+        has_edit, is_behind = has_edit or unit.is_edit, is_behind or unit.is_followed
         kept = () if unit.is_edit else tuple(runs(row.kept, "1", unit.offset))
         gone = () if unit.is_edit else tuple(runs(row.kept, "0", unit.offset))
         losses.append(Loss(unit.key, unit.is_edit, bits != unit.all, unit.inode, unit.offset, kept, gone))

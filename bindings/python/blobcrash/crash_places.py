@@ -3,6 +3,7 @@
 from __future__ import annotations
 
 import hashlib
+import itertools
 from collections import deque
 from typing import Any, Deque, Dict, FrozenSet, Iterable, Iterator, List, NamedTuple, Optional, Sequence, Tuple
 
@@ -175,10 +176,17 @@ class Walk:
             key = self._made[row.write]
             text = self.run.lines[key[0] - 1]
             units.append(unit_of(row, key, self.run.is_files, self.run.mode(key[0]), text))
+        if self._keeps == "logged":
+            units = self._with_followed(units)
         drawn = sum(unit.draws for unit in units)
         if drawn != len(taken):
             raise RuntimeError(f"a crash after line {line} makes {len(taken)} draws, and {drawn} were expected")
         return units
+
+    def _with_followed(self, units: List[Unit]) -> List[Unit]:
+        """The same, each edit with whether the log follows it. The edits are in the order of their calls."""
+        at = itertools.count()
+        return [unit._replace(is_followed=self.replay.follows(next(at))) if unit.is_edit else unit for unit in units]
 
     def _see_dropped(self, line: int, before: List[Unit], units: List[Unit]) -> None:
         """Notes what a call that failed has dropped."""

@@ -36,6 +36,8 @@ class Unit(NamedTuple):
     length: int
     # An edit that binds no name: a removal or a truncation.
     is_removal: bool = False
+    # An edit that frees a name which the log of the syncs has.
+    is_followed: bool = False
 
     @property
     def line(self) -> int:
@@ -54,9 +56,14 @@ class Unit(NamedTuple):
 
 
 def is_alone(unit: Unit, alone_to: int) -> bool:
-    """Whether a crash may lose what is before an edit, and not the edit: it binds a name, and was made up to the line `alone_to`. With the
-    greatest number that is so of each edit."""
-    return alone_to == MAX or (unit.line <= alone_to and not unit.is_removal)
+    """Whether a crash may lose what is before an edit, and not the edit: it binds a name, or the log follows it, and it was made up to the
+    line `alone_to`. With the greatest number that is so of each edit."""
+    return alone_to == MAX or (unit.line <= alone_to and (unit.is_followed or not unit.is_removal))
+
+
+def is_in_log(unit: Unit, alone_to: int) -> bool:
+    """Whether a crash keeps such an edit only with all edits before it that the log follows: it is a removal."""
+    return alone_to != MAX and unit.line <= alone_to and unit.is_followed and unit.is_removal
 
 
 def rows_of(reply: Any) -> List[Row]:
@@ -86,12 +93,14 @@ def words_of_outcome(units: Sequence[Unit], lost: Lost) -> List[int]:
 
 
 def canonical(units: Sequence[Unit], lost: Lost, alone_to: int) -> Lost:
-    """The same outcome with all that is lost with it: of a write in the mode `prefix` the rest, and each edit after a lost one that isn't
-    lost alone."""
-    found, is_after = [], False
+    """The same outcome with all that is lost with it: of a write in the mode `prefix` the rest, each edit after a lost one that isn't lost
+    alone, and each removal in the log after a lost edit that the log follows."""
+    found, is_after, is_behind = [], False, False
     for unit, bits in zip(units, lost):
         if unit.is_edit:
-            bits = 1 if bits or (is_after and not is_alone(unit, alone_to)) else 0
+            is_with = is_after and not is_alone(unit, alone_to) or is_behind and is_in_log(unit, alone_to)
+            is_behind = is_behind or (unit.is_followed and bits != 0)
+            bits = 1 if bits or is_with else 0
             is_after = is_after or bits != 0
         elif unit.is_prefix and bits:
             bits = unit.all & ~((1 << _first(bits)) - 1)
@@ -114,9 +123,15 @@ def outcomes(units: Sequence[Unit], alone_to: int, limit: Optional[int]) -> Iter
 
 def count_outcomes(units: Sequence[Unit], alone_to: int) -> int:
     """How many outcomes there are."""
-    edits = [is_alone(unit, alone_to) for unit in units if unit.is_edit]
-    # With none lost, and with the first one lost at each place: then those later that aren't lost with it, in any way.
-    count = 1 + sum(1 << sum(edits[at + 1 :]) for at in range(len(edits)))
+    # With none lost, and with the first one lost at each place: then those later that aren't lost with it, in any way. `after` and `behind`
+    # are the ways from an edit on, without and with a lost one before it that the log follows.
+    count, after, behind = 1, 1, 1
+    for unit in reversed([unit for unit in units if unit.is_edit]):
+        count += behind if unit.is_followed else after
+        if is_in_log(unit, alone_to):
+            after += behind
+        elif is_alone(unit, alone_to):
+            after, behind = after + (behind if unit.is_followed else after), 2 * behind
     for unit in units:
         if not unit.is_edit:
             count *= unit.draws + 1 if unit.is_prefix else 1 << unit.draws
@@ -153,9 +168,13 @@ def _in_order(units: Sequence[Unit], alone_to: int) -> Iterator[Lost]:
 
 
 def _alone(units: Sequence[Unit], at: int, alone_to: int) -> Tuple[int, ...]:
-    """The group of which a crash that loses two parts loses the same as one that loses the first: the edits that aren't lost alone. Empty
-    for what is in no group."""
-    return (-1,) if units[at].is_edit and not is_alone(units[at], alone_to) else ()
+    """The group of which a crash that loses two parts loses the same as one that loses the first: the edits that aren't lost alone, and the
+    removals in the log. Empty for what is in no group."""
+    if not units[at].is_edit:
+        return ()
+    if not is_alone(units[at], alone_to):
+        return (-1,)
+    return (-2,) if is_in_log(units[at], alone_to) else ()
 
 
 def _several(parts: Sequence[Tuple[int, int]], groups: Sequence[Tuple[int, ...]]) -> Iterator[List[Tuple[int, int]]]:

@@ -52,6 +52,10 @@ class FilesLibrary(InProcess):
             return Kept([self._row(row) for row in rows], edits, [self._place(row) for row in rows])
         return Found(reply.kind, reply.number, reply.size)
 
+    def follows(self, edit: int) -> bool:
+        """Returns whether the log of the syncs follows an unsettled edit, counted in the order of their calls."""
+        return bool(self._length("follows", edit))
+
     def inode_at(self, descriptor: int) -> int:
         """Returns the inode of an open file."""
         found = self.apply(FileCall("inode_of", descriptor))

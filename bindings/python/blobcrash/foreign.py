@@ -117,6 +117,7 @@ _OF_SESSIONS = {
     "files_kept_run": (KeptRun, _size, _size),
     "files_kept_place": (FileReply, _size),
     "files_kept_edit": (Ran, _size),
+    "files_follows": (Ran, _size),
     "files_words_left": (Ran,),
     "files_push_words": (_status, _words, _size),
     "files_power_off_after": (_status, _number),

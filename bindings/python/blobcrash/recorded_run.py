@@ -211,6 +211,10 @@ class Replay:
                 for setting in self._run.settings[self.line] or [text]:
                     self._make(setting, self._run.made[self.line - 1])
 
+    def follows(self, edit: int) -> bool:
+        """Whether the log of the syncs follows an unsettled edit of files."""
+        return bool(self._session.follows(edit))
+
     def crash(self, words: List[int]) -> Tuple[List[int], Any]:
         """Crashes by these words. Returns those that it took, and its reply. From then on only `content` can be called."""
         before = self._session.words_left() + len(words)

@@ -64,6 +64,7 @@ class ReplayedFiles:
     def __init__(self, images: List[str], words: List[int]) -> None:
         self._files = FilesLibrary(f"{_words_line(words)}\n".encode())
         self.words_left = self._files.words_left
+        self.follows = self._files.follows
 
     @staticmethod
     def changes(line: str) -> bool:

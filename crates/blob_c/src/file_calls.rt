@@ -2,7 +2,7 @@
 ghost use Rattle.std.specs.Prelude.{◌≡◌, ◌⊎◌, None, IsSome, IfSome};
 ghost use Rattle.blob_fs.specs.Files.{names_of};
 ghost use Rattle.blob_directory.specs.Names.{Same};
-ghost use Rattle.blob_file_sessions.specs.Calls.{TellsFileWords};
+ghost use Rattle.blob_file_sessions.specs.Calls.{TellsFileWords, TellsFollowed};
 ghost use Rattle.blob_file_sessions.specs.Exports.{AnswersCall, CopiesDurableFrom, CopiesEntryFrom, CopiesPathFrom, InsertsFileWords, MakesSetting, ReadsFiles, ReadsInto, WritesBytes};
 ghost use Rattle.blob_file_sessions.specs.Held.{files_of, fs_of};
 ghost use Rattle.blob_file_sessions.specs.LastParts.{FindsRow, TellsEdit, TellsPlace};
@@ -261,6 +261,21 @@ pub extern "C" fn blobcrash_files_kept_edit(alloc: Global, files: &mut Files, in
         return Ran::stopped(CLOSED);
     };
     let ran = kept.kept_edit(index);
+    files.put(kept);
+    ran
+}
+
+/// Returns in `len` 1 if the log of the syncs follows the unsettled edit with this index, and 0 if not. Changes nothing.
+///
+/// `OTHER_REPLY` if there is no such edit; `CLOSED`.
+#[unsafe(no_mangle)]
+pub extern "C" fn blobcrash_files_follows(alloc: Global, files: &mut Files, index: usize) -> Ran
+    ensures { ReadsFiles files.old files.new (λ k. TellsFollowed k index result) (result ≡ stopped CLOSED) }
+{
+    let Some(kept) = files.take(alloc) else {
+        return Ran::stopped(CLOSED);
+    };
+    let ran = kept.follows(index);
     files.put(kept);
     ran
 }

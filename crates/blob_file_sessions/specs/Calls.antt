@@ -1,14 +1,17 @@
 -- Calls on files, by the status that they return. If no call was made, nothing has changed.
-use Rattle.std.specs.Prelude.{◌≡◌, ◌⊎◌, ◌++◌, ℕ, List, true, Some, MatchOption, is_some}
+use Rattle.std.specs.Prelude.{◌≡◌, ◌⊎◌, ◌++◌, ℕ, List, true, Some, MatchOption, is_some, slice_get}
 use Rattle.blob_lab_model.specs.Scripted.{scripted_stream}
 use Rattle.blob_tree.specs.WordsLeft.{EndsAfter}
-use Rattle.blob_fs.specs.Files.{KeepsNames, generator_of}
-use Rattle.blob_statuses.specs.declared.ran.TheConstants.{BAD_CALL, BAD_LINE, DONE, ENDLESS, NO_MEMORY}
+use Rattle.blob_fs.specs.Files.{KeepsNames, generator_of, journaled_of}
+use Rattle.blob_journal.specs.Settling.{unsettled_of}
+use Rattle.blob_sessions.specs.Sessions.{stopped}
+use Rattle.blob_statuses.specs.declared.ran.TheConstants.{BAD_CALL, BAD_LINE, DONE, ENDLESS, NO_MEMORY, OTHER_REPLY}
 use Rattle.blob_statuses.specs.declared.ran.Ran.{Ran}
 use Rattle.blob_fs.specs.Acts.{Act, Read, Write}
 use Rattle.blob_fs.specs.Performs.{Performs}
 use Rattle.blob_file_sessions.specs.Held.{fs_of}
 use Rattle.blob_file_sessions.specs.Kinds.{call_of, descriptor}
+use Rattle.blob_file_sessions.specs.LastParts.{one_if}
 use Rattle.blob_file_sessions.specs.Replies.{file_reply, no_reply}
 use Rattle.blob_file_sessions.specs.declared.call.FileCall.{FileCall}
 use Rattle.blob_file_sessions.specs.declared.call.FileReply.{FileReply}
@@ -47,6 +50,12 @@ pub record Configures (k k' : KeptFiles) (status : ℕ) : Type 0 where
   pub no_memory : status ≡ NO_MEMORY → k' ≡ k
   pub last : k'.last ≡ k.last
   pub known : (status ≡ DONE) ⊎ (status ≡ BAD_LINE) ⊎ (status ≡ NO_MEMORY)
+
+-- whether the log of the syncs follows an unsettled edit
+abbrev pub TellsFollowed : KeptFiles → ℕ → Ran → Type 0
+TellsFollowed k index ran =
+    MatchOption (slice_get (unsettled_of (journaled_of (fs_of k))) index) (ran ≡ stopped OTHER_REPLY)
+    (λ edit. ran ≡ record { status = DONE; len = one_if edit.is_followed })
 
 -- `len` words are left, after which all words are zero; or a seed gives the words after them
 pub record TellsFileWords (k : KeptFiles) (ran : Ran) : Type 0 where

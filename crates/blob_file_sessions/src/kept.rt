@@ -3,7 +3,7 @@ ghost use Rattle.std.specs.Prelude.{◌≡◌, false, None, OnErr, length, optio
 ghost use Rattle.blob_fs.specs.Files.{KeepsNames};
 ghost use Rattle.blob_file_sessions.specs.Held.{fs_of};
 ghost use Rattle.blob_fs.specs.Acts.{Tree, act_of};
-ghost use Rattle.blob_file_sessions.specs.Calls.{Answers, Configures, Makes, Reads, TakesWords, TellsFileWords, Writes};
+ghost use Rattle.blob_file_sessions.specs.Calls.{Answers, Configures, Makes, Reads, TakesWords, TellsFileWords, TellsFollowed, Writes};
 ghost use Rattle.blob_file_sessions.specs.Replies.{last_reply};
 ghost use Rattle.blob_statuses.specs.Powers.{always_on};
 
@@ -17,7 +17,7 @@ use blob_lab::ScriptedRng;
 use blob_lab::script::RefusedLine;
 use blob_sessions::Ran;
 use blob_sessions::power::Power;
-use blob_sessions::ran::{BAD_CALL, BAD_LINE, DONE, ENDLESS, NO_MEMORY};
+use blob_sessions::ran::{BAD_CALL, BAD_LINE, DONE, ENDLESS, NO_MEMORY, OTHER_REPLY};
 use std::alloc::Global;
 
 /// A file system, and the reply to its last call.
@@ -163,6 +163,21 @@ impl KeptFiles {
         Ran {
             status: numbers.status,
             len: numbers.size as usize,
+        }
+    }
+
+    /// Returns in `len` 1 if the log of the syncs follows the unsettled edit with this index, and 0 if not.
+    ///
+    /// `OTHER_REPLY` if there is no such edit.
+    pub fn follows(&self, index: usize) -> Ran
+        ensures { TellsFollowed self.now index result }
+    {
+        match self.fs.unsettled().get(index) {
+            None => Ran::stopped(OTHER_REPLY),
+            Some(edit) => Ran {
+                status: DONE,
+                len: edit.is_followed as usize,
+            },
         }
     }
 
