@@ -110,14 +110,17 @@ static inline uint64_t blobcrash_size_word(uint64_t index, uint64_t among) {
     return word + (rest > 0);
 }
 
+/* The word that makes a draw have the outcome of its choice. */
+static inline uint64_t blobcrash_draw_word(const struct blobcrash_choice *choice) {
+    if (choice->kind == BLOBCRASH_DRAWN_SIZE) return blobcrash_size_word(choice->branch, choice->among);
+    return choice->branch == 0 ? 0 : UINT64_MAX;
+}
+
 /* Writes a space and the word of a choice, if it is a draw. Returns the length, at most 21. */
 static inline size_t blobcrash_put_word(const struct blobcrash_choice *choice, char *text) {
-    if (choice->kind == BLOBCRASH_DRAWN_SIZE) {
-        return (size_t)snprintf(text, 22, " %" PRIu64, blobcrash_size_word(choice->branch, choice->among));
-    }
-    size_t len = choice->kind != BLOBCRASH_DRAW ? 0 : choice->branch == 0 ? 2 : 4;
-    memcpy(text, choice->branch == 0 ? " 0" : " max", len);
-    return len;
+    uint64_t word = blobcrash_draw_word(choice);
+    if (!blobcrash_is_draw(choice)) return 0;
+    return (size_t)(word == UINT64_MAX ? snprintf(text, 22, " max") : snprintf(text, 22, " %" PRIu64, word));
 }
 
 /* The words of a path as a line of a script, for a failure: `words 0 max`. Returns its length without the final zero, which `text`
@@ -151,9 +154,9 @@ static inline bool blobcrash_add_room(struct blobcrash_paths *paths, size_t more
     return true;
 }
 
-/* Goes on to the path of the next run, or begins with the first one. Returns its preamble: its words, and then the settings. RUN, END or
- * NO_MEMORY. */
-static inline int blobcrash_next_path(struct blobcrash_paths *paths, const char *settings, char **preamble, size_t *preamble_len) {
+/* Goes on to the path of the next run, or begins with the first one. Returns the words of its draws, and then those after them, which the
+ * caller frees. RUN, END or NO_MEMORY. */
+static inline int blobcrash_next_path(struct blobcrash_paths *paths, uint64_t **words) {
     if (!blobcrash_add_room(paths, 0)) return BLOBCRASH_EXPLORE_NO_MEMORY;
     if (paths->has_ended) {
         paths->is_over = !blobcrash_explorer_next(&paths->explorer, paths->choices, paths->capacity);
@@ -161,48 +164,53 @@ static inline int blobcrash_next_path(struct blobcrash_paths *paths, const char 
     }
     if (paths->is_over) return BLOBCRASH_EXPLORE_END;
     if (paths->room == 0) paths->room = 64;
-    size_t words = blobcrash_words_of(paths, NULL, 0), rest = strlen(settings), len = words + 6 * paths->room + 1 + rest;
-    char *text = (char *)malloc(len);
-    if (text == NULL) return BLOBCRASH_EXPLORE_NO_MEMORY;
-    char *end = text + blobcrash_words_of(paths, text, len);
-    for (size_t i = 0; i < paths->room; i++, end += 2) memcpy(end, " 0", 2);
-    for (size_t i = 0; i < paths->room; i++, end += 4) memcpy(end, " max", 4);
-    *end = '\n';
-    memcpy(end + 1, settings, rest);
-    *preamble = text;
-    *preamble_len = len;
+    uint64_t *end = *words = (uint64_t *)malloc((paths->explorer.len + 2 * paths->room) * sizeof *end);
+    if (end == NULL) return BLOBCRASH_EXPLORE_NO_MEMORY;
+    for (const struct blobcrash_choice *choice = paths->choices; choice < paths->choices + paths->explorer.len; choice++) {
+        if (blobcrash_is_draw(choice)) *end++ = blobcrash_draw_word(choice);
+    }
+    memset(end, 0, paths->room * sizeof *end);
+    memset(end + paths->room, 0xff, paths->room * sizeof *end);
+    blobcrash_explorer_begin(&paths->explorer, (size_t)(end - *words) + 2 * paths->room);
     return BLOBCRASH_EXPLORE_RUN;
 }
 
-/* Prepares the fields of a run that is under way, if its preamble was opened, and prints the lines before its calls. Frees the preamble. */
-static inline int blobcrash_begin_run(struct blobcrash_paths *paths, uint32_t opened, char *preamble, const char *settings) {
-    size_t words = blobcrash_words_of(paths, NULL, 0);
-    if (opened == BLOBCRASH_DONE && paths->script != NULL) {
-        if (words > 5) fprintf(paths->script, "%.*s\n", (int)words, preamble);
-        fputs(settings, paths->script);
+/* Prints the lines before the calls of a run. */
+static inline void blobcrash_print_preamble(const struct blobcrash_paths *paths, const char *settings) {
+    char word[22];
+    const char *words = "words";
+    for (size_t i = 0; i < paths->explorer.len; i++) {
+        if (!blobcrash_is_draw(&paths->choices[i])) continue;
+        fprintf(paths->script, "%s%.*s", words, (int)blobcrash_put_word(&paths->choices[i], word), word);
+        words = "";
     }
-    free(preamble);
+    fprintf(paths->script, "%s%s", *words == 0 ? "\n" : "", settings);
+}
+
+/* Prepares the fields of a run that is under way, if it was opened with its words, and prints the lines before its calls. Frees the words. */
+static inline int blobcrash_begin_run(struct blobcrash_paths *paths, uint32_t opened, uint64_t *words, const char *settings) {
+    free(words);
     if (opened == BLOBCRASH_NO_MEMORY) return BLOBCRASH_EXPLORE_NO_MEMORY;
     if (opened != BLOBCRASH_DONE) return BLOBCRASH_EXPLORE_BAD_SETTINGS;
+    if (paths->script != NULL) blobcrash_print_preamble(paths, settings);
     paths->losses = 0;
     paths->is_off = paths->has_no_memory = paths->is_long = false;
     paths->is_running = true;
     paths->calls = 0;
     blobcrash_unsynced_begin(&paths->unsynced, settings);
-    size_t given = 2 * paths->room;
-    for (size_t i = 0; i < paths->explorer.len; i++) given += blobcrash_is_draw(&paths->choices[i]);
-    blobcrash_explorer_begin(&paths->explorer, given);
     return BLOBCRASH_EXPLORE_RUN;
 }
 
-/* Goes on to the path of the next run, or begins with the first one, and opens its session: its words, and then the lines of `settings`,
- * each of which ends with a line feed. RUN, END, BAD_SETTINGS, or NO_MEMORY, after which it may be called again. */
+/* Goes on to the path of the next run, or begins with the first one, and opens its session with the lines of `settings`, each of which ends
+ * with a line feed. RUN, END, BAD_SETTINGS, or NO_MEMORY, after which it may be called again. */
 static inline int blobcrash_next_run(struct blobcrash_paths *paths, struct blobcrash_session *session, const char *settings) {
-    char *preamble;
-    size_t len;
-    int status = blobcrash_next_path(paths, settings, &preamble, &len);
+    uint64_t *words;
+    int status = blobcrash_next_path(paths, &words);
     if (status != BLOBCRASH_EXPLORE_RUN) return status;
-    return blobcrash_begin_run(paths, blobcrash_open(session, (const uint8_t *)preamble, len).status, preamble, settings);
+    uint32_t opened = blobcrash_open(session, (const uint8_t *)settings, strlen(settings)).status;
+    if (opened == BLOBCRASH_DONE) opened = blobcrash_push_words(session, words, paths->explorer.given);
+    if (opened == BLOBCRASH_NO_MEMORY) blobcrash_close(session);
+    return blobcrash_begin_run(paths, opened, words, settings);
 }
 
 /* Makes the next choice of a kind, and returns its branch: that of the path, or after its end the first one. */
@@ -212,20 +220,19 @@ static inline uint64_t blobcrash_choose(struct blobcrash_paths *paths, uint32_t 
     return has_room ? blobcrash_explorer_choose(&paths->explorer, paths->choices, paths->capacity, kind, among).branch : 0;
 }
 
-/* Makes the draws of the calls up to here choices, where `left` counts the words that are left. */
-static inline void blobcrash_count_words(struct blobcrash_paths *paths, struct blobcrash_ran left) {
-    if (left.status != BLOBCRASH_DONE || left.len > paths->explorer.given) return;
-    bool has_room = blobcrash_add_room(paths, paths->explorer.given - left.len);
-    paths->has_no_memory |= !has_room;
-    if (has_room) blobcrash_explorer_count(&paths->explorer, paths->choices, paths->capacity, left.len);
-}
-
-/* As blobcrash_count_words, if the last draw is that of a size among `among`. */
+/* Makes the draws of the calls up to here choices, where `left` counts the words that are left. If `among` isn't 0, the last one is that of a
+ * size among as many. */
 static inline void blobcrash_count_size(struct blobcrash_paths *paths, struct blobcrash_ran left, uint64_t among) {
     if (left.status != BLOBCRASH_DONE || left.len > paths->explorer.given) return;
     bool has_room = blobcrash_add_room(paths, paths->explorer.given - left.len);
     paths->has_no_memory |= !has_room;
-    if (has_room) blobcrash_explorer_count_size(&paths->explorer, paths->choices, paths->capacity, left.len, among);
+    if (!has_room) return;
+    if (among > 0) blobcrash_explorer_count_size(&paths->explorer, paths->choices, paths->capacity, left.len, among);
+    else blobcrash_explorer_count(&paths->explorer, paths->choices, paths->capacity, left.len);
+}
+
+static inline void blobcrash_count_words(struct blobcrash_paths *paths, struct blobcrash_ran left) {
+    blobcrash_count_size(paths, left, 0);
 }
 
 /* As blobcrash_count_words. Returns how many words are left. */

@@ -32,16 +32,10 @@
 
 /* Returns whether a line of the settings is one of writes. */
 static inline bool blobcrash_sets_writes(const char *settings) {
-    static const char *const words[] = {"config", "write"};
-    for (const char *line = settings; line != NULL && *line != 0; line = strchr(line, '\n') == NULL ? NULL : strchr(line, '\n') + 1) {
-        const char *at = line;
-        size_t word = 0;
-        for (; word < 2; word++) {
-            at += strspn(at, " ");
-            if (strncmp(at, words[word], strlen(words[word])) != 0) break;
-            at += strlen(words[word]);
-        }
-        if (word == 2 && *at == ' ') return true;
+    for (size_t len; *settings != 0; settings += len + (settings[len] != 0)) {
+        len = strcspn(settings, "\n");
+        if (blobcrash_is_word(blobcrash_word_at(settings, len, 0), "config", 6) &&
+            blobcrash_is_word(blobcrash_word_at(settings, len, 1), "write", 5)) return true;
     }
     return false;
 }
@@ -50,14 +44,17 @@ static inline bool blobcrash_sets_writes(const char *settings) {
  * writes. */
 static inline int blobcrash_next_files_run(struct blobcrash_paths *paths, struct blobcrash_files *files, const char *settings) {
     const char *torn = blobcrash_sets_writes(settings) ? "" : BLOBCRASH_TORN_WRITES;
-    char *preamble, *lines = (char *)malloc(strlen(torn) + strlen(settings) + 1);
-    size_t len;
+    char *lines = (char *)malloc(strlen(torn) + strlen(settings) + 1);
+    uint64_t *words;
     if (lines == NULL) return BLOBCRASH_EXPLORE_NO_MEMORY;
     strcpy(lines, torn);
     strcat(lines, settings);
-    int status = blobcrash_next_path(paths, lines, &preamble, &len);
+    int status = blobcrash_next_path(paths, &words);
     if (status == BLOBCRASH_EXPLORE_RUN) {
-        status = blobcrash_begin_run(paths, blobcrash_files_open(files, (const uint8_t *)preamble, len).status, preamble, lines);
+        uint32_t opened = blobcrash_files_open(files, (const uint8_t *)lines, strlen(lines)).status;
+        if (opened == BLOBCRASH_DONE) opened = blobcrash_files_push_words(files, words, paths->explorer.given);
+        if (opened == BLOBCRASH_NO_MEMORY) blobcrash_files_close(files);
+        status = blobcrash_begin_run(paths, opened, words, lines);
     }
     free(lines);
     return status;

@@ -73,14 +73,12 @@ static inline bool blobcrash_was_made(uint32_t status) {
 }
 
 /* Returns the kind of the call of a line, by its first word. Of a line that is none it is that of a setting, which is made anyway. */
-static inline uint32_t blobcrash_line_kind(const uint8_t *line, size_t len) {
-    while (len > 0 && *line == ' ') line++, len--;
-    size_t word = 0;
-    while (word < len && line[word] != ' ') word++;
-    for (uint32_t kind = 0; word > 0 && kind < BLOBCRASH_CONFIGURE; kind++) {
+static inline uint32_t blobcrash_line_kind(const char *line, size_t len) {
+    struct blobcrash_line_word word = blobcrash_word_at(line, len, 0);
+    for (uint32_t kind = 0; word.len > 0 && kind < BLOBCRASH_CONFIGURE; kind++) {
         uint8_t known[16];
         size_t known_len = blobcrash_word(BLOBCRASH_W_KINDS, kind, known, sizeof known).len;
-        if (known_len == word && memcmp(line, known, word) == 0) return kind;
+        if (blobcrash_is_word(word, (const char *)known, known_len)) return kind;
     }
     return BLOBCRASH_CONFIGURE;
 }
@@ -92,24 +90,11 @@ struct blobcrash_resize_made {
     uint64_t from, to;
 };
 
-/* Reads the number after the first word of a line, or after another number. The library rejects a line in which it isn't one. */
-static inline uint64_t blobcrash_number_at(const uint8_t *line, size_t len, size_t *at) {
-    uint64_t number = 0;
-    if (*at == 0) {
-        while (*at < len && line[*at] == ' ') ++*at;
-        while (*at < len && line[*at] != ' ') ++*at;
-    }
-    while (*at < len && line[*at] == ' ') ++*at;
-    for (; *at < len && line[*at] >= '0' && line[*at] <= '9'; ++*at) number = 10 * number + (uint64_t)(line[*at] - '0');
-    return number;
-}
-
 /* Reads a line `resize HANDLE LEN`, before it is made. */
-static inline struct blobcrash_resize_made blobcrash_before_resize(struct blobcrash_session *session, const uint8_t *line, size_t len) {
+static inline struct blobcrash_resize_made blobcrash_before_resize(struct blobcrash_session *session, const char *line, size_t len) {
     struct blobcrash_resize_made resize = {false, 0, 0, 0};
-    size_t at = 0;
-    resize.handle = (size_t)blobcrash_number_at(line, len, &at);
-    resize.to = blobcrash_number_at(line, len, &at);
+    resize.handle = (size_t)blobcrash_number_of(blobcrash_word_at(line, len, 1));
+    resize.to = blobcrash_number_of(blobcrash_word_at(line, len, 2));
     struct blobcrash_typed_reply size = blobcrash_tracked_size(session, resize.handle);
     resize.is_one = size.status == BLOBCRASH_DONE;
     resize.from = size.size;
@@ -125,24 +110,26 @@ static inline void blobcrash_after_resize(struct blobcrash_paths *paths, struct 
     blobcrash_count_size(paths, blobcrash_words_left(session), (from < to ? to - from : from - to) - 1);
 }
 
-/* Follows which handles have unsynced writes, after the call of a line. */
-static inline void blobcrash_follow_line(struct blobcrash_paths *paths, struct blobcrash_session *session, uint32_t kind, const uint8_t *line,
+/* Follows the power, and which handles have unsynced writes, after the call of a line. */
+static inline void blobcrash_follow_line(struct blobcrash_paths *paths, struct blobcrash_session *session, uint32_t kind, const char *line,
                                          size_t len) {
     struct blobcrash_unsynced *unsynced = &paths->unsynced;
-    size_t at = 0;
     if (kind == BLOBCRASH_CONFIGURE) {
-        blobcrash_unsynced_set(unsynced, (const char *)line, len);
+        blobcrash_unsynced_set(unsynced, line, len);
         return;
     }
     if (blobcrash_last(session).status != BLOBCRASH_DONE) return;
     switch (kind) {
     case BLOBCRASH_WRITE:
-        if (line[len - 1] != '-') blobcrash_unsynced_write(unsynced, blobcrash_number_at(line, len, &at));
+        if (line[len - 1] != '-') blobcrash_unsynced_write(unsynced, blobcrash_number_of(blobcrash_word_at(line, len, 1)));
         break;
     case BLOBCRASH_SYNC:
-    case BLOBCRASH_START_SYNC: blobcrash_unsynced_sync(unsynced, blobcrash_number_at(line, len, &at)); break;
+    case BLOBCRASH_START_SYNC: blobcrash_unsynced_sync(unsynced, blobcrash_number_of(blobcrash_word_at(line, len, 1))); break;
     case BLOBCRASH_CRASH: blobcrash_unsynced_crash(unsynced); break;
-    case BLOBCRASH_REOPEN: unsynced->count = 0; break;
+    case BLOBCRASH_REOPEN:
+        unsynced->count = 0;
+        paths->is_off = blobcrash_power(session).is_off;
+        break;
     default: break;
     }
 }
@@ -151,15 +138,15 @@ static inline void blobcrash_follow_line(struct blobcrash_paths *paths, struct b
  * made. */
 static inline struct blobcrash_ran blobcrash_explored_call(struct blobcrash_paths *paths, struct blobcrash_session *session,
                                                            const uint8_t *line, size_t len, uint8_t *reply, size_t reply_room) {
-    uint32_t kind = blobcrash_line_kind(line, len);
+    const char *text = (const char *)line;
+    uint32_t kind = blobcrash_line_kind(text, len);
     blobcrash_power_fails(paths, session, blobcrash_effect(kind) & BLOBCRASH_CHANGES);
     struct blobcrash_resize_made resize = {false, 0, 0, 0};
-    if (kind == BLOBCRASH_RESIZE) resize = blobcrash_before_resize(session, line, len);
+    if (kind == BLOBCRASH_RESIZE) resize = blobcrash_before_resize(session, text, len);
     struct blobcrash_ran ran = blobcrash_call(session, line, len, reply, reply_room);
     if (!blobcrash_was_made(ran.status)) return ran;
     blobcrash_after_resize(paths, session, &resize);
-    blobcrash_follow_line(paths, session, kind, line, len);
-    if (kind == BLOBCRASH_REOPEN) paths->is_off = blobcrash_power(session).is_off;
+    blobcrash_follow_line(paths, session, kind, text, len);
     if (paths->script != NULL) {
         fwrite(line, 1, len, paths->script);
         fputc('\n', paths->script);
@@ -167,8 +154,8 @@ static inline struct blobcrash_ran blobcrash_explored_call(struct blobcrash_path
     return ran;
 }
 
-/* Prints the line of a read or a write that was made. */
-static inline void blobcrash_print_moved(struct blobcrash_paths *paths, const struct blobcrash_asked *asked, const uint8_t *bytes, size_t len) {
+/* Prints the line of a typed call that was made. */
+static inline void blobcrash_print_asked(struct blobcrash_paths *paths, const struct blobcrash_asked *asked, const uint8_t *bytes, size_t len) {
     size_t line_len;
     char *line = blobcrash_new_line(asked, NULL, 0, bytes, len, &line_len);
     blobcrash_print_line(paths, line, line_len);
@@ -181,7 +168,7 @@ static inline uint32_t blobcrash_explored_read(struct blobcrash_paths *paths, st
     struct blobcrash_asked asked = {BLOBCRASH_READ, handle, offset, len};
     blobcrash_count_call(paths, session);
     uint32_t status = blobcrash_read(session, handle, offset, into, len);
-    if (paths->script != NULL && status != BLOBCRASH_CLOSED && status != BLOBCRASH_POWER_LOSS) blobcrash_print_moved(paths, &asked, NULL, 0);
+    if (paths->script != NULL && status != BLOBCRASH_CLOSED && status != BLOBCRASH_POWER_LOSS) blobcrash_print_asked(paths, &asked, NULL, 0);
     return status;
 }
 
@@ -192,7 +179,7 @@ static inline uint32_t blobcrash_explored_write(struct blobcrash_paths *paths, s
     blobcrash_power_fails(paths, session, true);
     uint32_t status = blobcrash_write(session, handle, offset, bytes, len, sync);
     if (status == BLOBCRASH_DONE && !sync && len > 0) blobcrash_unsynced_write(&paths->unsynced, handle);
-    if (paths->script != NULL && status != BLOBCRASH_CLOSED && status != BLOBCRASH_POWER_LOSS) blobcrash_print_moved(paths, &asked, bytes, len);
+    if (paths->script != NULL && status != BLOBCRASH_CLOSED && status != BLOBCRASH_POWER_LOSS) blobcrash_print_asked(paths, &asked, bytes, len);
     return status;
 }
 
@@ -203,10 +190,22 @@ static inline uint32_t blobcrash_explored_text(struct blobcrash_paths *paths, st
     return blobcrash_was_made(ran.status) ? blobcrash_last(session).status : ran.status;
 }
 
+/* Makes a call without a handle and names. Returns DONE, its refusal, or the status of a call that wasn't made. */
+static inline uint32_t blobcrash_explored_kind(struct blobcrash_paths *paths, struct blobcrash_session *session, uint32_t kind) {
+    struct blobcrash_asked asked = {kind, 0, 0, 0};
+    const uint8_t none = 0;
+    blobcrash_power_fails(paths, session, blobcrash_effect(kind) & BLOBCRASH_CHANGES);
+    uint32_t status = blobcrash_apply(session, &asked, &none, 0, &none, 0).status;
+    if (status == BLOBCRASH_CLOSED || status == BLOBCRASH_POWER_LOSS) return status;
+    blobcrash_follow_line(paths, session, kind, NULL, 0);
+    if (paths->script != NULL) blobcrash_print_asked(paths, &asked, NULL, 0);
+    return status;
+}
+
 /* Crashes and reopens the store. Returns DONE; E_MEMORY if one of them is refused; or the status of the call that wasn't made. */
 static inline uint32_t blobcrash_restart(struct blobcrash_paths *paths, struct blobcrash_session *session) {
-    uint32_t status = blobcrash_explored_text(paths, session, "crash");
-    return status == BLOBCRASH_DONE ? blobcrash_explored_text(paths, session, "reopen") : status;
+    uint32_t status = blobcrash_explored_kind(paths, session, BLOBCRASH_CRASH);
+    return status == BLOBCRASH_DONE ? blobcrash_explored_kind(paths, session, BLOBCRASH_REOPEN) : status;
 }
 
 /* Restarts the store and calls `step`, and does so again if the power fails meanwhile. Returns what the last `step` returned, or `false`

@@ -8,7 +8,6 @@
 #include <stdbool.h>
 #include <stddef.h>
 #include <stdint.h>
-#include <stdio.h>
 #include <stdlib.h>
 #include <string.h>
 
@@ -24,18 +23,43 @@ struct blobcrash_unsynced {
     bool syncs_lie;
 };
 
+/* A word of a line. It has the length 0 if there is none. */
+struct blobcrash_line_word {
+    const char *at;
+    size_t len;
+};
+
+/* Returns the word with an index, from 0 on. */
+static inline struct blobcrash_line_word blobcrash_word_at(const char *line, size_t len, size_t index) {
+    struct blobcrash_line_word word = {line, 0};
+    const char *end = line + len;
+    for (size_t at = 0; at <= index; at++) {
+        for (word.at += word.len; word.at < end && *word.at == ' '; word.at++) continue;
+        for (word.len = 0; word.at + word.len < end && word.at[word.len] != ' '; word.len++) continue;
+    }
+    return word;
+}
+
+static inline bool blobcrash_is_word(struct blobcrash_line_word word, const char *text, size_t len) {
+    return word.len == len && memcmp(word.at, text, len) == 0;
+}
+
+/* Returns the number of a word. The library rejects a line in which it isn't one. */
+static inline uint64_t blobcrash_number_of(struct blobcrash_line_word word) {
+    uint64_t number = 0;
+    for (size_t i = 0; i < word.len; i++) number = 10 * number + (uint64_t)(word.at[i] - '0');
+    return number;
+}
+
 /* Takes a line, if it is a setting. */
 static inline void blobcrash_unsynced_set(struct blobcrash_unsynced *unsynced, const char *line, size_t len) {
-    char text[128], word[41];
-    int end = 0;
-    if (len >= sizeof text) return;
-    memcpy(text, line, len);
-    text[len] = 0;
-    if (sscanf(text, " config write %*[0-9] %*[0-9] %40[0-9]", word) == 1) {
-        unsynced->kept = strspn(word, "0") == strlen(word) ? BLOBCRASH_NEVER_KEPT : BLOBCRASH_MAY_KEEP;
-    } else if (sscanf(text, " syncs %40[a-z]", word) == 1) {
-        unsynced->syncs_lie = strcmp(word, "lie") == 0;
-    } else if (sscanf(text, " config clear%n", &end) != EOF && end > 0) {
+    struct blobcrash_line_word first = blobcrash_word_at(line, len, 0), second = blobcrash_word_at(line, len, 1);
+    if (blobcrash_is_word(first, "syncs", 5)) {
+        unsynced->syncs_lie = blobcrash_is_word(second, "lie", 3);
+    } else if (blobcrash_is_word(first, "config", 6) && blobcrash_is_word(second, "write", 5)) {
+        bool may_keep = blobcrash_number_of(blobcrash_word_at(line, len, 4)) > 0;
+        unsynced->kept = may_keep ? BLOBCRASH_MAY_KEEP : BLOBCRASH_NEVER_KEPT;
+    } else if (blobcrash_is_word(first, "config", 6) && blobcrash_is_word(second, "clear", 5)) {
         unsynced->kept = BLOBCRASH_NEVER_KEPT;
     }
 }
