@@ -1,4 +1,3 @@
-use crate::choices::Choices;
 use crate::library::Session;
 use crate::limits::Limits;
 use crate::script::{Script, first_word, image_line, one_line, tokens, words_line};
@@ -28,6 +27,8 @@ pub struct Builder {
     pub(crate) unrecorded: bool,
     /// The first argument that can't be expressed.
     pub(crate) problem: Option<Error>,
+    /// The settings of all lines, once they are checked and have those of the configuration.
+    pub(crate) settings: Option<Config>,
 }
 
 impl Builder {
@@ -65,7 +66,7 @@ impl Builder {
     /// ```
     pub fn words(mut self, words: &[u64]) -> Builder {
         if !words.is_empty() {
-            self.lines.push(words_line(words));
+            self.lines.push(words_line(words).trim_end().to_owned());
             self.has_draws = true;
         }
         self
@@ -183,18 +184,24 @@ impl Builder {
     /// assert_eq!(refused.err(), Some(Error::BadLine("crash".to_owned())));
     /// assert!(Store::builder().open().is_ok());
     /// ```
-    pub fn open(self) -> Result<Store, Error> {
-        self.made(Limits::default())
+    pub fn open(mut self) -> Result<Store, Error> {
+        self.complete()?;
+        let pushed: &[u64] = if self.is_pushed { &[LAST_WORD] } else { &[] };
+        self.made(pushed, Limits::default())
     }
 
-    /// Refuses words and a seed of the caller's.
-    fn check_undrawn(&self) -> Result<(), Error> {
+    /// Returns the builder of runs of a search, with their seed if they have one. Refuses words and a seed of the caller's.
+    pub(crate) fn searched(&self, seed: Option<u64>) -> Result<Builder, Error> {
         if self.has_draws || self.is_pushed {
             let text =
                 "an explored run, or that of a seed, has neither a seed nor words of its builder's";
             return Err(Error::Argument(text.to_owned()));
         }
-        Ok(())
+        let mut builder = self.clone();
+        builder.has_draws = true;
+        let first = seed.map(|seed| format!("seed {seed}"));
+        builder.lines.splice(0..0, first);
+        Ok(builder)
     }
 
     /// Returns the settings of the lines and of the configuration together.
@@ -206,27 +213,6 @@ impl Builder {
             }
         }
         config
-    }
-
-    /// Returns the builder of an explored run, with as many words after those of its path.
-    pub(crate) fn with_choices(
-        &self,
-        choices: &mut Choices,
-        words: usize,
-    ) -> Result<Builder, Error> {
-        self.check_undrawn()?;
-        let mut builder = self.clone().words(&choices.words(words));
-        // Before the images and the lines of the caller.
-        builder.lines.rotate_right(1);
-        Ok(builder)
-    }
-
-    /// Returns the builder of a seed's run.
-    pub(crate) fn with_seed(&self, seed: u64) -> Result<Builder, Error> {
-        self.check_undrawn()?;
-        let mut builder = self.clone().seed(seed);
-        builder.lines.rotate_right(1);
-        Ok(builder)
     }
 
     /// Adds the lines of the configuration, after checking what the caller gave.
@@ -242,40 +228,36 @@ impl Builder {
         if !self.has_draws && !self.is_pushed && self.config.needs_draws() {
             return Err(Error::NeedsSeed);
         }
+        self.settings = Some(self.effective());
         self.lines.extend(self.config.lines());
         Ok(())
-    }
-
-    fn made(mut self, limits: Limits) -> Result<Store, Error> {
-        self.complete()?;
-        let has_draws = self.has_draws || self.is_pushed;
-        let pushed: &[u64] = if self.is_pushed { &[LAST_WORD] } else { &[] };
-        let mut preamble = self.lines.join("\n");
-        if self.is_pushed {
-            preamble = words_line(pushed) + "\n" + &preamble;
-        }
-        let mut session = Session::open(&preamble)?;
-        if !self.unrecorded {
-            let mut script = Script::with_words(pushed);
-            self.lines.iter().for_each(|line| script.push_line(line));
-            session.script = Some(script);
-        }
-        let mut state = State::new(session, self.config, limits);
-        state.limits.unsynced.set(&self.effective());
-        let shared = Shared::new(state, has_draws, self.allow_stale, self.is_pushed);
-        Ok(Store::of(shared))
     }
 }
 
 impl Explorable for Builder {
     type Opened = Store;
 
-    fn explored(&self, mut choices: Choices, words: usize) -> Result<Store, Error> {
-        let builder = self.with_choices(&mut choices, words)?;
-        builder.made(Limits::of_choices(choices))
+    fn prepared(&self, seed: Option<u64>) -> Result<Builder, Error> {
+        let mut builder = self.searched(seed)?;
+        builder.complete()?;
+        Ok(builder)
     }
 
-    fn seeded(&self, seed: u64) -> Result<Store, Error> {
-        self.with_seed(seed)?.made(Limits::of_seed(seed))
+    fn made(&self, words: &[u64], limits: Limits) -> Result<Store, Error> {
+        let has_draws = self.has_draws || self.is_pushed;
+        let mut session = Session::open(&self.lines.join("\n"))?;
+        session.push_words(words)?;
+        if !self.unrecorded {
+            let mut script = Script::with_words(words);
+            self.lines.iter().for_each(|line| script.push_line(line));
+            session.script = Some(script);
+        }
+        let mut state = State::new(session, self.config, limits);
+        state
+            .limits
+            .unsynced
+            .set(&self.settings.unwrap_or_default());
+        let shared = Shared::new(state, has_draws, self.allow_stale, self.is_pushed);
+        Ok(Store::of(shared))
     }
 }

@@ -147,9 +147,10 @@ impl Choices {
         if let Some(replay) = &mut self.replay {
             return replay.begin(more);
         }
-        let mut words = self.path.words();
-        words.resize(words.len() + more, 0);
-        words.push(u64::MAX);
+        let of_path = self.path.words();
+        let mut words = vec![0; of_path.len() + more + 1];
+        words[..of_path.len()].copy_from_slice(&of_path);
+        words[of_path.len() + more] = u64::MAX;
         self.path.begin(words.len());
         words
     }

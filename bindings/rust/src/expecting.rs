@@ -154,7 +154,7 @@ fn state_of(store: &Store, at: &'static Location<'static>, losses: u64) -> Resul
         let text = "a restart is compared by the script: the builder can't be `unrecorded`";
         return Err(Error::Argument(text.to_owned()));
     };
-    let text = script.text();
+    let text = script.calls();
     let (mut names, mut crashes) = (BTreeSet::new(), 0);
     for line in text.lines() {
         match tokens(line)[..] {

@@ -286,6 +286,7 @@ impl<B: Explorable> Exploration<B> {
             return Err(nothing_to_run());
         }
         let (mut path, mut words) = (Path::below(choices_of(&self.under)?), WORDS);
+        let builder = self.builder.prepared(None)?;
         let mut visited = Explored {
             runs: 0,
             outcomes: BTreeMap::new(),
@@ -296,7 +297,8 @@ impl<B: Explorable> Exploration<B> {
         let mut states = States::default();
         let mut met = Met::default();
         while visited.runs < self.limit {
-            let run = self.begin(path, states, words, visited.runs + 1)?;
+            let choices = Choices::new(path, self.losses, self.calls).with_states(states);
+            let run = Run::explored(&builder, choices, words, visited.runs + 1)?;
             let result = catch_unwind(AssertUnwindSafe(|| body(&run)));
             if run.choices(Choices::end) {
                 let (run, script, most) = (visited.runs + 1, run.script(), self.calls);
@@ -349,18 +351,6 @@ impl<B: Explorable> Exploration<B> {
         }
         visited.unkept = met.note();
         Ok(visited)
-    }
-
-    fn begin(
-        &self,
-        path: Path,
-        states: States,
-        words: usize,
-        number: u64,
-    ) -> Result<Run<B::Opened>, Error> {
-        let choices = Choices::new(path, self.losses, self.calls).with_states(states);
-        let opened = self.builder.explored(choices, words)?;
-        Ok(Run::new(opened, number))
     }
 }
 

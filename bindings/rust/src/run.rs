@@ -1,6 +1,6 @@
 //! One run of an exploration, or of a seed.
 use crate::choices::Choices;
-use crate::limits::Limited;
+use crate::limits::{Limited, Limits};
 use crate::path_text::word_text;
 use crate::unsynced::Met;
 use crate::{Error, Store};
@@ -22,13 +22,13 @@ pub trait Explorable: Clone {
     /// What a run has.
     type Opened: Limited;
 
-    /// Opens what an explored run has, with as many words after those of its path.
+    /// Returns the builder of the runs of a search, with all of their lines but the words of each.
     #[doc(hidden)]
-    fn explored(&self, choices: Choices, words: usize) -> Result<Self::Opened, Error>;
+    fn prepared(&self, seed: Option<u64>) -> Result<Self, Error>;
 
-    /// Opens what the run of a seed has.
+    /// Makes what a run has, with words before those of the lines, of which none is missing.
     #[doc(hidden)]
-    fn seeded(&self, seed: u64) -> Result<Self::Opened, Error>;
+    fn made(&self, words: &[u64], limits: Limits) -> Result<Self::Opened, Error>;
 }
 
 /// The store, or the files, of one run. It has the methods of [`Store`] or of [`files::Files`](crate::files::Files).
@@ -59,6 +59,18 @@ impl<S: Limited> Deref for Run<S> {
 impl<S: Limited> Run<S> {
     pub(crate) fn new(opened: S, number: u64) -> Run<S> {
         Run { opened, number }
+    }
+
+    /// Opens a run with as many words after those of its choices.
+    pub(crate) fn explored(
+        builder: &impl Explorable<Opened = S>,
+        mut choices: Choices,
+        words: usize,
+        number: u64,
+    ) -> Result<Run<S>, Error> {
+        let words = choices.words(words);
+        let opened = builder.made(&words, Limits::of_choices(choices))?;
+        Ok(Run { opened, number })
     }
 
     /// Returns a number below `branches`. An exploration tries every one, together with the outcomes of the draws. With

@@ -16,12 +16,17 @@ pub(crate) fn image_line(partition: &str, name: &[u8], raw: &[u8]) -> Result<Str
     Ok(format!("image {partition} {} {}", hex(name), hex(raw)))
 }
 
-/// The line that gives words to the generator.
+/// The line that gives words to the generator, with its line feed. Without words it is empty.
 pub(crate) fn words_line(words: &[u64]) -> String {
-    words.iter().fold("words".to_owned(), |mut line, word| {
-        let _ = write!(line, " {word}");
-        line
-    })
+    let mut line = String::new();
+    for word in words {
+        line.push_str(if line.is_empty() { "words " } else { " " });
+        let _ = write!(line, "{word}");
+    }
+    if !line.is_empty() {
+        line.push('\n');
+    }
+    line
 }
 
 /// Checks that a text is one line.
@@ -89,8 +94,10 @@ enum Call {
 impl Script {
     /// A script that begins with these words.
     pub(crate) fn with_words(words: &[u64]) -> Script {
+        let mut ahead = words.to_vec();
+        ahead.reverse();
         Script {
-            ahead: words.iter().rev().copied().collect(),
+            ahead,
             ..Script::default()
         }
     }
@@ -125,16 +132,14 @@ impl Script {
 
     /// The text of all lines.
     pub(crate) fn text(&self) -> String {
+        let words = self.taken.iter().chain(self.ahead.iter().rev());
+        let words: Vec<u64> = words.copied().collect();
+        words_line(&words) + &self.calls()
+    }
+
+    /// The text of the lines after the words.
+    pub(crate) fn calls(&self) -> String {
         let mut text = String::new();
-        if !self.taken.is_empty() || !self.ahead.is_empty() {
-            let words: Vec<u64> = self
-                .taken
-                .iter()
-                .chain(self.ahead.iter().rev())
-                .copied()
-                .collect();
-            text = words_line(&words) + "\n";
-        }
         let mut bytes = self.bytes.as_slice();
         for call in &self.calls {
             match call {

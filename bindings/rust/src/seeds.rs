@@ -1,5 +1,6 @@
 //! Runs of many seeds.
 use crate::explore::nothing_to_run;
+use crate::limits::Limits;
 use crate::unsynced::Met;
 use crate::{Explorable, ExploreError, Explored, Run};
 use std::collections::BTreeMap;
@@ -45,7 +46,8 @@ pub fn seeds<B: Explorable, T: Ord, E>(
     let mut met = Met::default();
     for seed in seeds {
         visited.runs += 1;
-        let run = Run::new(builder.seeded(seed)?, visited.runs);
+        let builder = builder.prepared(Some(seed))?;
+        let run = Run::new(builder.made(&[], Limits::of_seed(seed))?, visited.runs);
         let result = body(&run);
         met.add(run.met());
         match result {

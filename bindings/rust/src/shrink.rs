@@ -80,7 +80,7 @@ pub fn shrink<B: Explorable, T, E>(
         return Err(Error::Argument(text.to_owned()));
     };
     let mut search = Search {
-        builder,
+        builder: builder.prepared(None)?,
         body,
         kind: discriminant(error),
         words: WORDS,
@@ -146,15 +146,15 @@ impl<E> Made<E> {
     }
 }
 
-struct Search<'a, B, F, E> {
-    builder: &'a B,
+struct Search<B, F, E> {
+    builder: B,
     body: F,
     kind: Discriminant<E>,
     words: usize,
     runs: u64,
 }
 
-impl<B: Explorable, T, E, F: FnMut(&Run<B::Opened>) -> Result<T, E>> Search<'_, B, F, E> {
+impl<B: Explorable, T, E, F: FnMut(&Run<B::Opened>) -> Result<T, E>> Search<B, F, E> {
     /// Makes the run of a path.
     fn first(&mut self, path: &str) -> Result<Made<E>, Error> {
         let seed = path
@@ -183,7 +183,7 @@ impl<B: Explorable, T, E, F: FnMut(&Run<B::Opened>) -> Result<T, E>> Search<'_, 
     ) -> Result<Option<Made<E>>, Error> {
         loop {
             let choices = Choices::again(begin(self.words), most);
-            let run = Run::new(self.builder.explored(choices, self.words)?, self.runs + 1);
+            let run = Run::explored(&self.builder, choices, self.words, self.runs + 1)?;
             self.runs += 1;
             let result = catch_unwind(AssertUnwindSafe(|| (self.body)(&run)));
             if run.choices(Choices::end) {

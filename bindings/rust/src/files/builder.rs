@@ -2,7 +2,6 @@ use super::Files;
 use super::library::Session;
 use super::record::Record;
 use super::state::{Shared, State};
-use crate::choices::Choices;
 use crate::foreign::PROFILES;
 use crate::library::word;
 use crate::limits::Limits;
@@ -359,8 +358,9 @@ impl Builder {
     /// assert!(matches!(Files::builder().open(), Err(Error::NeedsSeed)));
     /// assert!(Files::builder().seed(7).open().is_ok());
     /// ```
-    pub fn open(self) -> Result<Files, Error> {
-        self.made(Limits::default())
+    pub fn open(mut self) -> Result<Files, Error> {
+        self.complete()?;
+        self.made(&[], Limits::default())
     }
 
     /// The base of a search's files: unsynced writes are torn, unless a setting is one of writes.
@@ -372,9 +372,10 @@ impl Builder {
         base
     }
 
-    fn made(mut self, limits: Limits) -> Result<Files, Error> {
+    /// Adds the lines of the settings, after checking what the caller gave.
+    fn complete(&mut self) -> Result<(), Error> {
         if self.keep.is_none_or(Probability::needs_draws) && !self.base.has_draws {
-            return Err(self.base.problem.unwrap_or(Error::NeedsSeed));
+            return Err(self.base.problem.take().unwrap_or(Error::NeedsSeed));
         }
         let keep = self.keep.map(|rate| format!("keep {}", rate.words()));
         let space = self
@@ -390,28 +391,28 @@ impl Builder {
         let switches = self.switches();
         let settings = keep.into_iter().chain(space).chain(switches);
         self.base.lines.extend(settings);
-        self.base.complete()?;
-        let mut session = Session::open(&self.base.lines.join("\n"))?;
-        session.record = (!self.base.unrecorded).then(|| Record::with_lines(&self.base.lines));
-        let mut state = State::new(session, self.base.config, limits);
-        state.syncs_lie = self.syncs == Syncs::Lie;
-        state.limits.unsynced.set(&self.base.effective());
-        Ok(Files::of(Shared::new(state, self.base.has_draws)))
+        self.base.complete()
     }
 }
 
 impl Explorable for Builder {
     type Opened = Files;
 
-    fn explored(&self, mut choices: Choices, words: usize) -> Result<Files, Error> {
+    fn prepared(&self, seed: Option<u64>) -> Result<Builder, Error> {
         let mut builder = self.clone();
-        builder.base = self.torn_base().with_choices(&mut choices, words)?;
-        builder.made(Limits::of_choices(choices))
+        builder.base = self.torn_base().searched(seed)?;
+        builder.complete()?;
+        Ok(builder)
     }
 
-    fn seeded(&self, seed: u64) -> Result<Files, Error> {
-        let mut builder = self.clone();
-        builder.base = self.torn_base().with_seed(seed)?;
-        builder.made(Limits::of_seed(seed))
+    fn made(&self, words: &[u64], limits: Limits) -> Result<Files, Error> {
+        let mut session = Session::open(&self.base.lines.join("\n"))?;
+        session.push_words(words)?;
+        session.record = (!self.base.unrecorded).then(|| Record::new(words, &self.base.lines));
+        let mut state = State::new(session, self.base.config, limits);
+        state.syncs_lie = self.syncs == Syncs::Lie;
+        let settings = self.base.settings.unwrap_or_default();
+        state.limits.unsynced.set(&settings);
+        Ok(Files::of(Shared::new(state, self.base.has_draws)))
     }
 }

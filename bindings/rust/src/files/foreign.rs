@@ -118,6 +118,11 @@ unsafe extern "C" {
     pub(crate) fn blobcrash_files_power_on(files: *mut RawFiles) -> u32;
     pub(crate) fn blobcrash_files_power(files: *mut RawFiles) -> PowerState;
     pub(crate) fn blobcrash_files_words_left(files: *mut RawFiles) -> Ran;
+    pub(crate) fn blobcrash_files_push_words(
+        files: *mut RawFiles,
+        words: *const u64,
+        count: usize,
+    ) -> u32;
     pub(crate) fn blobcrash_files_close(files: *mut RawFiles);
 }
 

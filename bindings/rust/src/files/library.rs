@@ -53,6 +53,14 @@ impl Session {
         }
     }
 
+    /// Inserts words before those that the generator gives next.
+    pub(crate) fn push_words(&mut self, words: &[u64]) -> Result<(), Error> {
+        let (at, count) = (words.as_ptr(), words.len());
+        // SAFETY: as for `configure`; the words are borrowed for the call.
+        let status = unsafe { blobcrash_files_push_words(&mut self.raw, at, count) };
+        self.done(status)
+    }
+
     /// Makes a setting.
     pub(crate) fn configure(&mut self, setting: &str) -> Result<(), Error> {
         let (at, len) = (setting.as_ptr(), setting.len());

@@ -1,6 +1,7 @@
 //! Calls on files, and the record of those that were made: a line for each, as `blobcrash files` reads it.
 use super::foreign::{Kind, RawCall};
 use super::library::line_of;
+use crate::script::words_line;
 use crate::{Error, Selections};
 
 /// A call with the numbers and the paths that its kind uses.
@@ -81,6 +82,8 @@ impl Call<'_> {
 /// The lines of the calls that were made.
 #[derive(Clone, Debug, Default)]
 pub(crate) struct Record {
+    /// The words before the lines.
+    words: Vec<u64>,
     lines: Vec<Line>,
     /// The paths, and the bytes of writes, of all calls, one after another.
     bytes: Vec<u8>,
@@ -100,16 +103,19 @@ enum Line {
 }
 
 impl Record {
-    /// A record that begins with these lines.
-    pub(crate) fn with_lines(lines: &[String]) -> Record {
-        let mut record = Record::default();
+    /// A record that begins with these words and lines.
+    pub(crate) fn new(words: &[u64], lines: &[String]) -> Record {
+        let mut record = Record {
+            words: words.to_vec(),
+            ..Record::default()
+        };
         lines.iter().for_each(|line| record.push(line.clone()));
         record
     }
 
     /// The text of all lines.
     pub(crate) fn text(&self) -> String {
-        let mut text = String::new();
+        let mut text = words_line(&self.words);
         let mut bytes = self.bytes.as_slice();
         for line in &self.lines {
             match line {
