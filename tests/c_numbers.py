@@ -130,7 +130,7 @@ def line_of(call):
 
 def main():
     checks = [(f"{name} is {value}", numbers_of("blobcrash.h").get(name) == value) for name, value in named().items()]
-    checks.append(("fifteen numbers are compared", len(checks) == 15))
+    checks.append(("sixteen numbers are compared", len(checks) == 16))
     own = {**foreign.kinds(foreign.W_KINDS), "remove partition": foreign.REMOVE_PARTITION}
     kinds = {KINDS.get(word, word.upper()): number for word, number in own.items()}
     checks.append(("the kinds", len(kinds) == 18 and {name: numbers_of("blobcrash.h").get(name) for name in kinds} == kinds))

@@ -11,6 +11,8 @@ _KINDS: Tuple[Tuple[Callable[[Any], bool], str], ...] = (
     (inspect.isasyncgenfunction, "an asynchronous generator"),
     (inspect.isgeneratorfunction, "a generator: it has a `yield`"),
 )
+# Types of most results.
+_PLAIN = frozenset((bool, bytes, int, str, tuple, type(None)))
 
 
 def check_body(body: Callable[..., Any]) -> None:
@@ -25,6 +27,8 @@ def check_body(body: Callable[..., Any]) -> None:
 
 def check_result(result: Any) -> None:
     """Raises `TypeError` if a body returned something that is yet to run."""
+    if type(result) in _PLAIN:
+        return
     is_generator = inspect.isgenerator(result)
     if not is_generator and not inspect.isasyncgen(result) and not inspect.isawaitable(result):
         return

@@ -3,7 +3,6 @@
 from __future__ import annotations
 
 from time import monotonic
-from typing import Any
 
 from .session import Session
 
@@ -62,10 +61,6 @@ class Bounded(Session):
         """Counts a call. A session of a run that has ended says so, whatever its bounds were."""
         self._check()
         self._bounds.count()
-
-    def _apply(self, asked: Any, is_shown: bool = True) -> Any:
-        self._count()
-        return super()._apply(asked, is_shown)
 
     def _refused(self) -> None:
         self._count()

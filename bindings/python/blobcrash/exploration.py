@@ -25,11 +25,11 @@ from typing import Any, Callable, Dict, Iterable, List, NamedTuple, Optional, Tu
 from .bodies import check_body, check_result
 from .bounds import CALLS_PER_RUN, FIRST_RUN, Bounds
 from .failures import Failed, TooLong, one_traceback, reason_of
-from .file_library import files_way
+from .file_library import FilesLibrary, files_way
 from .file_settings import ALL, file_setting_tokens, profile_asked, refuse_of_stores
 from .follow import ExploredFiles, ExploredStore, NotDeterministic, Run, called
 from .grammar import MAX, image_line, number, setting_tokens
-from .layers import Library
+from .layers import InTurn, Library
 from .met import Met
 from .paths import Choice, path_of, text_of
 from .profiles import in_each, paths_of
@@ -59,11 +59,16 @@ class Tree(NamedTuple):
     # The profile of its files. Without one it is of stores.
     files: Optional[str] = None
 
-    def store(self, run: Run) -> Any:
+    def way(self) -> Any:
+        """The way of all runs."""
+        way = (self.by or Library) if self.files is None else files_way(self.by)
+        return InTurn(way) if way in (Library, FilesLibrary) else way
+
+    def store(self, run: Run, way: Any) -> Any:
         """The store, or the files, of a run."""
         if self.files is not None:
-            return ExploredFiles(run, self.settings, self.files, self.by)
-        return ExploredStore(run, self.settings, self.images, self.by, self.allow_stale)
+            return ExploredFiles(run, self.settings, self.files, way)
+        return ExploredStore(run, self.settings, self.images, way, self.allow_stale)
 
 
 class Times(NamedTuple):
@@ -215,6 +220,7 @@ class _Visitor:
 
     def __init__(self, tree: Tree, times: Times, progress: Optional[Progress]) -> None:
         self._tree = tree
+        self._way = tree.way()
         self._times = times
         self._progress = progress
         self._room = _ROOM
@@ -282,7 +288,7 @@ class _Visitor:
         while True:
             bounds = Bounds(tree.calls_per_run, until)
             run = Run(along, self._room, tree.power_losses, tree.seed, bounds, self._states)
-            store = tree.store(run)
+            store = tree.store(run, self._way)
             _running.is_on = True
             try:
                 outcome, error = called(tree.body, store)
@@ -318,10 +324,10 @@ def _compare(before: Run, run: Run) -> None:
     """Raises `NotDeterministic` if two runs differ before the choice at which their paths part."""
     at = run.planned - 1
     calls = min(before.made[at], run.made[at])
-    for where, (was, now) in enumerate(zip(before.calls[:calls], run.calls[:calls])):
-        if was != now:
-            first, second = _different(was, now)
-            raise NotDeterministic.by(f"call {where} of a run was {first}, and of the next one, which had made the same choices, {second}")
+    if before.calls[:calls] != run.calls[:calls]:
+        where, was, now = next((at, *pair) for at, pair in enumerate(zip(before.calls, run.calls)) if pair[0] != pair[1])
+        first, second = _different(was, now)
+        raise NotDeterministic.by(f"call {where} of a run was {first}, and of the next one, which had made the same choices, {second}")
     if before.made[at] != run.made[at]:
         which = f"choice {at} of a run came after {before.made[at]} calls"
         raise NotDeterministic.by(f"{which}, and of the next one, which had made the same choices, after {run.made[at]}")

@@ -61,7 +61,7 @@ class Files(Session):
         if isinstance(settings, str):
             raise TypeError("settings are a list of texts")
         super().__init__(words)
-        self._has_draws = bool(self._words_line()) or seed is not None
+        self._has_draws = bool(self._words_line()) or seed is not None or self._is_search
         self._unsynced = Unsynced()
         self._lines = [*([] if seed is None else [f"seed {number(seed, 'a seed')}"]), f"profile {profile_of(profile)}"]
         # Whether a crash draws for edits: by the rate 1/2, if no setting says another one.

@@ -9,7 +9,7 @@ from .calls import Reply
 from .file_library import files_way
 from .file_settings import torn_unless_set
 from .file_system import Files
-from .foreign import changes
+from .foreign import DRAWS, changes, having
 from .grammar import MAX, number_of_branches
 from .layers import Library
 from .met import Met, State, blobs_of, durable_blobs, frozen, place, settings_of
@@ -17,9 +17,6 @@ from .paths import CHOICE, DRAW, POWER, SIZE, Choice, draws_of
 from .power import PowerLoss, powered
 from .store import Store
 from .traversal import Traversal
-
-# The tokens of most words.
-_WORDS = {0: "0", MAX: "max"}
 
 
 class NotDeterministic(RuntimeError):
@@ -77,8 +74,9 @@ class Run:
         self.losses = losses
         self.is_short = False
         self.error: Optional[NotDeterministic] = None
-        self._left = len(self.words)
-        along.begin(self._left)
+        # How many words were left when draws were counted last.
+        self.left = len(self.words)
+        along.begin(self.left)
 
     @property
     def taken(self) -> List[Choice]:
@@ -115,9 +113,7 @@ class Run:
             self.is_short = True
             self.bounds.check(len(self.words))
             raise MoreWords
-        if left == self._left:
-            return
-        self._left = left
+        self.left = left
         before = self._along.made
         self._along.count(left, sizes)
         if self._along.differs:
@@ -149,23 +145,35 @@ class _Followed:
         self._layer = layer
         self._run = run
         self._of_files = of_files
+        # With a seed no draws are counted.
+        self._drawing = having(DRAWS, of_files) if run.seed is None else ()
+        self._apply, self.close, self.cut_after = layer.apply, layer.close, layer.cut_after
+        self.inode_at = getattr(layer, "inode_at", None)
+
+    @property
+    def is_off(self) -> bool:
+        """Whether the power is off."""
+        return bool(self._layer.is_off)
 
     def apply(self, asked: Any) -> Any:
         """Makes a call. If a resize of a blob fails and the size is another one, that was drawn from those between the old one and the
         new."""
-        run, layer = self._run, self._layer
-        if run.losses and changes(asked.word, self._of_files) and not layer.is_off and run.fails():
-            layer.cut_after(0)
+        run = self._run
+        word = asked.word
+        if run.losses and changes(word, self._of_files) and not self._layer.is_off and run.fails():
+            self._layer.cut_after(0)
         run.calls.append(asked)
-        follows = run.seed is None
-        before = layer.tracked_size(asked.number) if follows and asked.word == "resize" else None
+        draws = word in self._drawing
+        before = self._layer.tracked_size(asked.number) if draws and word == "resize" else None
         try:
-            reply = layer.apply(asked)
+            reply = self._apply(asked)
         except PowerLoss:
             run.calls.pop()
             raise
-        if follows:
-            run.count(layer.words_left(), self._sizes(asked, before, reply))
+        if draws:
+            left = self._layer.words_left()
+            if left != run.left:
+                run.count(left, self._sizes(asked, before, reply))
         return reply
 
     def _sizes(self, asked: Any, before: Optional[int], reply: Any) -> int:
@@ -180,9 +188,6 @@ class _Followed:
         crashes = sum(call.word == "crash" for call in calls)
         return durable_blobs(self._layer, blobs_of(calls, images)), settings_of(calls), crashes, self._run.losses, self._layer.left
 
-    def __getattr__(self, name: str) -> Any:
-        return getattr(self._layer, name)
-
 
 class OnPath(Bounded):
     """What the stores and the files of explored runs share. It stands before the class that makes the calls."""
@@ -192,15 +197,23 @@ class OnPath(Bounded):
 
     def _follow_run(self, run: Run, way: Any) -> Any:
         """Takes a run. Returns the way of its calls, over another one."""
-        self._run, self._bounds = run, run.bounds
-        return lambda preamble: _Followed(powered(way(preamble)), run, self._of_files)
+        self._run, self._bounds, self._way = run, run.bounds, way
+        self._pushes = run.seed is None and hasattr(way, "push_words")
+        return self._begin
+
+    def _begin(self, preamble: bytes) -> Any:
+        layer = self._way(preamble)
+        if self._pushes:
+            layer.push_words(self._run.words)
+        return _Followed(powered(layer), self._run, self._of_files)
 
     def _words_line(self) -> List[str]:
-        """The words that the run is given, and once it has begun those of its draws so far."""
-        if self._run.seed is not None:
+        """The words that the run is given, if they aren't pushed, and once it has begun those of its draws so far."""
+        has_begun = hasattr(self, "_layer")
+        if self._run.seed is not None or (self._pushes and not has_begun):
             return []
-        words = self._run.draws() if hasattr(self, "_layer") else self._run.words
-        return ["words " + " ".join([_WORDS.get(word) or str(word) for word in words])] if words else []
+        words = self._run.draws() if has_begun else self._run.words
+        return ["words " + " ".join("max" if word == MAX else str(word) for word in words)] if words else []
 
     def choose(self, branches: int) -> int:
         """Returns a number below `branches`. Every one is tried, together with the outcomes of the draws."""

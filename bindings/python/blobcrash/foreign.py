@@ -6,7 +6,7 @@ import ctypes
 import os
 import subprocess
 from functools import lru_cache
-from typing import Any, Dict, Optional
+from typing import Any, Dict, FrozenSet, Optional
 
 from .errors import LibraryMissing, NotMade
 
@@ -24,8 +24,8 @@ DONE, ENDLESS, BAD_LINE, NO_MEMORY, NO_ROOM, CLOSED, OTHER_REPLY, UNPRINTED, BAD
 E_BLOB_MISSING = 20
 # The kind that has the word `remove` too: without a name, it removes a partition.
 REMOVE_PARTITION = 10
-# The bit of an effect: what a crash leaves may differ after the call.
-CHANGES = 1
+# The bits of an effect: what a crash leaves may differ after the call; it may take words of the generator.
+CHANGES, DRAWS = 1, 2
 # The tables of words: those of the kinds of calls on stores and on files.
 W_KINDS, W_FILE_KINDS = range(2)
 
@@ -88,7 +88,7 @@ class Branch(ctypes.Structure):
     _fields_ = [("status", ctypes.c_uint32), ("branch", ctypes.c_uint64)]
 
 
-_session, _asked, _words = ctypes.POINTER(Session), ctypes.POINTER(Asked), ctypes.POINTER(ctypes.c_uint64)
+_session, _asked = ctypes.POINTER(Session), ctypes.POINTER(Asked)
 _size, _text, _room, _status = ctypes.c_size_t, ctypes.c_char_p, ctypes.c_void_p, ctypes.c_uint32
 _bytes, _number, _explorer, _choices = (_text, _size), ctypes.c_uint64, ctypes.POINTER(Explorer), ctypes.POINTER(Choice)
 # What each function returns, and takes after a session.
@@ -103,7 +103,7 @@ _OF_SESSIONS = {
     "read": (_status, _size, _number, _room, _size),
     "tracked_size": (TypedReply, _size),
     "words_left": (Ran,),
-    "push_words": (_status, _words, _size),
+    "push_words": (_status, _text, _size),
     "power_off_after": (_status, _number),
     "power_on": (_status,),
     "power": (PowerState,),
@@ -119,7 +119,7 @@ _OF_SESSIONS = {
     "files_kept_edit": (Ran, _size),
     "files_follows": (Ran, _size),
     "files_words_left": (Ran,),
-    "files_push_words": (_status, _words, _size),
+    "files_push_words": (_status, _text, _size),
     "files_power_off_after": (_status, _number),
     "files_power_on": (_status,),
     "files_power": (PowerState,),
@@ -220,10 +220,15 @@ def kinds(table: int) -> Dict[str, int]:
 
 
 @lru_cache(maxsize=None)
+def having(effect: int, of_files: bool = False) -> FrozenSet[str]:
+    """Returns the words of the calls that have an effect. A setting of files has no kind, and none."""
+    ask = function("files_effect" if of_files else "effect")
+    return frozenset(word for word, kind in kinds(W_FILE_KINDS if of_files else W_KINDS).items() if ask(kind) & effect)
+
+
 def changes(word: str, of_files: bool = False) -> bool:
-    """Returns whether what a crash leaves may differ after a call. A setting of files has no kind."""
-    kind = kinds(W_FILE_KINDS if of_files else W_KINDS).get(word)
-    return kind is not None and bool(function("files_effect" if of_files else "effect")(kind) & CHANGES)
+    """Returns whether what a crash leaves may differ after a call."""
+    return word in having(CHANGES, of_files)
 
 
 def check(status: int, what: str = "store is") -> None:

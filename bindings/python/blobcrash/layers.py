@@ -11,8 +11,8 @@ import signal
 import subprocess
 import weakref
 from contextlib import suppress
-from struct import Struct
-from typing import Any, Callable, List, Optional, Union
+from struct import Struct, pack
+from typing import Any, Callable, List, Optional, Type, Union
 
 from .calls import Call, Line, Opened, Reply, made, reply_of
 from .checking import check as faults_of
@@ -214,13 +214,17 @@ class InProcess(InLibrary):
     _is_open = False
 
     def __init__(self, preamble: bytes = b"") -> None:
-        preamble = data_of(preamble, "a preamble")
         self._apply, self._kinds = untyped(f"{self._functions}apply", keeps_lock=False), kinds(self._table)
         self._words_left = untyped(f"{self._functions}words_left")
         self._session, self._asked = Session(), ctypes.create_string_buffer(_ASKED.size)
         self.at, self._asked_at = ctypes.byref(self._session), ctypes.byref(self._asked)
         self.room: Any = ctypes.create_string_buffer(_ROOM)
-        self._is_open = True
+        self.begin(preamble)
+
+    def begin(self, preamble: bytes = b"") -> None:
+        """Begins in place with another preamble: what the session held is ended."""
+        preamble = data_of(preamble, "a preamble")
+        self._is_open, self._has_lost = True, False
         ran = self._call("open", preamble, len(preamble))
         if ran.status == BAD_LINE:
             raise self._bad_preamble(preamble, ran.line)
@@ -229,20 +233,19 @@ class InProcess(InLibrary):
     def words_left(self) -> int:
         """Returns how many words the generator has up to the last one that isn't zero. `ValueError` if a seed gives more."""
         ran = self._words_left(self.at)
-        status = ran.status
-        if status:
-            self._check(status)
-        return int(ran.len)
+        self._check(ran.status)
+        left: int = ran.len
+        return left
 
     def push_words(self, words: List[int]) -> None:
         """Inserts words before those that the generator has."""
-        self._check(self._call("push_words", (ctypes.c_uint64 * len(words))(*words), len(words)))
+        self._check(self._quickest(len(words))("push_words", pack(f"{len(words)}Q", *words), len(words)))
 
     def close(self) -> int:
         """Ends the session, and returns 0."""
         if self._is_open:
             self._is_open = False
-            self._call("close")
+            self._plain("close")
         return 0
 
     def __del__(self) -> None:
@@ -252,23 +255,47 @@ class InProcess(InLibrary):
     def _call(self, name: str, *arguments: Any) -> Any:
         return function(self._functions + name)(self.at, *arguments)
 
+    def _plain(self, name: str, *arguments: Any) -> Any:
+        """As `_call`, of at most five arguments: bytes, buffers and numbers below 2^31. It takes half as long."""
+        return untyped(self._functions + name, False)(self.at, *arguments)
+
+    def _quickest(self, numbers: int) -> Any:
+        """`_plain` or `_call`, by the numbers that it passes, combined by `|`."""
+        return self._call if numbers >> INT_BITS else self._plain
+
     def _applied(self, kind: int, number: int, first: int, last: int, one: bytes, other: bytes) -> Any:
         """Makes a typed call, and returns its reply."""
         _ASKED.pack_into(self._asked, 0, kind, number, first, last)
-        if (len(one) | len(other)) >> INT_BITS:
+        size, length = len(one), len(other)
+        if (size | length) >> INT_BITS:
             raise MemoryError
-        # The last one isn't passed in a register.
-        length = len(other)
-        last_one = _LENGTHS[length] if length < len(_LENGTHS) else ctypes.c_size_t(length)
-        return self._apply(self.at, self._asked_at, one, len(one), other, last_one)
+        # It isn't passed in a register.
+        last_one = _LENGTHS[length] if length < 256 else ctypes.c_size_t(length)
+        return self._apply(self.at, self._asked_at, one, size, other, last_one)
 
     def _check(self, status: int) -> None:
         if status == POWER_LOSS:
             self._lose_power()
-        check(status, self._named)
+        if status != DONE:
+            check(status, self._named)
 
     def _bad_preamble(self, preamble: bytes, line: int) -> BadLine:
         return _bad_at(preamble, line, "bad preamble")
+
+
+class InTurn:
+    """A way of which all sessions are one session of the library, which begins again for each. Use only the last one."""
+
+    def __init__(self, way: Type[InProcess]) -> None:
+        self._way, self.push_words = way, way.push_words
+        self._layer: Optional[InProcess] = None
+
+    def __call__(self, preamble: bytes) -> InProcess:
+        if self._layer is None:
+            self._layer = self._way(preamble)
+        else:
+            self._layer.begin(preamble)
+        return self._layer
 
 
 class Library(InProcess):
@@ -316,7 +343,7 @@ class Library(InProcess):
             asked = Call("read", handle, offset, length)
             found: Union[bytes, Reply] = made(asked, self.call(str(asked).encode()).decode())
             return found
-        status = self._call("read", handle, offset, self.room, length)
+        status = self._quickest(handle | offset | length)("read", handle, offset, self.room, length)
         return self.room[:length] if status == DONE else self.refusal(status)
 
     def write(self, handle: int, offset: int, data: bytes, sync: bool = False) -> Optional[Reply]:
@@ -324,7 +351,7 @@ class Library(InProcess):
         data = data_of(data, "the data of a write")
         if not 0 <= handle <= MAX or not 0 <= offset <= MAX:
             raise ValueError(_NO_NUMBER)
-        status = self._call("write", handle, offset, data, len(data), sync)
+        status = self._quickest(handle | offset | len(data))("write", handle, offset, data, len(data), bool(sync))
         return None if status == DONE else self.refusal(status)
 
     def _value(self, word: str, reply: Any) -> Any:
@@ -364,7 +391,7 @@ class Library(InProcess):
 
     def _last(self) -> bytes:
         """The last reply, as the program prints it."""
-        return self._printed(self._call("reply", self.room, len(self.room)))
+        return self._printed(self._quickest(len(self.room))("reply", self.room, len(self.room)))
 
     def _printed(self, ran: Ran) -> bytes:
         """A reply in the buffer. Grows it if it is too small."""

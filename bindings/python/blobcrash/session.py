@@ -22,6 +22,8 @@ class Session:
     _is_search = False
     # Whether each call is counted before it is made.
     _is_bounded = False
+    # What ends it at a call, if its calls are counted.
+    _bounds: Any = None
     _layer: Any
     _opened: Dict[int, Any]
 
@@ -46,9 +48,10 @@ class Session:
         """Ends it. Its calls, and those of what it has opened, then raise `ValueError`."""
         if get_ident() != self._thread:
             raise self._unusable()
-        self._owner, self._closed = None, True
-        self._opened.clear()
-        self._layer.close()
+        if not self._closed:
+            self._owner, self._closed = None, True
+            self._opened.clear()
+            self._layer.close()
 
     @property
     def script(self) -> List[str]:
@@ -106,6 +109,9 @@ class Session:
         """Makes a call, and returns what the layer does."""
         if self._owner != get_ident():
             raise self._unusable()
+        bounds = self._bounds
+        if bounds is not None:
+            bounds.count()
         self._owner = None
         try:
             reply = self._layer.apply(asked)

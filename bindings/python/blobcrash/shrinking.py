@@ -125,6 +125,7 @@ class Replay(Run):
         super().__init__(Traversal(), 0, len(choices.losses), bounds=bounds)
         self._chosen: List[Choice] = []
         self.words = [*choices.draws, *[MAX] * (room + 1)]
+        self.left = len(self.words)
         self._picks = iter(choices.picks)
         self._gaps = iter(choices.losses)
         self._gap = next(self._gaps, 0)
@@ -155,7 +156,7 @@ class Replay(Run):
         if left == 0:
             self.is_short = True
             raise MoreWords
-        drawn = len(self.words) - left
+        self.left, drawn = left, len(self.words) - left
         words = self.words[self._taken_words : drawn]
         self._chosen += [(DRAW, WORDS.index(word) if word in WORDS else word, 2) for word in words]
         if sizes and words:

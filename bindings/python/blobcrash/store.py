@@ -56,7 +56,7 @@ class Store(Session):
         if seed is not None:
             lines.append(f"seed {number(seed, 'a seed')}")
         words_line = self._words_line()
-        self._has_draws = bool(words_line) or seed is not None
+        self._has_draws = bool(words_line) or seed is not None or self._is_search
         self._unsynced = Unsynced()
         for setting in settings:
             lines.append(self._setting_line(setting))

@@ -3,11 +3,15 @@
 from __future__ import annotations
 
 import ctypes
+from struct import Struct
 from typing import Any, List, Sequence
 
-from .foreign import NO_ROOM, Choice, Explorer, function
+from .foreign import NO_ROOM, Choice, Explorer, function, untyped
 from .paths import KINDS, text_of
 from .paths import Choice as Chosen
+
+# The fields of a `Choice`.
+_CHOICE = Struct("@I4xQQ")
 
 
 class Traversal:
@@ -17,8 +21,8 @@ class Traversal:
         self._explorer = Explorer(root=len(path), len=len(path))
         self._at = ctypes.byref(self._explorer)
         self._hold(max(64, 2 * len(path)))
-        for choice, (kind, branch, among) in zip(self._choices, path):
-            choice.kind, choice.branch, choice.among = KINDS.index(kind), branch, among
+        for at, (kind, branch, among) in enumerate(path):
+            _CHOICE.pack_into(self._choices, at * _CHOICE.size, KINDS.index(kind), branch, among)
 
     @property
     def planned(self) -> int:
@@ -38,16 +42,16 @@ class Traversal:
     @property
     def path(self) -> List[Chosen]:
         """The choices of the path."""
-        return self._first(self._explorer.len)
+        return self._rows(0, self._explorer.len)
 
     @property
     def taken(self) -> List[Chosen]:
         """The choices of the run."""
-        return self._first(self._explorer.taken)
+        return self._rows(0, self._explorer.taken)
 
     def begin(self, given: int) -> None:
         """Begins the run of the path, with this many words."""
-        function("explorer_begin")(self._at, given)
+        untyped("explorer_begin")(self._at, given)
 
     def choose(self, kind: str, among: int) -> int:
         """Makes the next choice of the run, and returns its branch."""
@@ -65,15 +69,15 @@ class Traversal:
     def _counted(self, left: int, sizes: int) -> int:
         if sizes:
             return int(function("explorer_count_size")(self._at, self._choices, self._capacity, left, sizes))
-        return int(function("explorer_count")(self._at, self._choices, self._capacity, left))
+        return int(untyped("explorer_count")(self._at, self._choices, self._capacity, left))
 
     def end(self) -> bool:
         """Ends the run. Returns whether it made the choices of the path, and no fewer."""
-        return bool(function("explorer_end")(self._at))
+        return bool(untyped("explorer_end")(self._at))
 
     def advance(self) -> bool:
         """Makes the path that of the next leaf. Returns `False` for the last one."""
-        return bool(function("explorer_next")(self._at, self._choices, self._capacity))
+        return bool(untyped("explorer_next")(self._at, self._choices, self._capacity))
 
     def rest(self) -> List[str]:
         """The subtrees that are left, from that of the path on, as texts."""
@@ -83,12 +87,13 @@ class Traversal:
         texts = [" ".join(tokens)]
         while other.advance():
             # The choices before the last one are the path's own, so their texts are made once.
-            last = other._choices[other.planned - 1]
-            texts.append(" ".join([*tokens[: other.planned - 1], text_of([_chosen(last)])]))
+            last = other.planned - 1
+            texts.append(" ".join([*tokens[:last], text_of(other._rows(last, last + 1))]))
         return texts
 
-    def _first(self, count: int) -> List[Chosen]:
-        return [_chosen(choice) for choice in self._choices[:count]]
+    def _rows(self, start: int, end: int) -> List[Chosen]:
+        rows = _CHOICE.iter_unpack(self._bytes[start * _CHOICE.size : end * _CHOICE.size])
+        return [(KINDS[kind], branch, among) for kind, branch, among in rows]
 
     def _hold(self, capacity: int) -> None:
         """Takes a longer list, with the same choices."""
@@ -97,7 +102,4 @@ class Traversal:
         if held is not None:
             ctypes.memmove(choices, held, ctypes.sizeof(held))
         self._choices, self._capacity = choices, capacity
-
-
-def _chosen(choice: Choice) -> Chosen:
-    return KINDS[choice.kind], choice.branch, choice.among
+        self._bytes: Any = (ctypes.c_char * ctypes.sizeof(choices)).from_buffer(choices)
