@@ -18,49 +18,54 @@ VERDICTS = ("held", "lost", "damaged", "not started", "too slow", "untested")
 FINE = ("held", "untested")
 # The status of a check that finds damage.
 DAMAGED = 2
+# The states of a process that was killed while a call of it waits: of its first thread, which may have ended.
+WAITING = (b"D", b"Z")
 
 
 def processes():
-    """Returns the parent of each process."""
-    parents = {}
+    """Returns the state and the parent of each process."""
+    found = {}
     for name in os.listdir("/proc"):
         if name.isdigit():
             try:
                 with open(f"/proc/{name}/stat", "rb") as file:
-                    parents[int(name)] = int(file.read().rpartition(b")")[2].split()[1])
-            except (OSError, IndexError):
+                    state, parent = file.read().rpartition(b")")[2].split()[:2]
+                found[int(name)] = state, int(parent)
+            except (OSError, ValueError):
                 pass
-    return parents
-
-
-def started(spared):
-    """Returns the processes that come from this one, apart from one and what comes from it."""
-    parents, found = processes(), []
-    for process in parents:
-        above = process
-        while above not in (os.getpid(), spared, 0, None):
-            above = parents.get(above)
-        if above == os.getpid() and process != above:
-            found.append(process)
     return found
 
 
-def kill_started(spared, seconds):
+def started(spared):
+    """Returns the processes that come from this one, with their states, apart from one and what comes from it."""
+    everything, found = processes(), {}
+    for process in everything:
+        above = process
+        while above not in (os.getpid(), spared, 0, None):
+            above = everything.get(above, (None, None))[1]
+        if above == os.getpid() and process != above:
+            found[process] = everything[process][0]
+    return found
+
+
+def kill_started(spared, seconds, is_off=False):
     """
-    Kills what was started, and waits for its end. Returns whether all of it has ended. While the power is off, a program may have to
-    wait for the last pages that it mapped. Its orphans are children of this process, which is their reaper.
+    Kills what was started, and waits for its end. Returns whether all of it has ended. While the power is off, a call on the mount can't
+    end, and a program may have to wait for the last pages that it mapped: then it waits only until all that is left does so. Orphans are
+    children of this process, which is their reaper.
     """
-    until, empty = time.monotonic() + seconds, 0
+    until, same, before = time.monotonic() + seconds, 0, None
     while True:
         left = started(spared)
-        empty = 0 if left else empty + 1
+        waits = not left or (is_off and left == before and all(state in WAITING for state in left.values()))
+        same, before = same + 1 if waits else 0, left
         for process in left:
             try:
                 os.kill(process, signal.SIGKILL)
                 os.waitpid(process, os.WNOHANG)
             except (ProcessLookupError, ChildProcessError):
                 pass
-        if empty == 2 or time.monotonic() > until:  # one whose parent has just ended may be missed once
+        if same == 2 or time.monotonic() > until:  # one whose parent has just ended may be missed once
             return not left
         time.sleep(0.002)
 
@@ -137,7 +142,7 @@ class Run:
     def crash(self):
         """Kills what runs, and crashes."""
         self.mount.ask("off")
-        kill_started(self.mount.daemon.pid, 0.2)
+        kill_started(self.mount.daemon.pid, 0.2, is_off=True)
         self.mount.ask("crash")
         if not kill_started(self.mount.daemon.pid, 20):
             raise Broken("a process can't be killed")

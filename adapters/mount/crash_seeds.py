@@ -232,7 +232,7 @@ def main(words, executor=None):
     if options.one:
         return run_one(options)
     own = None
-    at_once = options.jobs if executor is None else 2 * (getattr(executor, "_max_workers", None) or 64)
+    at_once = 2 * options.jobs if executor is None else 2 * (getattr(executor, "_max_workers", None) or 64)
     progress, points, status = progress_line(), None, 0
     totals = Totals(options, words, progress)
     try:

@@ -137,8 +137,8 @@ done
 # shellcheck disable=SC2086
 [ $# -gt 0 ] || set -- $all
 export PYTHONDONTWRITEBYTECODE=1
-# The program itself: on some machines python3 is a script that looks for it.
-python=$(python3 -c 'import shlex, sys; print(shlex.quote(sys.executable))')
+# The program itself: on some machines python3 is a script that looks for it. No driver needs a package.
+python="$(python3 -c 'import shlex, sys; print(shlex.quote(sys.executable))') -S"
 mkdir -p out/mount/programs
 if [ -n "$syncs" ]; then
     "${CC:-cc}" -std=c11 -O2 -Wall -Wextra -shared -fPIC -o out/mount/syncs.so adapters/mount/programs/syncs.c -ldl

@@ -16,7 +16,7 @@ from driver import DAMAGED, KEYS, MOUNT, OPERATIONS, judge, main, pairs
 HERE = os.path.dirname(os.path.realpath(__file__))
 OUT = os.path.join(HERE, "..", "..", "..", "out", "mount")
 STORE = f"{MOUNT}/store"
-INTERPRETERS = {".py": [sys.executable], ".rb": ["ruby"], ".pl": ["perl"], ".lua": ["tarantool"], ".escript": ["escript"]}
+INTERPRETERS = {".py": [sys.executable, "-S"], ".rb": ["ruby"], ".pl": ["perl"], ".lua": ["tarantool"], ".escript": ["escript"]}
 
 
 def compiled(name, commands, sources):
@@ -43,7 +43,7 @@ def program(kind):
     if source.endswith(".java"):
         compiled("stores-java.jar", [["javac", "-d", "NEW", source], ["jar", "cf", "NEW/made", "-C", "NEW", f"{library}.class"]], [source])
         jars = ":".join(f"/usr/share/java/{name}.jar" for name in ("hsqldb", "h2", "derby"))
-        return ["java", "-Dderby.stream.error.file=/dev/null", "-cp", f"{OUT}/stores-java.jar:{jars}", library]
+        return ["java", "-XX:TieredStopAtLevel=1", "-XX:+UseSerialGC", "-Dderby.stream.error.file=/dev/null", "-cp", f"{OUT}/stores-java.jar:{jars}", library]
     linker = "c++" if source.endswith(".cc") else "cc"
     commands = [["cc", "-std=c11", *flags, "-o", "NEW/main.o", main_file],
                 [linker, *([] if linker == "c++" else ["-std=c11"]), *flags, "-o", "NEW/part.o", source],

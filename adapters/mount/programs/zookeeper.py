@@ -46,7 +46,7 @@ def serves():
 
 def start():
     """Starts the server."""
-    command = ["java", "-Xmx64m", "-XX:TieredStopAtLevel=1", "-Dzookeeper.admin.enableServer=false", "-cp", "/usr/share/java/zookeeper.jar",
+    command = ["java", "-Xmx64m", "-XX:TieredStopAtLevel=1", "-XX:+UseSerialGC", "-Dzookeeper.admin.enableServer=false", "-cp", "/usr/share/java/zookeeper.jar",
                "org.apache.zookeeper.server.ZooKeeperServerMain", str(PORT), f"{MOUNT}/data"]
     with open(os.path.join(SCRATCH, "output"), "ab") as output:
         return 0 if serve(command, serves, stdout=output, stderr=output, cwd=SCRATCH) else 1
