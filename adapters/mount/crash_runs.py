@@ -54,7 +54,7 @@ def kill_started(spared, seconds, is_off=False):
     end, and a program may have to wait for the last pages that it mapped: then it waits only until all that is left does so. Orphans are
     children of this process, which is their reaper.
     """
-    until, same, before = time.monotonic() + seconds, 0, None
+    until, same, before, looks = time.monotonic() + seconds, 0, None, 0
     while True:
         left = started(spared)
         waits = not left or (is_off and left == before and all(state in WAITING for state in left.values()))
@@ -67,7 +67,8 @@ def kill_started(spared, seconds, is_off=False):
                 pass
         if same == 2 or time.monotonic() > until:  # one whose parent has just ended may be missed once
             return not left
-        time.sleep(0.002)
+        looks += 1
+        time.sleep(min(0.002 * looks, 0.02))
 
 
 class Run:
@@ -103,14 +104,15 @@ class Run:
         self.log.flush()
         process = subprocess.Popen(["sh", "-c", text], env=self.environment, stdin=subprocess.DEVNULL, stdout=self.log,
                                    stderr=self.log, start_new_session=True)
-        until = time.monotonic() + self.options.timeout
+        began = time.monotonic()
         while True:
+            took = time.monotonic() - began
             try:
-                return process.wait(0.004)
+                return process.wait(min(max(0.004, took / 25), 0.05))
             except subprocess.TimeoutExpired:
                 if self.mount.control.is_off():
                     return None
-                if time.monotonic() > until:
+                if took > self.options.timeout:
                     return "too slow"
 
     def prepare(self):

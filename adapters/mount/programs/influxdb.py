@@ -41,7 +41,7 @@ def start():
         file.write(CONFIG)
     with open(os.path.join(SCRATCH, "output"), "ab") as output:
         command = ["influxd", "-config", file.name]
-        return 0 if serve(command, lambda: ask("ping") is not None, stdout=output, stderr=output, env={**os.environ, "GOMAXPROCS": "1"}) else 1
+        return 0 if serve(command, lambda: ask("ping") is not None, 20, stdout=output, stderr=output, env={**os.environ, "GOMAXPROCS": "1"}) else 1
 
 
 def write_points():

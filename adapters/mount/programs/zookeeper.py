@@ -30,15 +30,15 @@ def call(session, kind, key, rest):
     return struct.unpack(">i", reply[12:16])[0], reply[16:]
 
 
-def connect():
-    session = socket.create_connection(("127.0.0.1", PORT), timeout=40)
+def connect(timeout=40):
+    session = socket.create_connection(("127.0.0.1", PORT), timeout=timeout)
     ask(session, struct.pack(">iqiq", 0, 0, 30000, 0) + text(bytes(16)))
     return session
 
 
 def serves():
     try:
-        connect().close()
+        connect(3).close()
         return True
     except (OSError, struct.error):
         return False
