@@ -41,10 +41,14 @@ def read(name):
 
 
 def check(kind):
-    """Checks that all files exist, with their values. Of vim a backup counts too, which it removes after the write. dd may be at the next file."""
+    """
+    Checks that all files exist, with their values. Of vim the backup counts too, which it removes after the write, if the file has neither
+    the old value nor the new one: a backup of an earlier write may be back. dd may be at the next file.
+    """
     found = {key: read(f"{key}") if os.path.exists(f"{MOUNT}/{key}") else "" for key in range(KEYS)}
     following = last_acknowledged() + 1
-    if kind == "vim" and found[following % KEYS] != value(following) and os.path.exists(f"{MOUNT}/{following % KEYS}~"):
+    values = (value(following), value(following - KEYS) if following > KEYS else "none")
+    if kind == "vim" and found[following % KEYS] not in values and os.path.exists(f"{MOUNT}/{following % KEYS}~"):
         found[following % KEYS] = read(f"{following % KEYS}~")
     if kind == "dd":
         found[following % KEYS] = value(following)
