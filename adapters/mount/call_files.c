@@ -11,12 +11,8 @@
 
 enum { COPIED_MOST = 1 << 20 }; /* by one write of the layer */
 
-int call_truncate(struct node *node, uint64_t length) {
-    if (!is_file(node)) return EINVAL;
-    bool is_edit = node->size != length;
-    int error = is_edit ? nodes_make_room() : 0;
-    if (!error && is_edit) error = node_open(node);
-    if (!error && is_edit) error = layer_truncate(node->descriptor, length);
+/* Notes that a file was truncated, unless that failed. Returns the error. */
+static int note_truncated(struct node *node, uint64_t length, bool is_edit, int error) {
     if (error) {
         node_measure(node);
         return error;
@@ -27,20 +23,22 @@ int call_truncate(struct node *node, uint64_t length) {
     return 0;
 }
 
+int call_truncate(struct node *node, uint64_t length) {
+    if (!is_file(node)) return EINVAL;
+    bool is_edit = node->size != length;
+    int error = is_edit ? nodes_make_room() : 0;
+    if (!error && is_edit) error = node_open(node);
+    if (!error && is_edit) error = layer_truncate(node->descriptor, length);
+    return note_truncated(node, length, is_edit, error);
+}
+
 /* Truncates a file as an open does. */
 static int open_truncated(struct node *node) {
     if (node->is_truncated) return call_truncate(node, 0);
     bool is_edit = node->size > 0;
     int error = is_edit ? nodes_make_room() : 0;
     if (!error) error = node_open_truncated(node);
-    if (error) {
-        node_measure(node);
-        return error;
-    }
-    node_counts.changes += is_edit;
-    node_resized(node, 0);
-    node_written(node);
-    return 0;
+    return note_truncated(node, 0, is_edit, error);
 }
 
 void call_opened(struct node *node, struct fuse_file_info *info) {

@@ -129,13 +129,14 @@ static void lose_name(struct node *directory, struct node *node) {
     node_rest(node);
 }
 
-void call_unlink(fuse_req_t req, fuse_ino_t parent, const char *name) {
+/* Removes a name by a call of the layer. */
+static void remove_name(fuse_req_t req, fuse_ino_t parent, const char *name, int (*remove)(uint64_t directory, const char *name)) {
     struct node *directory = call_begin(req, parent, CALL_CHANGES_NAMES);
     if (!directory) return;
     struct node *node = find(directory, name);
     /* An open file lives on, by its descriptor. */
     int error = node && node->opens > 0 ? node_open(node) : 0;
-    if (!error) error = layer_unlink(directory->inode, name);
+    if (!error) error = remove(directory->inode, name);
     if (!error) {
         node_written(directory);
         if (node) lose_name(directory, node);
@@ -143,17 +144,9 @@ void call_unlink(fuse_req_t req, fuse_ino_t parent, const char *name) {
     fuse_reply_err(req, error);
 }
 
-void call_rmdir(fuse_req_t req, fuse_ino_t parent, const char *name) {
-    struct node *directory = call_begin(req, parent, CALL_CHANGES_NAMES);
-    if (!directory) return;
-    struct node *node = find(directory, name);
-    int error = layer_remove_directory(directory->inode, name);
-    if (!error) {
-        node_written(directory);
-        if (node) lose_name(directory, node);
-    }
-    fuse_reply_err(req, error);
-}
+void call_unlink(fuse_req_t req, fuse_ino_t parent, const char *name) { remove_name(req, parent, name, layer_unlink); }
+
+void call_rmdir(fuse_req_t req, fuse_ino_t parent, const char *name) { remove_name(req, parent, name, layer_remove_directory); }
 
 /* Notes that a node has moved from one directory to another. */
 static void move(struct node *node, struct node *from, struct node *to, const char *name) {

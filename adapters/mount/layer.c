@@ -39,6 +39,13 @@ static int run(uint32_t kind, uint64_t number, uint64_t first, const char *path)
     return error_of(apply(kind, number, first, path).status);
 }
 
+/* Makes a call that replies with a number. */
+static int ask(uint32_t kind, uint64_t number, const char *path, uint64_t *found) {
+    struct blobcrash_file_reply reply = apply(kind, number, 0, path);
+    *found = reply.number;
+    return error_of(reply.status);
+}
+
 /* Keeps the setting of writes, the last one of some lines. */
 static void keep_setting(const char *lines) {
     for (const char *found = lines; (found = strstr(found, "config write ")); found++)
@@ -92,18 +99,12 @@ int layer_list(uint64_t directory, struct layer_name **names, size_t *count) {
 }
 
 int layer_create(uint64_t directory, const char *name, uint64_t *inode, uint64_t *descriptor) {
-    struct blobcrash_file_reply reply = apply(BLOBCRASH_F_CREATE_AT, directory, 0, name);
-    if (reply.status != BLOBCRASH_DONE) return error_of(reply.status);
-    *descriptor = reply.number;
-    reply = apply(BLOBCRASH_F_INODE_OF, *descriptor, 0, NULL);
-    *inode = reply.number;
-    return error_of(reply.status);
+    int error = ask(BLOBCRASH_F_CREATE_AT, directory, name, descriptor);
+    return error ? error : ask(BLOBCRASH_F_INODE_OF, *descriptor, NULL, inode);
 }
 
 int layer_make_directory(uint64_t directory, const char *name, uint64_t *inode) {
-    struct blobcrash_file_reply reply = apply(BLOBCRASH_F_MAKE_DIRECTORY_AT, directory, 0, name);
-    *inode = reply.number;
-    return error_of(reply.status);
+    return ask(BLOBCRASH_F_MAKE_DIRECTORY_AT, directory, name, inode);
 }
 
 int layer_link(uint64_t inode, uint64_t directory, const char *name) { return run(BLOBCRASH_F_LINK_AT, directory, inode, name); }
@@ -122,16 +123,10 @@ int layer_rename(uint64_t directory, const char *name, uint64_t to_directory, co
 
 int layer_sync_directory(uint64_t directory) { return run(BLOBCRASH_F_SYNC_DIRECTORY_AT, directory, 0, NULL); }
 
-int layer_open(uint64_t inode, uint64_t *descriptor) {
-    struct blobcrash_file_reply reply = apply(BLOBCRASH_F_OPEN_INODE, inode, 0, NULL);
-    *descriptor = reply.number;
-    return error_of(reply.status);
-}
+int layer_open(uint64_t inode, uint64_t *descriptor) { return ask(BLOBCRASH_F_OPEN_INODE, inode, NULL, descriptor); }
 
 int layer_open_truncated(uint64_t inode, uint64_t *descriptor) {
-    struct blobcrash_file_reply reply = apply(BLOBCRASH_F_OPEN_INODE_TRUNCATED, inode, 0, NULL);
-    *descriptor = reply.number;
-    return error_of(reply.status);
+    return ask(BLOBCRASH_F_OPEN_INODE_TRUNCATED, inode, NULL, descriptor);
 }
 
 int layer_close(uint64_t descriptor) { return run(BLOBCRASH_F_CLOSE, descriptor, 0, NULL); }
