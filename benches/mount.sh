@@ -1,10 +1,10 @@
 #!/bin/sh
 # Times calls on the mount, on passthrough_ll of libfuse's examples (one thread, over tmpfs), and on tmpfs itself, in turn in one run.
-# Prints microseconds an operation, the fastest of three rounds, and the daemon's time as a multiple of passthrough_ll's; transactions a
-# second of pgbench, if there is a PostgreSQL; what a crash takes; with valgrind, the instructions of the daemon for an operation. Goes
-# to standard error. A test runs it, and compares no time. The argument is the seconds of a round, 0.5 if none is given; MEGABYTES and
-# FILES are what a crash finds unsynced, 512 and 20000. Below 0.1 seconds there is no pgbench and no count. On a busy machine compare the
-# instructions.
+# Prints microseconds an operation by the clock, the fastest of three rounds, and of the processor, the least of them, of the program and
+# the daemon together, each also as a multiple of passthrough_ll's; transactions a second of pgbench, if there is a PostgreSQL; what a
+# crash takes; with valgrind, the instructions of the daemon for an operation. Goes to standard error. A test runs it, and compares no
+# time. The argument is the seconds of a round, 0.5 if none is given; MEGABYTES and FILES are what a crash finds unsynced, 512 and 20000.
+# Below 0.1 seconds there is no pgbench and no count. On a busy machine compare the instructions.
 set -eu
 
 top=$(CDPATH='' cd -- "$(dirname -- "$0")/.." && pwd -P)
@@ -26,23 +26,35 @@ trap finish EXIT
 exec 1>&2
 
 program=$(sh "$top/adapters/mount/build.sh")
-cc -std=c11 -O2 -o "$work/times" "$top/benches/mount_times.c"
+cc -std=c11 -O2 -DWITH_SQLITE -o "$work/times" "$top/benches/mount_times.c" -lsqlite3 2>/dev/null ||
+    cc -std=c11 -O2 -o "$work/times" "$top/benches/mount_times.c"
 mkdir "$plain/below" "$plain/tmpfs" "$work/passthrough" "$work/ours" "$work/counted"
-"$program" "$work/ours" --size 4G --allow-other --control "$work/socket"
-set -- "$plain/tmpfs" "$work/ours"
+# serve FOLDER COMMAND ..: starts a daemon, and waits for its mount.
+serve() {
+    folder=$1
+    shift
+    "$@" &
+    until mountpoint -q "$folder"; do
+        kill -0 $! 2>/dev/null || exit 1
+        sleep 0.1
+    done
+}
+serve "$work/ours" "$program" "$work/ours" --size 4G --allow-other --control "$work/socket" --foreground
+ours=$!
+set -- "$plain/tmpfs" 0 "$work/ours" "$ours"
 if [ -f "$example" ]; then
     # shellcheck disable=SC2046
     cc -O2 $(pkg-config --cflags fuse3) -o "$work/passthrough_ll" "$example" $(pkg-config --libs fuse3)
-    "$work/passthrough_ll" -s -o "source=$plain/below,cache=always,allow_other" "$work/passthrough"
-    set -- "$plain/tmpfs" "$work/passthrough" "$work/ours"
-    echo '| us | tmpfs | passthrough_ll | mount | mount / passthrough_ll |'
-    echo '|---|---|---|---|---|'
+    serve "$work/passthrough" "$work/passthrough_ll" -f -s -o "source=$plain/below,cache=always,allow_other" "$work/passthrough"
+    set -- "$plain/tmpfs" 0 "$work/passthrough" $! "$work/ours" "$ours"
 else
     echo "there is no $example (Debian: libfuse3-dev)"
 fi
+echo '| us, by the clock; of the processor | tmpfs | passthrough_ll | mount | mount / passthrough_ll |'
+echo '|---|---|---|---|---|'
 "$work/times" "$seconds" "$@" | awk -F '\t' '
-    NF == 4 { printf "| %s | %s | %s | %s | %.2f |\n", $1, $2, $3, $4, $4 / $3 }
-    NF == 3 { printf "| %s | %s | none | %s | |\n", $1, $2, $3 }'
+    NF == 7 { printf "| %s | %s; %s | %s; %s | %s; %s | %.2f; %.2f |\n", $1, $2, $3, $4, $5, $6, $7, $6 / $4, $7 / $5 }
+    NF == 5 { printf "| %s | %s; %s | none | %s; %s | |\n", $1, $2, $3, $4, $5 }'
 
 # pgbench's own transactions, one client, with the cluster in a folder.
 transactions() {
@@ -56,7 +68,11 @@ transactions() {
 
 is_short=$(awk -v seconds="$seconds" 'BEGIN { print seconds < 0.1 }')
 if [ "$is_short" -eq 0 ] && ls /usr/lib/postgresql/*/bin/postgres >/dev/null 2>&1; then
-    for folder; do echo "pgbench on $(stat -f -c %T "$folder") ${folder##*/}: $(transactions "$folder") transactions a second"; done
+    for folder; do
+        case $folder in
+        /*) echo "pgbench on $(stat -f -c %T "$folder") ${folder##*/}: $(transactions "$folder") transactions a second" ;;
+        esac
+    done
 fi
 
 # crash: prints what a crash kept, and how long it took.

@@ -1,6 +1,7 @@
 /*
- * mount_times SECONDS DIR..: times calls in folders, in turn, three rounds of SECONDS for each. Prints a line for each workload: its
- * name, then the fastest round in each folder in microseconds an operation.
+ * mount_times SECONDS {DIR DAEMON}..: times calls in folders, in turn, three rounds of SECONDS for each. DAEMON is the process that serves
+ * the folder, or 0. Prints a line for each workload: its name, then for each folder the microseconds of an operation in the fastest round,
+ * and those of the processor in the least, of this process and the daemon.
  *
  * mount_times WORKLOAD COUNT DIR: makes a workload's operations that many times, without a time, for a count of instructions.
  */
@@ -10,8 +11,12 @@
 #include <stdio.h>
 #include <stdlib.h>
 #include <string.h>
+#include <sys/types.h>
 #include <time.h>
 #include <unistd.h>
+#ifdef WITH_SQLITE
+#include <sqlite3.h>
+#endif
 
 enum { MEGABYTE = 1 << 20, PAGE = 4096, FILE_PAGES = 4096, ROUNDS = 3, DIRS = 8 };
 
@@ -24,10 +29,18 @@ static void need(long result, const char *what) {
     exit(1);
 }
 
-static double now(void) {
-    struct timespec time;
-    clock_gettime(CLOCK_MONOTONIC, &time);
+/* Returns the microseconds of a clock. */
+static double time_of(clockid_t clock) {
+    struct timespec time = {0};
+    clock_gettime(clock, &time);
     return (double)time.tv_sec * 1e6 + (double)time.tv_nsec / 1e3;
+}
+
+/* Returns the microseconds of the processor that this process and a daemon have used. */
+static double used_with(pid_t daemon) {
+    clockid_t clock;
+    double used = time_of(CLOCK_PROCESS_CPUTIME_ID);
+    return daemon && clock_getcpuclockid(daemon, &clock) == 0 ? used + time_of(clock) : used;
 }
 
 static void open_file(const char *name) {
@@ -86,6 +99,30 @@ static void replace(unsigned long number) {
     need(fsync(folder), "fsync");
 }
 
+#ifdef WITH_SQLITE
+static sqlite3 *database;
+
+static void run_sql(const char *text) {
+    char *error;
+    if (sqlite3_exec(database, text, NULL, NULL, &error) == SQLITE_OK) return;
+    fprintf(stderr, "%s: %s\n", text, error);
+    exit(1);
+}
+
+static void begin_database(void) {
+    char path[64];
+    snprintf(path, sizeof path, "/proc/self/fd/%d/database", folder);
+    file = -1;
+    if (sqlite3_open(path, &database) != SQLITE_OK) exit(1);
+    run_sql("pragma journal_mode = wal; pragma synchronous = full; create table if not exists t(n integer primary key, x)");
+}
+
+static void insert(unsigned long number) {
+    (void)number;
+    run_sql("insert into t(x) values(hex(randomblob(200)))");
+}
+#endif
+
 static const struct workload {
     const char *name;
     void (*begin)(void);
@@ -97,6 +134,9 @@ static const struct workload {
     {"1 MB write, in sequence", begin_sequence, write_megabyte},
     {"1 MB read, not cached", begin_pages, read_megabyte},
     {"create, write, fsync, rename, fsync of the folder", begin_replace, replace},
+#ifdef WITH_SQLITE
+    {"a transaction of SQLite in WAL, FULL", begin_database, insert},
+#endif
 };
 enum { WORKLOADS = sizeof workloads / sizeof *workloads };
 
@@ -107,31 +147,42 @@ static void begin(const struct workload *workload, const char *at) {
 }
 
 static void end(void) {
+#ifdef WITH_SQLITE
+    sqlite3_close(database);
+    database = NULL;
+#endif
     if (file >= 0) close(file);
     close(folder);
 }
 
-/* Returns the microseconds of an operation. */
-static double measure(const struct workload *workload, const char *at, double seconds) {
+/* The microseconds of an operation, and those of the processor. */
+struct measured {
+    double time, used;
+};
+
+static struct measured measure(const struct workload *workload, char **folder_and_daemon, double seconds) {
+    pid_t daemon = (pid_t)atol(folder_and_daemon[1]);
     unsigned long count = 0;
-    begin(workload, at);
-    double start = now(), until = start + seconds * 1e6, time;
+    begin(workload, folder_and_daemon[0]);
+    double used = used_with(daemon), start = time_of(CLOCK_MONOTONIC), until = start + seconds * 1e6, time;
     do workload->run(count++);
-    while ((time = now()) < until);
+    while ((time = time_of(CLOCK_MONOTONIC)) < until);
+    used = used_with(daemon) - used;
     end();
-    return (time - start) / (double)count;
+    return (struct measured){(time - start) / (double)count, used / (double)count};
 }
 
 static void measure_all(const struct workload *workload, char **folders, int count, double seconds) {
-    double fastest[DIRS] = {0};
+    struct measured least[DIRS];
     for (int round = 0; round < ROUNDS; round++) {
         for (int at = 0; at < count; at++) {
-            double time = measure(workload, folders[at], seconds);
-            if (round == 0 || time < fastest[at]) fastest[at] = time;
+            struct measured found = measure(workload, folders + 2 * at, seconds);
+            if (round == 0 || found.time < least[at].time) least[at].time = found.time;
+            if (round == 0 || found.used < least[at].used) least[at].used = found.used;
         }
     }
     printf("%s", workload->name);
-    for (int at = 0; at < count; at++) printf("\t%.1f", fastest[at]);
+    for (int at = 0; at < count; at++) printf("\t%.1f\t%.1f", least[at].time, least[at].used);
     putchar('\n');
     fflush(stdout);
 }
@@ -146,7 +197,7 @@ int main(int count, char **words) {
             return 0;
         }
     }
-    if (count < 3 || count - 2 > DIRS || atof(words[1]) <= 0) return 2;
-    for (int at = 0; at < WORKLOADS; at++) measure_all(&workloads[at], words + 2, count - 2, atof(words[1]));
+    if (count < 4 || count % 2 || (count - 2) / 2 > DIRS || atof(words[1]) <= 0) return 2;
+    for (int at = 0; at < WORKLOADS; at++) measure_all(&workloads[at], words + 2, (count - 2) / 2, atof(words[1]));
     return 0;
 }
