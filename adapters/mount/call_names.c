@@ -1,17 +1,14 @@
 /* Calls on names. */
+#define _GNU_SOURCE
 #include "calls.h"
 #include "failing.h"
 #include "layer.h"
 #include "notes.h"
 
 #include <errno.h>
+#include <stdio.h>
 #include <stdlib.h>
 #include <string.h>
-
-#ifndef RENAME_NOREPLACE
-#define RENAME_NOREPLACE 1u
-#define RENAME_EXCHANGE 2u
-#endif
 
 void call_lookup(fuse_req_t req, fuse_ino_t parent, const char *name) {
     struct node *directory = call_begin(req, parent, CALL_READS);

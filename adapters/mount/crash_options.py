@@ -83,7 +83,6 @@ def parse(words):
     for name in ("work", "check"):
         parser.add_argument("--" + name, required=True)
     parser.add_argument("--one", choices=("measure", "judge", "record"), help=argparse.SUPPRESS)  # by a worker: one seed, with a line of JSON
-    parser.add_argument("--built", help=argparse.SUPPRESS)  # to a worker on this machine: the path of the daemon
     options = parser.parse_args(words)
     if options.seeds < 1 or options.first < 0 or options.jobs < 1:
         parser.error("--seeds and --jobs are at least 1, and --first at least 0")

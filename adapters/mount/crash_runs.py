@@ -1,6 +1,7 @@
 """One seed of tools/crash_run: a program is run on a mount, the power goes off, and what is left is checked."""
 
 import contextlib
+import ctypes
 import os
 import random
 import shutil
@@ -18,34 +19,42 @@ VERDICTS = ("held", "lost", "damaged", "not started", "too slow", "untested")
 FINE = ("held", "untested")
 # The status of a check that finds damage.
 DAMAGED = 2
-# The states of a process that was killed while a call of it waits: of its first thread, which may have ended.
-WAITING = (b"D", b"Z")
 
 
-def processes():
-    """Returns the state and the parent of each process."""
-    found = {}
-    for name in os.listdir("/proc"):
-        if name.isdigit():
-            try:
-                with open(f"/proc/{name}/stat", "rb") as file:
-                    state, parent = file.read().rpartition(b")")[2].split()[:2]
-                found[int(name)] = state, int(parent)
-            except (OSError, ValueError):
-                pass
+def reap_orphans():
+    """From here on this process is the parent of all orphans that come from it."""
+    ctypes.CDLL(None).prctl(36, 1, 0, 0, 0)  # PR_SET_CHILD_SUBREAPER
+
+
+def state_and_parent(process):
+    """Returns the state and the parent of a process, or None twice if it has ended."""
+    with contextlib.suppress(OSError, ValueError), open(f"/proc/{process}/stat", "rb", 0) as file:
+        state, parent = file.read().rpartition(b")")[2].split()[:2]
+        return state, int(parent)
+    return None, None
+
+
+def children(process):
+    """Returns the children of a process: by the kernel's lists of them, or if it keeps none by the parent of each process."""
+    if not os.path.exists("/proc/thread-self/children"):
+        return [int(name) for name in os.listdir("/proc") if name.isdigit() and state_and_parent(name)[1] == process]
+    found = []
+    with contextlib.suppress(OSError):
+        for thread in os.listdir(f"/proc/{process}/task"):
+            with open(f"/proc/{process}/task/{thread}/children", "rb", 0) as file:
+                found += map(int, file.read().split())
     return found
 
 
-def started(spared):
-    """Returns the processes that come from this one, with their states, apart from one and what comes from it."""
-    everything, found = processes(), {}
-    for process in everything:
-        above = process
-        while above not in (os.getpid(), spared, 0, None):
-            above = everything.get(above, (None, None))[1]
-        if above == os.getpid() and process != above:
-            found[process] = everything[process][0]
-    return found
+def started(spared, by=None):
+    """Returns the processes that come from this one, apart from one and what comes from it."""
+    found = [child for child in children(by or os.getpid()) if child != spared]
+    return found + [below for child in found for below in started(spared, child)]
+
+
+def waits(process):
+    """Whether a process that was killed has ended, or waits in a call."""
+    return state_and_parent(process)[0] in (b"D", b"Z", None)
 
 
 def kill_started(spared, seconds, is_off=False):
@@ -56,15 +65,13 @@ def kill_started(spared, seconds, is_off=False):
     """
     until, same, before, looks = time.monotonic() + seconds, 0, None, 0
     while True:
-        left = started(spared)
-        waits = not left or (is_off and left == before and all(state in WAITING for state in left.values()))
-        same, before = same + 1 if waits else 0, left
+        left = sorted(started(spared))
+        is_done = not left or (is_off and left == before and all(map(waits, left)))
+        same, before = same + 1 if is_done else 0, left
         for process in left:
-            try:
+            with contextlib.suppress(ProcessLookupError, ChildProcessError):
                 os.kill(process, signal.SIGKILL)
                 os.waitpid(process, os.WNOHANG)
-            except (ProcessLookupError, ChildProcessError):
-                pass
         if same == 2 or time.monotonic() > until:  # one whose parent has just ended may be missed once
             return not left
         looks += 1
@@ -83,8 +90,7 @@ class Run:
         words = [word for name in MOUNT_OPTIONS if getattr(options, name) for word in ("--" + name, getattr(options, name))]
         self.folder = plain_folder("blobcrash-run-")
         acknowledged = os.path.join(self.folder, "acknowledged")
-        with open(acknowledged, "wb"):
-            pass
+        open(acknowledged, "wb").close()
         try:
             self.mount = Mount(program, "--seed", str(seed), "--acknowledged", acknowledged, *other, *words)
         except Failed:
@@ -144,6 +150,7 @@ class Run:
     def crash(self):
         """Kills what runs, and crashes."""
         self.mount.ask("off")
+        time.sleep(0.005)  # mostly enough for the program to acknowledge what it has made
         kill_started(self.mount.daemon.pid, 0.2, is_off=True)
         self.mount.ask("crash")
         if not kill_started(self.mount.daemon.pid, 20):
@@ -164,13 +171,17 @@ class Run:
         """Returns how many changing calls were made."""
         return int(self.mount.control.status()["changing"])
 
-    def measure(self):
-        """Runs without a crash. Returns the counts from which the crash points are drawn (crash_points.py)."""
+    def run_through(self):
+        """Runs without a crash, up to the check. Returns how many changing calls came before the program, and how many it made."""
         self.prepare()
         before = self.changing_calls()
         for name in ("start", "work"):
             self.succeed(name)
-        calls = self.changing_calls() - before
+        return before, self.changing_calls() - before
+
+    def measure(self):
+        """Runs without a crash. Returns the counts from which the crash points are drawn (crash_points.py)."""
+        before, calls = self.run_through()
         self.succeed("check")
         if not calls:
             raise Broken("--start and --work change nothing, so that there is no call after which the power could go off")
@@ -184,11 +195,7 @@ class Run:
         os.makedirs(self.options.out, exist_ok=True)
         record = os.path.join(self.folder, "record")
         self.mount.ask(f"record {record}")
-        self.prepare()
-        before = self.changing_calls()
-        for name in ("start", "work"):
-            self.succeed(name)
-        calls = self.changing_calls() - before
+        calls = self.run_through()[1]
         self.mount.ask("record stop")
         self.succeed("check")
         path = os.path.join(self.options.out, "run.script")
@@ -256,13 +263,12 @@ class Run:
         kill_started(self.mount.daemon.pid, 20)
         self.mount.close()
         self.log.close()
-        if os.path.exists(os.path.join(self.folder, "record")):
-            os.unlink(os.path.join(self.folder, "record"))
         if kept:
+            with contextlib.suppress(FileNotFoundError):
+                os.unlink(os.path.join(self.folder, "record"))
             shutil.rmtree(kept, ignore_errors=True)
             shutil.move(self.folder, kept)
-        else:
-            shutil.rmtree(self.folder, ignore_errors=True)
+        shutil.rmtree(self.folder, ignore_errors=True)
 
 
 def without_a_crash(options, program):

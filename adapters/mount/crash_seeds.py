@@ -1,7 +1,6 @@
-"""tools/crash_run: takes a program through the seeds, each in a process of its own. crash_options.py has the options."""
+"""tools/crash_run: takes a program through the seeds, in processes of their own. crash_options.py has the options."""
 
 import argparse
-import ctypes
 import itertools
 import json
 import os
@@ -13,7 +12,7 @@ import crash_options
 import interrupts
 from crash_options import TOP, of_seed, parse
 from crash_points import Points
-from crash_runs import FINE, VERDICTS, judge, without_a_crash
+from crash_runs import FINE, VERDICTS, judge, reap_orphans, without_a_crash
 from crash_swarm import drawn
 from losses import described
 from mounting import Broken, Failed
@@ -21,21 +20,18 @@ from mounting import Broken, Failed
 DIAGNOSE = os.path.join(TOP, "tools", "diagnose")
 TOOL = os.path.join(TOP, "tools", "crash_run")
 PROGRAM = os.path.join(TOP, "blobcrash") if os.path.isdir(os.path.join(TOP, "crates")) else "blobcrash"
-SET_CHILD_SUBREAPER = 36
 
 
-def run_one(options):
-    """Runs one seed in this process, and prints its result."""
-    ctypes.CDLL(None).prctl(SET_CHILD_SUBREAPER, 1, 0, 0, 0)  # the parent of all orphans that come from it
+def run_one(options, built=None):
+    """Runs one seed in this process. `built` is the path of the daemon. Returns its result as a line."""
+    reap_orphans()
     try:
-        built = options.built or program()
-        result = (judge if options.one == "judge" else without_a_crash)(options, built)
+        result = (judge if options.one == "judge" else without_a_crash)(options, built or program())
     except (Broken, Failed) as error:
         result = {"error": str(error)}
     except KeyboardInterrupt:
         result = {"error": "interrupted"}
-    print(json.dumps(result))
-    return 0
+    return json.dumps(result)
 
 
 def program():
@@ -55,21 +51,22 @@ def program():
 
 def start(executor, words, one):
     """Gives one seed to a worker."""
-    built = getattr(executor, "built", None)  # a worker of a cluster builds on its machine
-    command = [sys.executable, "-S", TOOL, "--one", one, *(["--built", built] if built else []), *words]
-    call = executor.run if built else subprocess.run
-    return executor.submit(call, command, cwd=os.getcwd(), stdin=subprocess.DEVNULL, stdout=subprocess.PIPE, text=True)
+    if hasattr(executor, "run_line"):
+        return executor.submit(executor.run_line, json.dumps(["--one", one, *words]))
+    command = [sys.executable, "-S", TOOL, "--one", one, *words]  # a worker of a cluster builds on its machine
+    return executor.submit(subprocess.run, command, cwd=os.getcwd(), stdin=subprocess.DEVNULL, stdout=subprocess.PIPE, text=True)
 
 
 def result_of(task):
-    """Waits for the result of a seed."""
-    ran = task.result()
-    try:
-        result = json.loads(ran.stdout.splitlines()[-1])
-    except (IndexError, ValueError):
-        raise Broken(f"a run ended with status {ran.returncode}") from None
-    if "error" in result:
-        raise Broken(result["error"])
+    """Waits for the result of a seed. A signal may interrupt this, but not `start`: a lock of an executor would stay locked."""
+    with interrupts.interruptible():
+        ran = task.result()
+        try:
+            result = json.loads(ran.stdout.splitlines()[-1])
+        except (IndexError, ValueError):
+            raise Broken(f"a run ended with status {ran.returncode}") from None
+        if "error" in result:
+            raise Broken(result["error"])
     return result
 
 
@@ -133,11 +130,12 @@ class Totals:
             self.never_due &= set(result["never_due"])
             if result["kept"] or (options.swarm and not options.json):
                 self.progress.clear()
-                (self.print_json if options.json else self.print_seed)(seed, result)
-                if result["kept"] and not self.is_diagnosed:
-                    self.is_diagnosed = True
-                    json_too = ["--json"] if options.json else []
-                    subprocess.run([DIAGNOSE, *json_too, *self.diagnosed(seed, result)], stdin=subprocess.DEVNULL, check=False)
+                with interrupts.interruptible():
+                    (self.print_json if options.json else self.print_seed)(seed, result)
+                    if result["kept"] and not self.is_diagnosed:
+                        self.is_diagnosed = True
+                        json_too = ["--json"] if options.json else []
+                        subprocess.run([DIAGNOSE, *json_too, *self.diagnosed(seed, result)], stdin=subprocess.DEVNULL, check=False)
             self.progress.show(self.__str__)
 
     def again(self, seed):
@@ -230,7 +228,8 @@ def main(words, executor=None):
     options = parse(words)
     interrupts.install()
     if options.one:
-        return run_one(options)
+        print(run_one(options))
+        return 0
     own = None
     at_once = 2 * options.jobs if executor is None else 2 * (getattr(executor, "_max_workers", None) or 64)
     progress, points, status = progress_line(), None, 0
@@ -240,14 +239,12 @@ def main(words, executor=None):
         if executor is None:
             from crash_workers import Workers
 
-            own = Workers(options.jobs, built)
+            own = Workers(min(options.jobs, options.seeds), lambda line: run_one(parse(json.loads(line)), built))
         if options.record_only:
-            with interrupts.interruptible():
-                return print_record(result_of(start(own or executor, of_seed(words, options.first, []), "record")))
+            return print_record(result_of(start(own or executor, of_seed(words, options.first, []), "record")))
         for number, (of_row, words_of_row) in enumerate(rows_of(options, words)):
             totals = Totals(of_row, words_of_row, progress, points)
-            with interrupts.interruptible():
-                totals.run(own or executor, at_once)
+            totals.run(own or executor, at_once)
             points = totals.points
             progress.clear()
             totals.print_row(number == 0)
@@ -264,5 +261,4 @@ def main(words, executor=None):
         progress.clear()
         if own:
             own.end()
-            own.shutdown()
     return status

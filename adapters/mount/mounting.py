@@ -97,10 +97,8 @@ class Control:
     def end(self):
         """Unmounts, and waits until the daemon has done so."""
         reply = self.ask("umount")
-        try:
+        with contextlib.suppress(OSError):
             self._socket.recv(1)
-        except OSError:
-            pass
         return reply
 
     def close(self):

@@ -3,14 +3,11 @@ state_check.py START CHECK SECONDS: starts a program on a state that a crash may
 was started. The exit status is that of the check, or 1 if the program doesn't start, or if a command takes longer.
 """
 
-import ctypes
 import subprocess
 import sys
 
 sys.dont_write_bytecode = True
-from crash_runs import kill_started  # noqa: E402
-
-SET_CHILD_SUBREAPER = 36
+from crash_runs import kill_started, reap_orphans  # noqa: E402
 
 
 def run(command, seconds):
@@ -23,7 +20,7 @@ def run(command, seconds):
 
 def main(start, check, seconds):
     """Does what the text at the top of this file says. Returns the status."""
-    ctypes.CDLL(None).prctl(SET_CHILD_SUBREAPER, 1, 0, 0, 0)
+    reap_orphans()
     try:
         return 1 if run(start, float(seconds)) else run(check, float(seconds))
     finally:
