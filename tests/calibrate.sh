@@ -100,6 +100,9 @@ END
         fault btrfs 'mkdir d, f = A -- create d/g, link f d/h, exchange d/h d/g, rename f k, fsync /' 5 'd/ d/g=A k=A'
         fault btrfs 'mkdir d, mkdir e, d/b = AA, c = AA -- e/b = BB, fdatasync e/b, rename e/b d/b, rename d/b c, ~sync' 4 'c=BB d/ d/b=AA e/'
         fault btrfs 'b = A -- create c, fsync c, rename b c, ~sync' 3 'b=A'
+        fault btrfs 'a = A, link a b, c = B -- rename c b, fsync a' 2 'a=A c=B'
+        fault btrfs 'mkdir e -- rename e d, fsync d, rmdir d, ~sync' 3 'e/'
+        fault btrfs 'b = AAA -- link b a, truncate a, append B to b, fsync /' 4 'a=A b=A'
         covered btrfs '-- create a, create b, create c, fsync c' 4 'b= c=' <<'END'
 never |  -- create a, create b, create c, fsync c | a= b= c= | none
 never |  -- create a, create b, create c, fsync c | a= c= | 5 edits, 7 sync
