@@ -336,9 +336,9 @@ pub owned_same : (a : List Page) → KeepsOwned a a
 owned_same a = record { each = λ i e. e }
 
 -- zeros that the overlay covers, or would add itself, don't change its result
-pub overlay_grown : (x : List ℕ) (o : ℕ) (b : List ℕ) (n : ℕ) → n ≡ max (length x) (reach o (length b) (λ _. true)) → overlay (resize x n) o b ≡ overlay x o b
-overlay_grown x o b n is = same_bytes _ _
-    (omega (arith, is, length-overlay_by (resize x n) o b (λ _. true), length-overlay_by x o b (λ _. true), length-resized x n))
+pub overlay_grown : (x : List ℕ) (o : ℕ) (b : List ℕ) (n : ℕ) → length x ≤ n → n ≤ max (length x) (reach o (length b) (λ _. true)) → overlay (resize x n) o b ≡ overlay x o b
+overlay_grown x o b n least most = same_bytes _ _
+    (omega (arith, least, most, length-overlay_by (resize x n) o b (λ _. true), length-overlay_by x o b (λ _. true), length-resized x n))
     (λ p. ⊎_elim
     (λ low. other p (λ ge _. absurd (omega (arith, low, ge))))
     (λ ge. ⊎_elim (λ lt. at_chosen (resize x n) o b (λ _. true) p ge lt refl ∙ sym (at_chosen x o b (λ _. true) p ge lt refl)) (λ past. other p (λ _ u. absurd (omega (arith, past, u)))) (cases_lt p (o + length b)))
@@ -346,7 +346,7 @@ overlay_grown x o b n is = same_bytes _ _
   where
     other : (p : ℕ) → (o ≤ p → p < o + length b → true ≡ false) → get_or (overlay (resize x n) o b) p 0 ≡ get_or (overlay x o b) p 0
     other p out = at_other (resize x n) o b (λ _. true) p out
-        ∙ ⊎_elim (λ h. at_resized x n p h) (λ h. past_resized x n p h ∙ sym (get_or_past x p 0 (omega (arith, h, is)))) (cases_lt p n)
+        ∙ ⊎_elim (λ h. at_resized x n p h) (λ h. past_resized x n p h ∙ sym (get_or_past x p 0 (omega (arith, h, least)))) (cases_lt p n)
         ∙ sym (at_other x o b (λ _. true) p out)
 
 -- the bytes of the first k pages

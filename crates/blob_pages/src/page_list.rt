@@ -123,9 +123,9 @@ fn lay_on(pages: &mut Table, old: usize, offset: usize, run: &[u8]) -> usize
     ensures len { result ≡ max old (offset + length run.now) }
     ensures laid { Blanks pages.old pages.new old result (overlay (bytes_in pages.old old) offset run.now) }
 {
-    let len = blank_to(pages, old, offset + run.len());
+    let len = blank_to(pages, old, offset);
     lay(pages, offset, run);
-    len
+    len.max(offset + run.len())
 }
 
 /// Writes a run that is not empty over the length `old`. Returns the new length. The only error is out of memory. The
