@@ -176,7 +176,7 @@ def test_by_workers(work):
     ran = on_terminal([sys.executable, place, "explore", PYTHON], work, until=" runs, ")
     runs, rest = eval(ran.out)
     found = explore(body, settings=["write 0 1 1 2 subset"], under=rest)
-    check("explore by workers", ran.status == 130 and runs > 0 and found.complete and runs + found.runs == 256, (runs, found))
+    check("explore by workers", ran.status == 130 and runs > 0 and found.complete and runs + found.runs == 256, (ran.status, runs, found))
     ran = on_terminal([sys.executable, place, "seeds", PYTHON], work, until=" of 400, ")
     shown = re.search(r"seeds: interrupted after (\d+) seeds, \d+ s; none failed. To go on: seeds\(.., (.*)\)", ran.shown)
     check("seeds by workers", ran.status == 130 and shown and len(eval(shown[2])) + int(shown[1]) == 400, ran.shown[-500:])

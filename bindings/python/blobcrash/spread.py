@@ -12,6 +12,7 @@ from typing import Any, Callable, Dict, Iterator, List, NamedTuple, Optional, Tu
 
 from .exploration import Times, Tree, visit
 from .failures import Failed, Trace
+from .interrupts import Interrupts
 from .progress import Progress, plural
 from .results import Part
 
@@ -20,6 +21,8 @@ from .results import Part
 _FIRST_SLICE, _SLICE = 0.1, 1.0
 # How many subtrees wait for each worker at most; a task is given several if there are more.
 _WAITING = 4
+# After how many seconds without a task that is done Ctrl-C is looked for.
+_HELD = 0.1
 
 
 class LostWork(RuntimeError):
@@ -72,6 +75,7 @@ class Spread:
         self._executor = executor
         self.workers = getattr(executor, "_max_workers", None) or os.cpu_count() or 1
         self._under_way: Dict["Future[Any]", Tuple[Any, bool, Tuple[Any, ...]]] = {}
+        self._interrupts = Interrupts()
         self.lost: List[Any] = []
         self._cause: Optional[BaseException] = None
 
@@ -86,26 +90,28 @@ class Spread:
         """Does tasks until nothing waits. `take` returns a part, which is last in what waits, with its task, or nothing if no more tasks
         begin. What a task has left waits again."""
         total = Part(0, [])
-        try:
-            while waiting or self._under_way:
-                while waiting and len(self._under_way) < 2 * self.workers:
-                    taken = take(total)
-                    if taken is None:
+        with self._interrupts:
+            try:
+                while waiting or self._under_way:
+                    while waiting and len(self._under_way) < 2 * self.workers:
+                        taken = take(total)
+                        if taken is None:
+                            break
+                        self.submit(*taken)
+                        # Only now it waits no more: an interrupt before that leaves it.
+                        del waiting[len(waiting) - len(taken[0]):]
+                    if not self._under_way:
                         break
-                    self.submit(*taken)
-                    # Only now it waits no more: an interrupt before that leaves it.
-                    del waiting[len(waiting) - len(taken[0]):]
-                if not self._under_way:
-                    break
-                for done in self.done():
-                    total = total.plus(done)
-                    waiting += done.rest
-                progress.show(lambda: text(total))
-        except KeyboardInterrupt as error:
-            given = dict.fromkeys(self.under_way())
-            rest = [*given, *(piece for piece in waiting if piece not in given)]
-            error.part = total._replace(rest=rest)  # type: ignore[attr-defined]
-            raise
+                    for done in self.done():
+                        total = total.plus(done)
+                        waiting += done.rest
+                    progress.show(lambda: text(total))
+                    self._interrupts.check()
+            except KeyboardInterrupt as error:
+                given = dict.fromkeys(self.under_way())
+                rest = [*given, *(piece for piece in waiting if piece not in given)]
+                error.part = total._replace(rest=rest)  # type: ignore[attr-defined]
+                raise
         self.check(waiting)
         return total._replace(rest=waiting)
 
@@ -161,13 +167,16 @@ class Spread:
     def _ready(self) -> List["Future[Any]"]:
         """The tasks that are done, of which there is at least one. An executor's futures may be of a class of its own."""
         futures = list(self._under_way)
-        if all(isinstance(future, Future) for future in futures):
-            return list(wait(futures, return_when=FIRST_COMPLETED).done)
+        are_known = all(isinstance(future, Future) for future in futures)
         while True:
-            ready = [future for future in futures if future.done()]
+            self._interrupts.check()
+            if are_known:
+                ready = list(wait(futures, _HELD, FIRST_COMPLETED).done)
+            else:
+                time.sleep(0.01)
+                ready = [future for future in futures if future.done()]
             if ready:
                 return ready
-            time.sleep(0.01)
 
 
 def _is_unsent(error: BaseException) -> bool:
