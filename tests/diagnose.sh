@@ -1,5 +1,5 @@
 #!/bin/sh
-# Tests of `blobcrash diagnose` (tests/diagnose.py), of records of the findings of docs/MOUNT.md (tests/diagnose_findings.py), of records of
+# Tests of `blobcrash diagnose` (tests/diagnose.py), of records of the findings of docs/FOUND.md (tests/diagnose_findings.py), of records of
 # bindings and adapters (tests/diagnose_records.py), and of programs on the mount (tests/diagnose_mount.py): the sync is named that each is known to lack. tests/diagnose_page.py looks at the page in a browser;
 # its pictures go to $PAGE_PICTURES, if that is set. The last line is `N passed, M failed`.
 top=$(CDPATH='' cd -- "$(dirname -- "$0")/.." && pwd -P)

@@ -30,7 +30,7 @@ only_crates() {
     [ -s "$work/named" ] && [ ! -s "$work/others" ]
 }
 ok 'the picture of the layers names crates' only_crates docs/layers.svg
-ok 'every command and block of the pages is run' python3 tests/pages.py --listed README.md CONTRIBUTING.md docs/*.md
+ok 'every command and block of the pages is run' python3 tests/pages.py --listed README.md CONTRIBUTING.md docs/*.md adapters/*/README.md
 for page in README.md CONTRIBUTING.md docs/*.md bindings/python/blobcrash/__init__.py; do
     ok "the commands and examples of $page" python3 tests/pages.py "$page"
 done

@@ -35,4 +35,4 @@ END {
     print passed + 0 " passed, " failed + 0 " failed"
     exit failed > 0
 }
-' README.md docs/*.md tests/*.md
+' README.md docs/*.md adapters/*/README.md tests/*.md
