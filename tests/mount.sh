@@ -1,7 +1,8 @@
 #!/bin/sh
 # Tests of the mount (adapters/mount, tools/mount, tools/mountctl) and of crash runs (tools/crash_run): the commands, tests/mount.py and
-# others, with the daemon under the sanitizers. Skipped where FUSE or the right to mount is missing, with CI=true too, since no package
-# brings them. BLOBCRASH_ARCHIVE names a library that is built already. The last line is `N passed, M failed`.
+# others, with the daemon under the sanitizers; docs/MOUNT.md says what was compared. Skipped where FUSE or the right to mount is missing,
+# with CI=true too, since no package brings them. BLOBCRASH_ARCHIVE names a library that is built already. The last line is `N passed, M
+# failed`.
 top=$(CDPATH='' cd -- "$(dirname -- "$0")/.." && pwd -P)
 # shellcheck source=tests/counting.sh
 . "$top/tests/counting.sh"

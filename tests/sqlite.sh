@@ -1,8 +1,8 @@
 #!/bin/sh
-# The real SQLite on the layer (adapters/sqlite): 50 seeds of each mode at FULL and EXTRA, in which nothing may be lost, and seeds of
-# each profile; modes that may lose something, and a lying sync, which must be found out; the VFS from C, the extension from Python,
-# the examples, and all of the C under the sanitizers. BLOBCRASH_ARCHIVE names a library that is built already; SEEDS is another number of seeds.
-# The last line is `N passed, M failed`, with `, K skipped` if a tool is missing.
+# The real SQLite on the layer (adapters/sqlite): 50 seeds of each mode at FULL and EXTRA, in which nothing may be lost, and seeds of each
+# profile; modes that may lose something, and a lying sync, which must be found out; the VFS from C, the extension from Python, the
+# examples, and all of the C under the sanitizers. BLOBCRASH_ARCHIVE names a library that is built already; SEEDS is another number of
+# seeds. The last line is `N passed, M failed`, with `, K skipped` if a tool is missing.
 top=$(CDPATH='' cd -- "$(dirname -- "$0")/.." && pwd -P)
 # shellcheck source=tests/counting.sh
 . "$top/tests/counting.sh"
