@@ -1,7 +1,7 @@
 #!/bin/sh
 # LevelDB writes six batches, and every state is checked in which a crash could have left its files.
 #
-#   leveldb_states.sh [MODE]   a mode of docs/LEVELDB.md (sync-posix)
+#   leveldb_states.sh [MODE]   a mode of adapters/leveldb/README.md (sync-posix)
 #
 # It needs a C++ compiler and LevelDB. Exit status: 1 if a state isn't a database with all acknowledged batches.
 set -eu

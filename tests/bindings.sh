@@ -1,8 +1,9 @@
 #!/bin/sh
-# Tests the library and its clients in C, Rust and Python: each worked script has the program's replies, line by line and as a
-# whole; each client's log recovers what it acknowledged, and its planted bug is found; the arguments of tests/hostile.tsv are
-# passed on unchanged or refused; uses that would hide a bug of the code under test are refused. What needs a missing tool is
-# skipped, which fails under `CI=true`. The last line is `N passed, M failed`.
+# Tests the library and its clients in C, Rust and Python: each worked script has the program's replies, line by line and as a whole; each
+# client's log recovers what it acknowledged, and its planted bug is found; the arguments of tests/hostile.tsv are passed on unchanged or
+# refused; uses that would hide a bug of the code under test are refused; a thousand random lists keep fixed bytes durable after each call.
+# The C clients run under the address sanitizer, a session between threads under helgrind. What needs a missing tool is skipped, which fails
+# under `CI=true`. The last line is `N passed, M failed`.
 top=$(CDPATH='' cd -- "$(dirname -- "$0")/.." && pwd -P)
 # shellcheck source=tests/counting.sh
 . "$top/tests/counting.sh"

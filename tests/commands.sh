@@ -1,5 +1,5 @@
 #!/bin/sh
-# Tests of the commands in Python (`python3 -m blobcrash`, tools/judge, tools/shrink, tools/crash_page) with input that can't be read or
+# Tests of the commands in Python (`python3 -m blobcrash FILE`, tools/judge, tools/shrink, tools/crash_page) with input that can't be read or
 # isn't a script, numbers out of any range, and output that fails: one line on standard error, and a status. The last line is
 # `N passed, M failed`.
 top=$(CDPATH='' cd -- "$(dirname -- "$0")/.." && pwd -P)

@@ -1,8 +1,7 @@
 #!/bin/sh
-# The page of a run (tools/crash_page): its model against the program's replies, and the page in a headless Chromium against them.
-# Then the pages of failing seeds in Python, C and Rust.
-# The browser's pictures go to $PAGE_PICTURES, if that is set. The last line is `N passed, M failed`, followed by `, K skipped`
-# if something was skipped.
+# The page of a run (tools/crash_page): its model against the program's replies, and the page in a headless Chromium against them. Then the
+# pages of failing seeds in Python, C and Rust. The browser's pictures go to $PAGE_PICTURES, if that is set. The last line is `N passed, M
+# failed`, followed by `, K skipped` if something was skipped.
 top=$(CDPATH='' cd -- "$(dirname -- "$0")/.." && pwd -P)
 # shellcheck source=tests/counting.sh
 . "$top/tests/counting.sh"

@@ -1,7 +1,9 @@
 #!/bin/sh
-# Tests of `blobcrash diagnose` (tests/diagnose.py), of records of the findings of docs/MOUNT.md (tests/diagnose_findings.py), of records of
-# bindings and adapters (tests/diagnose_records.py), and of programs on the mount (tests/diagnose_mount.py): the sync is named that each is known to lack. tests/diagnose_page.py looks at the page in a browser;
-# its pictures go to $PAGE_PICTURES, if that is set. The last line is `N passed, M failed`.
+# Tests of `blobcrash diagnose`: of the record of each classic bug, of two bugs in one run and of a script of a store the missing sync is
+# named and no other (tests/diagnose.py); so it is of the findings of docs/FOUND.md that have records in tests/diagnosed
+# (diagnose_findings.py), of records of bindings and adapters (diagnose_records.py), and of programs on the mount (diagnose_mount.py). A
+# correct program has no cause. diagnose_page.py looks at the page in a browser; its pictures go to $PAGE_PICTURES, if that is set. The last
+# line is `N passed, M failed`.
 top=$(CDPATH='' cd -- "$(dirname -- "$0")/.." && pwd -P)
 # shellcheck source=tests/counting.sh
 . "$top/tests/counting.sh"

@@ -1,4 +1,4 @@
-"""`blobcrash diagnose` of the findings of docs/MOUNT.md that have records in tests/diagnosed: the sync that each program is known to lack is
+"""`blobcrash diagnose` of the findings of docs/FOUND.md that have records in tests/diagnosed: the sync that each program is known to lack is
 named. The checks are in tests/diagnosed/check.py, so that the programs aren't needed. diagnose.sh runs it. The last line is
 `N passed, M failed`. With the name of a test only that one is run."""
 

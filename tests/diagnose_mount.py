@@ -1,4 +1,4 @@
-"""`blobcrash diagnose` of programs on the mount: it names the sync that docs/MOUNT.md says is missing, and who made the
+"""`blobcrash diagnose` of programs on the mount: it names the sync that docs/FOUND.md says is missing, and who made the
 calls. diagnose.sh runs it. The last line is `N passed, M failed`. With the name of a test only that one is run."""
 
 import os

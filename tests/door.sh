@@ -1,6 +1,7 @@
 #!/bin/sh
-# Tests of the commands of `blobcrash`: the table of them agrees with the help of each, the manual page and the completions made from it work
-# in bash, fish and zsh, and searches show how far they are on a terminal alone (tests/door.py). The last line is `N passed, M failed`.
+# Tests of the commands of `blobcrash`: the table of them agrees with the help of each, wrong words are named, the manual page and the
+# completions made from it work in bash, fish and zsh, and searches show how far they are on a terminal alone, and go on after Ctrl-C
+# (tests/door.py). The last line is `N passed, M failed`.
 # shellcheck disable=SC2016
 top=$(CDPATH='' cd -- "$(dirname -- "$0")/.." && pwd -P)
 # shellcheck source=tests/counting.sh

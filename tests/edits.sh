@@ -1,7 +1,7 @@
 #!/bin/sh
-# edits.sh [CRATE ..]: tries the edits of crates/*/edits, or of these crates alone, each a mistake that the check must reject. `rt ci` doesn't try
-# them. `./test --edits` runs this. A copy of the crates has them in must-fail, where `rt must-fail` tries them. One that is rejected
-# only by a missing name of a proof file says nothing of a contract, and counts as failed. The last line is `N passed, M failed`.
+# edits.sh [CRATE ..]: tries the edits of crates/*/edits, or of these crates alone, each a mistake that the check must reject. `rt ci`
+# doesn't try them. `./test --edits` runs this. A copy of the crates has them in must-fail, where `rt must-fail` tries them. One that is
+# rejected only by a missing name of a proof file says nothing of a contract, and counts as failed. The last line is `N passed, M failed`.
 top=$(CDPATH='' cd -- "$(dirname -- "$0")/.." && pwd -P)
 # shellcheck source=tests/counting.sh
 . "$top/tests/counting.sh"

@@ -1,7 +1,8 @@
 #!/bin/sh
 # Tests of explorations of code: in C (bindings/c/explore.c, a log with power losses in explore_log.c, and programs on files in
-# explore_files.c), in Python (tests/explore_bodies.py, explore_bounds.py, explore_met.py), and the log of examples/log.py, a cell and records
-# over every outcome of small runs, with planted bugs (tests/explore_log.py, explore_clients.py). The last line is `N passed, M failed`.
+# explore_files.c), in Python (tests/explore_bodies.py, explore_bounds.py, explore_met.py), and the log of examples/log.py, a cell and
+# records over every outcome of small runs, with planted bugs (explore_log.py, explore_clients.py). Each outcome is visited once; runs that
+# end at a restart in a state met before have the same outcomes as all runs. The last line is `N passed, M failed`.
 top=$(CDPATH='' cd -- "$(dirname -- "$0")/.." && pwd -P)
 # shellcheck source=tests/counting.sh
 . "$top/tests/counting.sh"

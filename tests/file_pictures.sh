@@ -1,8 +1,8 @@
 #!/bin/sh
-# `blobcrash files explain`: it prints tests/file_pictures/NAME.out for each NAME.script, to the byte: a crash in each profile,
-# truncations, long names, and the switches, all worked out by hand. Of the scripts of examples/files, of bad lines and of random programs (file_pictures.py) it prints what
-# the plain run prints, with the same status, and lines that begin with `# `, none of them wider than 80. The last line is
-# `N passed, M failed`.
+# `blobcrash files explain`: it prints tests/file_pictures/NAME.out for each NAME.script, to the byte: a crash in each profile, truncations,
+# long names, and the switches, all worked out by hand. Of the scripts of examples/files, of bad lines and of random programs
+# (file_pictures.py) it prints what the plain run prints, with the same status, and lines that begin with `# `, none of them wider than 80.
+# The last line is `N passed, M failed`.
 top=$(CDPATH='' cd -- "$(dirname -- "$0")/.." && pwd -P)
 # shellcheck source=tests/counting.sh
 . "$top/tests/counting.sh"

@@ -1,7 +1,7 @@
 #!/bin/sh
 # `blobcrash files` and `blobcrash files explore`: the scripts of examples/files, whose outcomes were worked out by hand from the rules of
-# docs/FILES.md, each call's reply, bad lines, statuses, arguments, failing streams, replies before the next line is due, and lines of files in Python made again
-# (tests/file_scripts.py). The last line is `N passed, M failed`.
+# docs/FILES.md, each call's reply, bad lines, statuses, arguments, failing streams, replies before the next line is due, and random
+# programs in Python made again from their records (tests/file_scripts.py). The last line is `N passed, M failed`.
 top=$(CDPATH='' cd -- "$(dirname -- "$0")/.." && pwd -P)
 # shellcheck source=tests/counting.sh
 . "$top/tests/counting.sh"

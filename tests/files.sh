@@ -1,10 +1,9 @@
 #!/bin/sh
-# Files of the package for Python: its calls and refusals (tests/files.py), switches (tests/files_switches.py), hostile arguments
-# (tests/files_hostile.py), random calls against the kernel (tests/files_calls.py), the numbers of the C header (tests/files_header.py),
-# explorations (tests/files_explored.py), what searches of files and of stores begin with and say (tests/searches.py), the table of
-# docs/FILES.md with what real file systems left (tests/files_litmus.py), classic bugs (tests/files_bugs.py), random programs against
-# the rules in Python (tests/files_random.py, tests/files_model.py), and unmodified code (tests/patched.py). The last line is `N passed, M
-# failed`.
+# Files of the package for Python: calls and refusals (tests/files.py), switches (files_switches.py), hostile arguments (files_hostile.py),
+# 2,000 random calls of each of 20 seeds against the kernel (files_calls.py), the numbers of the C header (files_header.py), explorations
+# (files_explored.py), what searches begin with and say (searches.py), the table of docs/FILES.md with what real file systems left
+# (files_litmus.py), classic bugs (files_bugs.py), random programs against the rules in Python (files_random.py, files_model.py), and
+# unmodified code (patched.py). The last line is `N passed, M failed`.
 top=$(CDPATH='' cd -- "$(dirname -- "$0")/.." && pwd -P)
 # shellcheck source=tests/counting.sh
 . "$top/tests/counting.sh"

@@ -1,6 +1,6 @@
 #!/bin/sh
 # The real LevelDB on the layer (adapters/leveldb): 20 seeds of each mode in which nothing may be lost; a lying sync and what
-# docs/LEVELDB.md says of LevelDB 1.23 are found; the scenarios of its own test of faults; the driver under the sanitizers. SEEDS is another
+# docs/FOUND.md says of LevelDB 1.23 are found; the scenarios of its own test of faults; the driver under the sanitizers. SEEDS is another
 # number of seeds.
 # The last line is `N passed, M failed`, with `, K skipped` if a tool is missing.
 top=$(CDPATH='' cd -- "$(dirname -- "$0")/.." && pwd -P)
@@ -26,7 +26,7 @@ expect 'is found' 0 grep -q '| damaged, as allowed  *|$' "$work/table"
 expect "the scenarios of LevelDB's own test" 0 "$crash" --scenarios
 expect 'pass on each profile' 0 [ "$(grep -c '| passes |$' "$work/table")" -eq 16 ]
 
-# What this version does wrong: docs/LEVELDB.md.
+# What this version does wrong: docs/FOUND.md.
 if [ "$version" = '1 23 ' ]; then
     finds 'LevelDB 1.23' <<'ROWS'
 47 sync-reads acknowledged batches are lost
@@ -43,7 +43,7 @@ ROWS
         expect 'LevelDB 1.23: a torn record is an error' 0 grep -q "it can't be opened: Corruption" "$work/table"
     done
 else
-    echo "leveldb.sh: the seeds of docs/LEVELDB.md are of LevelDB 1.23, and this is $version"
+    echo "leveldb.sh: the seeds of docs/FOUND.md are of LevelDB 1.23, and this is $version"
 fi
 
 # leaves MODE STATUS: makes every crash of one recorded run, and checks each state.

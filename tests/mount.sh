@@ -1,7 +1,8 @@
 #!/bin/sh
 # Tests of the mount (adapters/mount, tools/mount, tools/mountctl) and of crash runs (tools/crash_run): the commands, tests/mount.py and
-# others, with the daemon under the sanitizers. Skipped where FUSE or the right to mount is missing, with CI=true too, since no package
-# brings them. BLOBCRASH_ARCHIVE names a library that is built already. The last line is `N passed, M failed`.
+# others, with the daemon under the sanitizers; docs/MOUNT.md says what was compared. Skipped where FUSE or the right to mount is missing,
+# with CI=true too, since no package brings them. BLOBCRASH_ARCHIVE names a library that is built already. The last line is `N passed, M
+# failed`.
 top=$(CDPATH='' cd -- "$(dirname -- "$0")/.." && pwd -P)
 # shellcheck source=tests/counting.sh
 . "$top/tests/counting.sh"
@@ -252,7 +253,7 @@ if has sqlite3; then
 else
     skip 'SQLite: there is no sqlite3'
 fi
-# Real programs. PostgreSQL may refuse to start after a crash in its start, which is no loss (docs/MOUNT.md).
+# Real programs. PostgreSQL may refuse to start after a crash in its start, which is no loss (docs/FOUND.md).
 # program NAME PROFILE SEEDS PATTERN: whether what programs.sh prints of held, lost, damaged and not started matches. A seed may be untested.
 program() {
     run sh adapters/mount/programs.sh --profiles "$2" --seeds "$3" --jobs 1 "$1"
@@ -264,7 +265,7 @@ program() {
 }
 program postgres ext4 3 '[0-3] \| 0 \| 0 \| [0-3]'
 program postgres posix 2 '[0-2] \| 0 \| 0 \| [0-2]'
-# It may not start, and has lost nothing then: docs/MOUNT.md. On the other profiles its log may also be damaged.
+# It may not start, and has lost nothing then: docs/FOUND.md. On the other profiles its log may also be damaged.
 program redis xfs 4 '[0-4] \| 0 \| 0 \| [0-4]'
 program sqlite-wal posix 2 '[12] \| 0 \| 0 \| 0'
 program git-fsync ext4 3 '[0-3] \| 0 \| 0 \| 0'

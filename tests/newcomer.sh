@@ -1,6 +1,7 @@
 #!/bin/sh
-# The path of a new user: what README shows first, in a clone of its own in which nothing is built, with an empty cache
-# (tests/newcomer.py). Prints how long each step takes. The last line is `N passed, M failed`.
+# The path of a new user: what README shows first, in a clone of its own in which nothing is built, with an empty cache (tests/newcomer.py).
+# Prints how long each step takes, and fails at three times what is wanted when nothing else runs: a minute for the first answer, four for
+# the others. The last line is `N passed, M failed`.
 top=$(CDPATH='' cd -- "$(dirname -- "$0")/.." && pwd -P)
 # shellcheck source=tests/counting.sh
 . "$top/tests/counting.sh"

@@ -6,10 +6,12 @@
     pages.py --listed PAGE ..  checks that tests/pages.list has exactly the commands that the pages name in their text; that each block
                                of a page is run, quoted from a source or tried in a scratch repository; and that no link is dead
     pages.py --ways            the ways by which tests/pages.sh runs commands of the list itself, a line each
+    pages.py --scripts [write] checks that the table of tests/README.md has the first comment of each script of tests/, or updates it
     pages.py --scratch FOLDER  makes a repository by the steps of "Set up" in docs/CLIENTS.md, with a test of their blocks
 """
 
 import difflib
+import glob
 import os
 import re
 import shutil
@@ -19,6 +21,8 @@ import sys
 LIST = "tests/pages.list"
 RATTLE = "docs/CLIENTS.md"
 TESTS = ["tests/README.md", "tests/ROWS.md"]
+SCRIPTS = "| script | what it tests |\n|---|---|\n"
+COUNTED = re.compile(r" ?The last line is `N passed, M failed`[^.]*\.")
 BEGINNINGS = ("./", "cargo ", "cc ", "python3 ", "rt ", "sh ", "tools/")
 PYTHON = ("    from ", "    import ")
 TRIED = "<!-- tried in a scratch repository -->"
@@ -155,6 +159,32 @@ def dead_links(page):
             yield f"{page}: nothing is at {target}"
 
 
+def first_comment(path):
+    """The comment that a script begins with, in one line, without what each of them says of its last line."""
+    words = []
+    for line in read(path)[1:] if path.endswith(".sh") else []:
+        if not line.startswith("#"):
+            break
+        if not line.startswith("# shellcheck"):
+            words.append(line[1:].strip())
+    return COUNTED.sub("", " ".join(words)).strip().replace("|", "\\|")
+
+
+def compare_scripts(write):
+    """Compares the table of tests/README.md with the first comment of each script, or updates it."""
+    with open(TESTS[0], encoding="utf-8") as file:
+        page = file.read()
+    before, _, rest = page.partition(SCRIPTS)
+    rows = "".join(f"| `{os.path.basename(path)}` | {first_comment(path)} |\n" for path in sorted(glob.glob("tests/*.sh")))
+    is_current = rest.startswith(rows + "\n")
+    if write:
+        with open(TESTS[0], "w", encoding="utf-8") as file:
+            file.write(before + SCRIPTS + rows + rest[rest.index("\n\n") + 1 :])
+    elif not is_current:
+        print(f"{TESTS[0]}: the table isn't that of the scripts' first comments: python3 tests/pages.py --scripts write updates it")
+    return int(not (write or is_current))
+
+
 def is_script(way):
     return os.path.isfile(way)
 
@@ -257,4 +287,6 @@ if __name__ == "__main__":
     if sys.argv[1] == "--ways":
         print("\n".join(way for way in listed().values() if not is_script(way)))
         sys.exit(0)
+    if sys.argv[1] == "--scripts":
+        sys.exit(compare_scripts("write" in sys.argv[2:]))
     sys.exit(scratch(sys.argv[2]) if sys.argv[1] == "--scratch" else main(sys.argv[1]))

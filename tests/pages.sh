@@ -1,7 +1,7 @@
 #!/bin/sh
-# The pages: each command on them prints what is below it, their Python runs, their tables of lines have these replies, the steps in
-# Rattle make a repository with passing tests, and each command that a page names in its text is in tests/pages.list and runs. The
-# last line is `N passed, M failed`.
+# The pages: each command on them prints what is below it, their Python runs, their tables of lines have these replies, the steps in Rattle
+# make a repository with passing tests, each command that a page names in its text is in tests/pages.list and runs, and the table of
+# tests/README.md has each script's first comment. The last line is `N passed, M failed`.
 top=$(CDPATH='' cd -- "$(dirname -- "$0")/.." && pwd -P)
 # shellcheck source=tests/counting.sh
 . "$top/tests/counting.sh"
@@ -30,7 +30,8 @@ only_crates() {
     [ -s "$work/named" ] && [ ! -s "$work/others" ]
 }
 ok 'the picture of the layers names crates' only_crates docs/layers.svg
-ok 'every command and block of the pages is run' python3 tests/pages.py --listed README.md CONTRIBUTING.md docs/*.md
+ok 'every command and block of the pages is run' python3 tests/pages.py --listed README.md CONTRIBUTING.md docs/*.md adapters/*/README.md
+ok 'the table of tests/README.md is that of the first comments' python3 tests/pages.py --scripts
 for page in README.md CONTRIBUTING.md docs/*.md bindings/python/blobcrash/__init__.py; do
     ok "the commands and examples of $page" python3 tests/pages.py "$page"
 done

@@ -1,6 +1,6 @@
 #!/bin/sh
-# Compares the code that documents quote with the sources. A line `<!-- quoted: FILE -->` is followed by a block, fenced or
-# indented. Its lines must be consecutive lines of FILE, apart from leading spaces. The last line is `N passed, M failed`.
+# Compares the code that pages quote with the sources. A line `<!-- quoted: FILE -->` is followed by a block, fenced or indented. Its lines
+# must be consecutive lines of FILE, apart from leading spaces. The last line is `N passed, M failed`.
 set -u
 
 top=$(CDPATH='' cd -- "$(dirname -- "$0")/.." && pwd -P)
@@ -35,4 +35,4 @@ END {
     print passed + 0 " passed, " failed + 0 " failed"
     exit failed > 0
 }
-' README.md docs/*.md tests/*.md
+' README.md docs/*.md adapters/*/README.md tests/*.md

@@ -111,7 +111,7 @@ test_python() {
     unset PYTHONPATH
 }
 
-# The commands of the workflow of docs/BINDINGS.md that takes the release, in a virtual environment, with the wheel alone.
+# The commands of the workflow of examples/ci_use.yml that takes the release, in a virtual environment, with the wheel alone.
 test_workflow() {
     if ! has curl || ! python3 -c 'import pip, pytest' 2>/dev/null || ! python3 -m venv --without-pip --system-site-packages "$work/venv" 2>/dev/null; then
         leave_out 'the workflow: there is no curl, pip, pytest or venv'

@@ -1,5 +1,5 @@
 #!/bin/sh
-# The real RocksDB on the layer (adapters/rocksdb): seeds of modes in which nothing may be lost, what docs/ROCKSDB.md says of RocksDB 7.8.3,
+# The real RocksDB on the layer (adapters/rocksdb): seeds of modes in which nothing may be lost, what docs/FOUND.md says of RocksDB 7.8.3,
 # the scenarios of its own test of faults, and the comparison of two disks. SEEDS is another number of seeds. The last line is
 # `N passed, M failed`, with `, K skipped` if a tool is missing.
 top=$(CDPATH='' cd -- "$(dirname -- "$0")/.." && pwd -P)
@@ -42,7 +42,7 @@ if [ "$version" = '7 8 3' ]; then
 1 sync-queued ended by signal 6
 ROWS
 else
-    echo "rocksdb.sh: the seeds of docs/ROCKSDB.md are of RocksDB 7.8.3, and this is $version"
+    echo "rocksdb.sh: the seeds of docs/FOUND.md are of RocksDB 7.8.3, and this is $version"
 fi
 
 for mode in nosync-families sync-transactions; do

@@ -1,8 +1,7 @@
 #!/bin/sh
-# Worked scripts: runs each tests/scripts/NAME.script and compares its standard output with NAME.out, its exit status with
-# NAME.status and its standard error with NAME.err, all to the byte; without these two files, 0 and nothing. Then runs
-# each line of bad_lines.txt alone, which is no call, and random lists, in which fixed bytes stay (fixed_bytes.py). The
-# last line is `N passed, M failed`.
+# Worked scripts: runs each tests/scripts/NAME.script and compares its standard output with NAME.out, its exit status with NAME.status and
+# its standard error with NAME.err, all to the byte; without these two files, 0 and nothing. Then runs each line of bad_lines.txt alone,
+# which is no call, and random lists, in which every fixed byte is found again (fixed_bytes.py). The last line is `N passed, M failed`.
 top=$(CDPATH='' cd -- "$(dirname -- "$0")/.." && pwd -P)
 scripts=$top/tests/scripts
 # shellcheck source=tests/counting.sh

@@ -1,6 +1,6 @@
 #!/bin/sh
-# Tests of tools/shrink and tools/judge, of scripts and of any text, and of shrinking in Python (tests/shrunk.py). The last line is
-# `N passed, M failed`.
+# Tests of tools/shrink and tools/judge, of scripts, of records of files and of any text, and of shrinking in Python (tests/shrunk.py,
+# files_shrunk.py): planted bugs are reduced to the lines, or calls, that were found by hand. The last line is `N passed, M failed`.
 top=$(CDPATH='' cd -- "$(dirname -- "$0")/.." && pwd -P)
 # shellcheck source=tests/counting.sh
 . "$top/tests/counting.sh"

@@ -1,8 +1,8 @@
 #!/bin/sh
-# The real SQLite on the layer (adapters/sqlite): 50 seeds of each mode at FULL and EXTRA, in which nothing may be lost, and seeds of
-# each profile; modes that may lose something, and a lying sync, which must be found out; the VFS from C, the extension from Python,
-# the examples, and all of the C under the sanitizers. BLOBCRASH_ARCHIVE names a library that is built already; SEEDS is another number of seeds.
-# The last line is `N passed, M failed`, with `, K skipped` if a tool is missing.
+# The real SQLite on the layer (adapters/sqlite): 50 seeds of each mode at FULL and EXTRA, in which nothing may be lost, and seeds of each
+# profile; modes that may lose something, and a lying sync, which must be found out; the VFS from C, the extension from Python, the
+# examples, and all of the C under the sanitizers. BLOBCRASH_ARCHIVE names a library that is built already; SEEDS is another number of
+# seeds. The last line is `N passed, M failed`, with `, K skipped` if a tool is missing.
 top=$(CDPATH='' cd -- "$(dirname -- "$0")/.." && pwd -P)
 # shellcheck source=tests/counting.sh
 . "$top/tests/counting.sh"
@@ -113,7 +113,7 @@ for arguments in '' 0 x '1 delete' '1 delete-full-foo' '--with zfs 1 delete-full
     check "these arguments are refused: $arguments" run 2 "$crash" $arguments
 done
 
-# What this version of SQLite does wrong: docs/SQLITE.md.
+# What this version of SQLite does wrong: docs/FOUND.md.
 if [ "$(sed -n 's/^#define SQLITE_VERSION  *"\(.*\)"/\1/p' "$(echo '#include <sqlite3.h>' | "$compiler" -M -E - | tr ' ' '\n' |
     grep '/sqlite3\.h$')")" = 3.40.1 ]; then
     grep -v '^#' tests/sqlite.faults >"$work/faults"
@@ -127,7 +127,7 @@ if [ "$(sed -n 's/^#define SQLITE_VERSION  *"\(.*\)"/\1/p' "$(echo '#include <sq
         check 'loses a commit' grep -q '1 acknowledged transactions are lost' "$work/out"
     done
 else
-    echo 'sqlite.sh: the seeds of docs/SQLITE.md are of SQLite 3.40.1, which this is not'
+    echo 'sqlite.sh: the seeds of docs/FOUND.md are of SQLite 3.40.1, which this is not'
 fi
 
 # From C.

@@ -1,6 +1,9 @@
 #!/bin/sh
-# Tests of tools/states and CrashStates (tests/states.py), and of one commit of SQLite on the mount, from whose record the loss that SQLite
-# documents is found, and no other. The last line is `N passed, M failed`.
+# Tests of `blobcrash states`, tools/states and CrashStates (tests/states.py): counts by hand, bad lines, limits. The program's states are
+# those of CrashStates on 40 random scripts; those of 200 random scripts are those of brute force over words, those of 120 of files those of
+# all draws; 30 edits in order have 31 states. Planted bugs of a log, of a store of two slots and of a replaced file are found from one run
+# in each profile. Of one commit of SQLite on the mount the loss that SQLite documents is found, and no other. The last line is `N passed, M
+# failed`.
 top=$(CDPATH='' cd -- "$(dirname -- "$0")/.." && pwd -P)
 # shellcheck source=tests/counting.sh
 . "$top/tests/counting.sh"

@@ -1,7 +1,8 @@
 #!/bin/sh
-# Tests of what tools/unproved compiles without a proof. Two builds of the library are equal to the byte, it exports what the headers declare, the
-# worked scripts have their outputs over it (tests/unproved.py), clients of a clone without a proved library take it and say so once, and
-# a build that is stopped leaves nothing. A program is compiled with and without the checks. The last line is `N passed, M failed`.
+# Tests of what tools/unproved compiles without a proof. Two builds of the library are equal to the byte, it exports what the headers
+# declare, the worked scripts have their outputs over it (tests/unproved.py), clients of a clone without a proved library take it and say so
+# once, and a build that is stopped or killed leaves no process and no file. A program is compiled with and without the checks. The last
+# line is `N passed, M failed`.
 top=$(CDPATH='' cd -- "$(dirname -- "$0")/.." && pwd -P)
 # shellcheck source=tests/counting.sh
 . "$top/tests/counting.sh"

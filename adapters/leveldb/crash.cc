@@ -1,4 +1,4 @@
-// Crashes LevelDB by seed: docs/LEVELDB.md. The arguments are those of adapters/common/driver.h, and
+// Crashes LevelDB by seed: adapters/leveldb/README.md. The arguments are those of adapters/common/driver.h, and
 //
 //     crash --scenarios                 the scenarios of LevelDB's own test of faults, in each profile
 //     crash --record SCRIPT MODE        records a short run for tools/states

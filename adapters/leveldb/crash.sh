@@ -5,7 +5,7 @@
 #     sh adapters/leveldb/crash.sh --seed 47 sync-reads one life; BLOBCRASH_TRACE=1 shows each call
 #     sh adapters/leveldb/crash.sh --scenarios          those of LevelDB's own test of faults
 #
-# docs/LEVELDB.md describes the modes and the exit statuses.
+# adapters/leveldb/README.md describes the modes and the exit statuses.
 set -eu
 
 here=$(CDPATH='' cd -- "$(dirname -- "$0")" && pwd -P)

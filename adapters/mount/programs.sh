@@ -1,7 +1,7 @@
 #!/bin/sh
 # Takes real programs through power losses on the mount: adapters/mount/programs.sh [options] [PROGRAM ..], all of them if none is
-# named. Prints the rows of the table in docs/MOUNT.md, and keeps what tools/crash_run printed, with a command for each failure, in
-# out/mount/programs.
+# named. Prints the rows of the table in adapters/mount/README.md, and keeps what tools/crash_run printed, with a command for each
+# failure, in out/mount/programs.
 #   --seeds N        how many seeds of each program in each profile (20)
 #   --profiles LIST  the profiles (ext4 xfs btrfs posix)
 #   --first N        the first of them (1)

@@ -1,4 +1,4 @@
-// Crashes RocksDB by seed: docs/ROCKSDB.md. The arguments are those of adapters/common/driver.h, and
+// Crashes RocksDB by seed: adapters/rocksdb/README.md. The arguments are those of adapters/common/driver.h, and
 //
 //     crash --compare SEEDS     some modes on two disks, the library's and that of simple_disk.h, with the crashes a second
 //     crash --scenarios         the scenarios of RocksDB's own test of faults, in each profile

@@ -5,7 +5,7 @@
 #     sh adapters/rocksdb/crash.sh --seed 1 nosync      one life; BLOBCRASH_TRACE=1 shows each call
 #     sh adapters/rocksdb/crash.sh --compare 20         some modes on two disks
 #
-# docs/ROCKSDB.md describes the modes and the exit statuses.
+# adapters/rocksdb/README.md describes the modes and the exit statuses.
 set -eu
 
 here=$(CDPATH='' cd -- "$(dirname -- "$0")" && pwd -P)

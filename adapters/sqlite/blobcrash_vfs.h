@@ -5,7 +5,7 @@
  * call of another thread fails.
  *
  * A program links store.c, locks.c, memory.c, parameters.c and vfs.c, and disk.c and record.c of adapters/common, with `-DSQLITE_CORE`, and
- * uses this header. A program that loads the extension uses the SQL functions of extension.c. docs/SQLITE.md describes both.
+ * uses this header. A program that loads the extension uses the SQL functions of extension.c. adapters/sqlite/README.md describes both.
  */
 #ifndef BLOBCRASH_VFS_H
 #define BLOBCRASH_VFS_H

@@ -7,7 +7,7 @@
 #     sh adapters/sqlite/crash.sh --seed 7 delete-off       one life; BLOBCRASH_TRACE=1 shows each call
 #     sh adapters/sqlite/crash.sh --explore                 every outcome of a crash in one small transaction
 #
-# docs/SQLITE.md describes the modes, the table and the exit statuses.
+# adapters/sqlite/README.md describes the modes, the table and the exit statuses.
 set -eu
 
 here=$(CDPATH='' cd -- "$(dirname -- "$0")" && pwd -P)

@@ -1,4 +1,4 @@
-/* The parameters of a database's URI. docs/SQLITE.md has the table. */
+/* The parameters of a database's URI. adapters/sqlite/README.md has the table. */
 #ifndef BLOBCRASH_PARAMETERS_H
 #define BLOBCRASH_PARAMETERS_H
 
