@@ -5,7 +5,7 @@ from __future__ import annotations
 from threading import get_ident
 from typing import TYPE_CHECKING, Any, Optional
 
-from .calls import Call
+from .calls import Call, new
 from .errors import StaleHandle
 from .grammar import data_of, number
 
@@ -123,14 +123,14 @@ class Blob:
         store = self._store
         store._check()
         if self._handle in store._opened or not self._stale:
-            store._call(Call("close", self._handle))
+            store._call(new(Call, ("close", self._handle, None, None, "", None)))
             store._closed_handle(self._handle)
 
     def _call(self, word: str, first: Optional[int] = None) -> Any:
         """Makes a call of this handle, and returns what it does."""
         if self._stale:
             self._refuse_stale()
-        return self._store._call(Call(word, self._handle, first))
+        return self._store._call(new(Call, (word, self._handle, first, None, "", None)))
 
     def _refuse_stale(self) -> None:
         if not self.allow_stale:

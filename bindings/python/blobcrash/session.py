@@ -26,6 +26,8 @@ class Session:
     _bounds: Any = None
     _layer: Any
     _opened: Dict[int, Any]
+    _closed = False
+    _cause: Optional[BaseException] = None
 
     def __init__(self, words: Iterable[int]) -> None:
         self._words = [number(word, "a word") for word in words]
@@ -35,8 +37,6 @@ class Session:
         self._thread = get_ident()
         # The thread that may make a call; none if a call is under way or was cut short, or if it is closed.
         self._owner: Optional[int] = self._thread
-        self._closed = False
-        self._cause: Optional[BaseException] = None
 
     def __enter__(self: _Own) -> _Own:
         return self
