@@ -21,11 +21,12 @@ class Bounds:
     """The bounds of one run. Once one is reached, each further call ends the run. `is_long` and `is_late` say which one it was, and
     `is_met` that the run was ended at a restart."""
 
+    calls = 0
+    is_long = is_late = is_met = False
+
     def __init__(self, most: float = _NEVER, until: float = _NEVER) -> None:
         self.most = most
         self.until = _NEVER if until == _NEVER else until
-        self.calls = 0
-        self.is_long = self.is_late = self.is_met = False
 
     def count(self) -> None:
         """Counts a call, before it is made."""

@@ -2,7 +2,9 @@
 
 from __future__ import annotations
 
-from typing import Any, Callable, Iterable, List, Optional, Tuple
+from array import array
+from functools import lru_cache
+from typing import Any, Callable, Iterable, List, Optional, Sequence, Tuple
 
 from .bounds import Bounded, Bounds, RunEnded
 from .calls import Reply
@@ -47,12 +49,23 @@ def called(body: Callable[..., Any], store: Any) -> Tuple[Any, Optional[BaseExce
         store.close()
 
 
+@lru_cache(maxsize=None)
+def _further(room: int) -> array[int]:
+    """The words of a run after those of its path."""
+    return array("Q", [*[0] * room, MAX])
+
+
 class Run:
     """The choices of one run. It follows a path, and then takes the first branch of each choice.
 
     `taken` are all of them, and `made` says of each how many calls there were, with the one that drew it. With a seed the draws are the
     seed's, and aren't choices. `bounds` end the run, and so does a state after a restart that is in `met`.
+
+    It is the layer of its store or its files: it counts calls and draws, and turns the power off at the calls that it chooses.
     """
+
+    is_short = False
+    error: Optional[NotDeterministic] = None
 
     def __init__(
         self,
@@ -67,16 +80,60 @@ class Run:
         self.planned = along.planned
         self.bounds = bounds or Bounds()
         self.met = {} if met is None else met
-        self.words = [*draws_of(along.path), *[0] * room, MAX]
+        self.words: Sequence[int] = array("Q", along.draws()) + _further(room)
         self.made: List[int] = []
         self.calls: List[Any] = []
         self.seed = seed
         self.losses = losses
-        self.is_short = False
-        self.error: Optional[NotDeterministic] = None
         # How many words were left when draws were counted last.
         self.left = len(self.words)
         along.begin(self.left)
+
+    def take(self, layer: Any, of_files: bool) -> Any:
+        """Takes the layer that makes its calls. Returns itself."""
+        self._layer = layer = powered(layer)
+        self._of_files = of_files
+        self._apply, self.close, self.cut_after = layer.apply, layer.close, layer.cut_after
+        self.inode_at = getattr(layer, "inode_at", None)
+        # With a seed no draws are counted.
+        self._drawing = having(DRAWS, of_files) if self.seed is None else ()
+        return self
+
+    @property
+    def is_off(self) -> bool:
+        """Whether the power is off."""
+        return bool(self._layer.is_off)
+
+    def apply(self, asked: Any) -> Any:
+        """Makes a call. If a resize of a blob fails and the size is another one, that was drawn from those between the old one and the
+        new."""
+        word = asked.word
+        if self.losses and changes(word, self._of_files) and not self._layer.is_off and self.fails():
+            self._layer.cut_after(0)
+        self.calls.append(asked)
+        draws = word in self._drawing
+        before = self._layer.tracked_size(asked.number) if word == "resize" and draws else None
+        try:
+            reply = self._apply(asked)
+        except PowerLoss:
+            self.calls.pop()
+            raise
+        if draws:
+            left = self._layer.words_left()
+            if left != self.left:
+                self.count(left, self._sizes(asked, before, reply))
+        return reply
+
+    def _sizes(self, asked: Any, before: Optional[int], reply: Any) -> int:
+        """Returns among how many sizes a resize drew one."""
+        if before is None or reply != Reply("error Injected") or self._layer.tracked_size(asked.number) == before:
+            return 0
+        return abs(int(asked.first) - before) - 1
+
+    def state(self, images: Iterable[Tuple[str, bytes, bytes]]) -> State:
+        """The durable bytes of all blobs, and the settings."""
+        crashes = sum(call.word == "crash" for call in self.calls)
+        return durable_blobs(self._layer, blobs_of(self.calls, images)), settings_of(self.calls), crashes, self.losses, self._layer.left
 
     @property
     def taken(self) -> List[Choice]:
@@ -114,15 +171,17 @@ class Run:
             self.bounds.check(len(self.words))
             raise MoreWords
         self.left = left
-        before = self._along.made
-        self._along.count(left, sizes)
-        if self._along.differs:
-            draws = self._along.made - before - bool(sizes)
+        along = self._along
+        along.count(left, sizes)
+        made = along.made
+        more = made - len(self.made)
+        if along.differs:
+            draws = more - bool(sizes)
             raise self._differs(*[(DRAW, 2)] * draws, *[(SIZE, sizes)] * bool(sizes))
-        self.made += [len(self.calls)] * (self._along.made - before)
-        self.bounds.check(self._along.made)
+        self.made += [len(self.calls)] * more
+        self.bounds.check(made)
 
-    def draws(self) -> List[int]:
+    def draws(self) -> Sequence[int]:
         """The words of the draws that were made. If the run is short, all that it was given."""
         return self.words if self.is_short else draws_of(self.taken)
 
@@ -136,57 +195,6 @@ class Run:
 
 def _named(choice: Choice) -> str:
     return {CHOICE: f"`choose({choice[2]})`", SIZE: f"one of {choice[2]} drawn sizes"}.get(choice[0], choice[0])
-
-
-class _Followed:
-    """A layer that counts calls and draws, and of which the power goes off as the run says."""
-
-    def __init__(self, layer: Any, run: Run, of_files: bool) -> None:
-        self._layer = layer
-        self._run = run
-        self._of_files = of_files
-        # With a seed no draws are counted.
-        self._drawing = having(DRAWS, of_files) if run.seed is None else ()
-        self._apply, self.close, self.cut_after = layer.apply, layer.close, layer.cut_after
-        self.inode_at = getattr(layer, "inode_at", None)
-
-    @property
-    def is_off(self) -> bool:
-        """Whether the power is off."""
-        return bool(self._layer.is_off)
-
-    def apply(self, asked: Any) -> Any:
-        """Makes a call. If a resize of a blob fails and the size is another one, that was drawn from those between the old one and the
-        new."""
-        run = self._run
-        word = asked.word
-        if run.losses and changes(word, self._of_files) and not self._layer.is_off and run.fails():
-            self._layer.cut_after(0)
-        run.calls.append(asked)
-        draws = word in self._drawing
-        before = self._layer.tracked_size(asked.number) if draws and word == "resize" else None
-        try:
-            reply = self._apply(asked)
-        except PowerLoss:
-            run.calls.pop()
-            raise
-        if draws:
-            left = self._layer.words_left()
-            if left != run.left:
-                run.count(left, self._sizes(asked, before, reply))
-        return reply
-
-    def _sizes(self, asked: Any, before: Optional[int], reply: Any) -> int:
-        """Returns among how many sizes a resize drew one."""
-        if before is None or reply != Reply("error Injected") or self._layer.tracked_size(asked.number) == before:
-            return 0
-        return abs(int(asked.first) - before) - 1
-
-    def state(self, images: Iterable[Tuple[str, bytes, bytes]]) -> State:
-        """The durable bytes of all blobs, and the settings."""
-        calls = self._run.calls
-        crashes = sum(call.word == "crash" for call in calls)
-        return durable_blobs(self._layer, blobs_of(calls, images)), settings_of(calls), crashes, self._run.losses, self._layer.left
 
 
 class OnPath(Bounded):
@@ -205,7 +213,7 @@ class OnPath(Bounded):
         layer = self._way(preamble)
         if self._pushes:
             layer.push_words(self._run.words)
-        return _Followed(powered(layer), self._run, self._of_files)
+        return self._run.take(layer, self._of_files)
 
     def _words_line(self) -> List[str]:
         """The words that the run is given, if they aren't pushed, and once it has begun those of its draws so far."""

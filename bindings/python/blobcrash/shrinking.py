@@ -13,7 +13,7 @@ from __future__ import annotations
 import itertools
 import random
 import time
-from typing import Any, Callable, Iterable, Iterator, List, NamedTuple, Optional, Tuple, Union
+from typing import Any, Callable, Iterable, Iterator, List, NamedTuple, Optional, Sequence, Tuple, Union
 
 from .bodies import check_body, check_result
 from .bounds import Bounds
@@ -163,7 +163,7 @@ class Replay(Run):
             self._chosen[-1] = (SIZE, words[-1] * sizes >> 64, sizes)
         self._taken_words = drawn
 
-    def draws(self) -> List[int]:
+    def draws(self) -> Sequence[int]:
         return self.words[: self._taken_words]
 
     def choices(self) -> Choices:
