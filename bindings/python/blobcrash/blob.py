@@ -12,6 +12,9 @@ from .grammar import data_of, number
 if TYPE_CHECKING:
     from .store import Store
 
+# A typed write takes numbers below 2^31 as they are. Python compares those below 2^30 faster.
+_SHORT = 2**30 - 1
+
 
 class Blob:
     """An open handle. `with` closes it at the end.
@@ -67,8 +70,13 @@ class Blob:
     def write(self, offset: int, data: bytes, sync: bool = False) -> None:
         """Writes bytes at a logical offset. They may be lost until they are synced; with `sync` they are durable immediately."""
         put = self._put
-        # `put` takes numbers below 2^31 as they are.
-        if put is None or type(offset) is not int or type(data) is not bytes or (offset | (length := len(data))) >> 31:
+        if (
+            put is None
+            or type(offset) is not int
+            or type(data) is not bytes
+            or not 0 <= offset <= _SHORT
+            or (length := len(data)) > _SHORT
+        ):
             self._write(offset, data, sync)
             return
         # The usual case, without a call object. The record gets the arguments, of which a line is made when it is asked for.
@@ -142,6 +150,6 @@ class FollowedBlob(Blob):
     """A handle of a search's run, of which unsynced writes are followed."""
 
     def write(self, offset: int, data: bytes, sync: bool = False) -> None:
-        super().write(offset, data, sync)
+        Blob.write(self, offset, data, sync)
         if data and not sync:
             self._store._unsynced.write(self._of)

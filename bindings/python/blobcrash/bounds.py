@@ -26,17 +26,19 @@ class Bounds:
 
     def __init__(self, most: float = _NEVER, until: float = _NEVER) -> None:
         self.most = most
-        self.until = _NEVER if until == _NEVER else until
+        self.until = until
+        # How many calls are made before `check` is asked.
+        self.free = most if until == _NEVER else 0
 
     def count(self) -> None:
         """Counts a call, before it is made."""
-        self.calls = calls = self.calls + 1
-        if calls > self.most or self.until is not _NEVER:
-            self.check(calls)
+        self.calls += 1
+        if self.calls > self.free:
+            self.check(self.calls)
 
     def end_met(self) -> None:
         """Ends the run at a restart, since another run had the same state."""
-        self.is_met, self.most = True, -1
+        self.is_met, self.free = True, 0
         raise RunEnded
 
     def check(self, count: int) -> None:

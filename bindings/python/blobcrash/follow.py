@@ -4,7 +4,7 @@ from __future__ import annotations
 
 from array import array
 from functools import lru_cache
-from typing import Any, Callable, Iterable, List, Optional, Sequence, Tuple
+from typing import Any, Callable, Iterable, List, Optional, Sequence, Tuple, TypeVar
 
 from .bounds import Bounded, Bounds, RunEnded
 from .calls import Reply
@@ -13,7 +13,7 @@ from .file_settings import torn_unless_set
 from .file_system import Files
 from .foreign import DRAWS, changes, having
 from .grammar import MAX, number_of_branches
-from .layers import Library
+from .layers import InTurn, Library
 from .met import Met, State, blobs_of, durable_blobs, frozen, place, settings_of
 from .paths import CHOICE, DRAW, POWER, SIZE, Choice, draws_of
 from .power import PowerLoss, powered
@@ -89,12 +89,11 @@ class Run:
         self.left = len(self.words)
         along.begin(self.left)
 
-    def take(self, layer: Any, of_files: bool) -> Any:
+    def take(self, layer: Any, of_files: bool, is_in_turn: bool) -> Any:
         """Takes the layer that makes its calls. Returns itself."""
         self._layer = layer = powered(layer)
-        self._of_files = of_files
-        self._apply, self.close, self.cut_after = layer.apply, layer.close, layer.cut_after
-        self.inode_at = getattr(layer, "inode_at", None)
+        self._of_files, self._is_in_turn = of_files, is_in_turn
+        self._apply = layer.apply
         # With a seed no draws are counted.
         self._drawing = having(DRAWS, of_files) if self.seed is None else ()
         return self
@@ -103,6 +102,20 @@ class Run:
     def is_off(self) -> bool:
         """Whether the power is off."""
         return bool(self._layer.is_off)
+
+    @property
+    def inode_at(self) -> Any:
+        """The function of a layer of files that returns the inode of an open file, if it has one."""
+        return getattr(self._layer, "inode_at", None)
+
+    def cut_after(self, calls: int) -> None:
+        """Turns the power off after this number of calls that may change what a crash leaves."""
+        self._layer.cut_after(calls)
+
+    def close(self) -> None:
+        """Ends the layer, unless the next run does."""
+        if not self._is_in_turn:
+            self._layer.close()
 
     def apply(self, asked: Any) -> Any:
         """Makes a call. If a resize of a blob fails and the size is another one, that was drawn from those between the old one and the
@@ -197,37 +210,66 @@ def _named(choice: Choice) -> str:
     return {CHOICE: f"`choose({choice[2]})`", SIZE: f"one of {choice[2]} drawn sizes"}.get(choice[0], choice[0])
 
 
+def _line_of(words: Iterable[int]) -> str:
+    return "words " + " ".join("max" if word == MAX else str(word) for word in words)
+
+
+_Own = TypeVar("_Own", bound="OnPath")
+
+
 class OnPath(Bounded):
     """What the stores and the files of explored runs share. It stands before the class that makes the calls."""
 
     _is_search = True
-    _run: Run
+    _has_draws = True
+    # The run, once there is one.
+    _run: Any = None
+    _unsynced: Any
 
-    def _follow_run(self, run: Run, way: Any) -> Any:
-        """Takes a run. Returns the way of its calls, over another one."""
-        self._run, self._bounds, self._way = run, run.bounds, way
-        self._pushes = run.seed is None and hasattr(way, "push_words")
-        return self._begin
+    def _over(self, way: Any) -> Any:
+        """Takes the way of all runs. Returns one that keeps the preamble that they have in common."""
+        self._way, self._is_in_turn, self._pushes = way, isinstance(way, InTurn), hasattr(way, "push_words")
+        return self._keep
 
-    def _begin(self, preamble: bytes) -> Any:
-        layer = self._way(preamble)
-        if self._pushes:
-            layer.push_words(self._run.words)
-        return self._run.take(layer, self._of_files)
+    def _keep(self, preamble: bytes) -> None:
+        self._preamble = preamble
+
+    def on(self: _Own, run: Run) -> _Own:
+        """Returns the store, or the files, of a run, with the same arguments."""
+        other = object.__new__(type(self))
+        other._run, other._bounds = run, run.bounds
+        other._thread = other._owner = self._thread
+        other._lines, other._opened, other._unsynced = self._lines[:], {}, self._unsynced.again()
+        other._copy(self)
+        if run.seed is not None:
+            layer = self._way(self._preamble)
+        elif self._pushes:
+            layer = self._way(self._preamble)
+            layer.push_words(run.words)
+        else:
+            layer = self._way(f"{_line_of(run.words)}\n".encode() + self._preamble)
+        other._layer = run.take(layer, self._of_files, self._is_in_turn)
+        return other
+
+    def _copy(self, other: Any) -> None:
+        """Takes the arguments of the other store, or of the other files."""
+        raise NotImplementedError
+
+    def end(self) -> None:
+        """Ends the session that all runs had in turn."""
+        if self._is_in_turn:
+            self._way.close()
 
     def _words_line(self) -> List[str]:
-        """The words that the run is given, if they aren't pushed, and once it has begun those of its draws so far."""
-        has_begun = hasattr(self, "_layer")
-        if self._run.seed is not None or (self._pushes and not has_begun):
-            return []
-        words = self._run.draws() if has_begun else self._run.words
-        return ["words " + " ".join("max" if word == MAX else str(word) for word in words)] if words else []
+        """The words of the draws of the run so far."""
+        words = () if self._run is None or self._run.seed is not None else self._run.draws()
+        return [_line_of(words)] if words else []
 
     def choose(self, branches: int) -> int:
         """Returns a number below `branches`. Every one is tried, together with the outcomes of the draws."""
         branches = number_of_branches(branches)
         self._count()
-        branch = self._run.choose(CHOICE, branches) if branches > 1 else 0
+        branch: int = self._run.choose(CHOICE, branches) if branches > 1 else 0
         self.note(f"choose({branches}) is {branch}")
         return branch
 
@@ -241,11 +283,18 @@ class ExploredStore(OnPath, Store):
     """The store of one run."""
 
     def __init__(
-        self, run: Run, settings: Iterable[str], images: Iterable[Tuple[str, bytes, bytes]], by: Any = None, allow_stale: bool = False
+        self,
+        seed: Optional[int],
+        settings: Iterable[str],
+        images: Iterable[Tuple[str, bytes, bytes]],
+        by: Any = None,
+        allow_stale: bool = False,
     ) -> None:
         self._images = images
-        way = self._follow_run(run, by or Library)
-        super().__init__(run.seed, settings=settings, images=images, by=way, allow_stale=allow_stale)
+        super().__init__(seed, settings=settings, images=images, by=self._over(by or Library), allow_stale=allow_stale)
+
+    def _copy(self, other: Any) -> None:
+        self._images, self._allow_stale, self._direct = other._images, other._allow_stale, None
 
     def _expect(self, value: Any) -> None:
         # With a seed what follows depends on how many words were drawn.
@@ -260,6 +309,8 @@ class ExploredStore(OnPath, Store):
 class ExploredFiles(OnPath, Files):
     """The files of one run."""
 
-    def __init__(self, run: Run, settings: Iterable[str], profile: Any, by: Any = None) -> None:
-        way = self._follow_run(run, files_way(by))
-        super().__init__(run.seed, profile=profile, settings=torn_unless_set(settings), by=way)
+    def __init__(self, seed: Optional[int], settings: Iterable[str], profile: Any, by: Any = None) -> None:
+        super().__init__(seed, profile=profile, settings=torn_unless_set(settings), by=self._over(files_way(by)))
+
+    def _copy(self, other: Any) -> None:
+        self._draws_edits, self._restarts = other._draws_edits, 0

@@ -270,10 +270,13 @@ class InProcess(InLibrary):
     def _applied(self, kind: int, number: int, first: int, last: int, one: bytes, other: bytes) -> Any:
         """Makes a typed call, and returns its reply."""
         size, length = len(one), len(other)
-        if (size | length) >> INT_BITS:
+        # The last argument isn't passed in a register.
+        if size < 256 and length < 256:
+            last_one = _LENGTHS[length]
+        elif (size | length) >> INT_BITS:
             raise MemoryError
-        # It isn't passed in a register.
-        last_one = _LENGTHS[length] if length < 256 else ctypes.c_size_t(length)
+        else:
+            last_one = ctypes.c_size_t(length)
         return self._apply(self.at, _ASKED.pack(kind, number, first, last), one, size, other, last_one)
 
     def _check(self, status: int) -> None:
@@ -299,6 +302,11 @@ class InTurn:
         else:
             self._layer.begin(preamble)
         return self._layer
+
+    def close(self) -> None:
+        """Ends the session."""
+        if self._layer is not None:
+            self._layer.close()
 
 
 class Library(InProcess):

@@ -111,7 +111,10 @@ class Session:
             raise self._unusable()
         bounds = self._bounds
         if bounds is not None:
-            bounds.count()
+            # As `bounds.count()`, without a call.
+            bounds.calls = calls = bounds.calls + 1
+            if calls > bounds.free:
+                bounds.check(calls)
         self._owner = None
         try:
             reply = self._layer.apply(asked)
@@ -120,12 +123,8 @@ class Session:
             raise
         self._owner = self._thread
         if is_shown:
-            self._lines.append(self._shown(asked, reply))
+            self._lines.append(asked)
         return reply
-
-    def _shown(self, asked: Any, reply: Any) -> Any:
-        """What the record has of a call that was made."""
-        return asked
 
     def _ended(self, asked: Any, error: BaseException, is_shown: bool = True) -> None:
         """Notes a call that has no reply. One that may have been made ends the session."""
