@@ -84,15 +84,16 @@ class Blob:
         if store._owner != get_ident():
             raise store._unusable()
         store._owner = None
+        asked = (self._at, self._handle, offset, data, length, 1 if sync else 0)
         try:
-            status = put(self._at, self._handle, offset, data, length, 1 if sync else 0)
+            status = put(*asked)
         except BaseException as error:
             store._ended(store._write_call(self._handle, offset, data, sync), error)
             raise
         if status:
             store._refuse(store._write_call(self._handle, offset, data, sync), status)
         lines = self._lines
-        lines += (self._handle, offset, data, sync)
+        lines += asked
         store._owner = store._thread
 
     def _write(self, offset: int, data: bytes, sync: bool) -> None:

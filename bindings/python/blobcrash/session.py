@@ -31,7 +31,7 @@ class Session:
 
     def __init__(self, words: Iterable[int]) -> None:
         self._words = [number(word, "a word") for word in words]
-        # The record: a line or a note as its text, or a call. Of a store also the four arguments of a write, one after another; of files a
+        # The record: a line or a note as its text, or a call. Of a store also the six arguments of a write, one after another; of files a
         # call with what its line says of the reply.
         self._lines: List[Any] = []
         self._thread = get_ident()

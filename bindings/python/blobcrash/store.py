@@ -2,6 +2,7 @@
 
 from __future__ import annotations
 
+from itertools import islice
 from threading import get_ident
 from typing import Any, Callable, Dict, Iterable, Iterator, List, Optional, Tuple
 
@@ -268,10 +269,14 @@ class Store(Session):
         return call
 
     def _made(self) -> Iterator[Any]:
+        at = self._direct and self._direct.at
         lines = iter(self._lines)
         for line in lines:
-            # The handle of a write by `Blob.write`, which the other arguments follow.
-            yield self._write_call(line, next(lines), next(lines), next(lines)) if type(line) is int else line
+            # The first argument of a write by `Blob.write`, which the others follow.
+            if line is at:
+                handle, offset, data, _, sync = islice(lines, 5)
+                line = self._write_call(handle, offset, data, sync)
+            yield line
 
     def _read(self, handle: int, offset: int, length: int) -> Any:
         """Reads exactly `length` bytes. Without a layer between, this makes no call object, as `Blob.write`."""
