@@ -5,12 +5,15 @@ from __future__ import annotations
 from threading import get_ident
 from typing import TYPE_CHECKING, Any, Optional
 
-from .calls import Call
+from .calls import Call, new
 from .errors import StaleHandle
 from .grammar import data_of, number
 
 if TYPE_CHECKING:
     from .store import Store
+
+# A typed write takes numbers below 2^31 as they are. Python compares those below 2^30 faster.
+_SHORT = 2**30 - 1
 
 
 class Blob:
@@ -67,8 +70,13 @@ class Blob:
     def write(self, offset: int, data: bytes, sync: bool = False) -> None:
         """Writes bytes at a logical offset. They may be lost until they are synced; with `sync` they are durable immediately."""
         put = self._put
-        # `put` takes numbers below 2^31 as they are.
-        if put is None or type(offset) is not int or type(data) is not bytes or (offset | (length := len(data))) >> 31:
+        if (
+            put is None
+            or type(offset) is not int
+            or type(data) is not bytes
+            or not 0 <= offset <= _SHORT
+            or (length := len(data)) > _SHORT
+        ):
             self._write(offset, data, sync)
             return
         # The usual case, without a call object. The record gets the arguments, of which a line is made when it is asked for.
@@ -76,15 +84,16 @@ class Blob:
         if store._owner != get_ident():
             raise store._unusable()
         store._owner = None
+        asked = (self._at, self._handle, offset, data, length, 1 if sync else 0)
         try:
-            status = put(self._at, self._handle, offset, data, length, 1 if sync else 0)
+            status = put(*asked)
         except BaseException as error:
             store._ended(store._write_call(self._handle, offset, data, sync), error)
             raise
         if status:
             store._refuse(store._write_call(self._handle, offset, data, sync), status)
         lines = self._lines
-        lines += (self._handle, offset, data, sync)
+        lines += asked
         store._owner = store._thread
 
     def _write(self, offset: int, data: bytes, sync: bool) -> None:
@@ -123,14 +132,14 @@ class Blob:
         store = self._store
         store._check()
         if self._handle in store._opened or not self._stale:
-            store._call(Call("close", self._handle))
+            store._call(new(Call, ("close", self._handle, None, None, "", None)))
             store._closed_handle(self._handle)
 
     def _call(self, word: str, first: Optional[int] = None) -> Any:
         """Makes a call of this handle, and returns what it does."""
         if self._stale:
             self._refuse_stale()
-        return self._store._call(Call(word, self._handle, first))
+        return self._store._call(new(Call, (word, self._handle, first, None, "", None)))
 
     def _refuse_stale(self) -> None:
         if not self.allow_stale:
@@ -142,6 +151,6 @@ class FollowedBlob(Blob):
     """A handle of a search's run, of which unsynced writes are followed."""
 
     def write(self, offset: int, data: bytes, sync: bool = False) -> None:
-        super().write(offset, data, sync)
+        Blob.write(self, offset, data, sync)
         if data and not sync:
             self._store._unsynced.write(self._of)

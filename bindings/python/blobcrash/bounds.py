@@ -21,21 +21,24 @@ class Bounds:
     """The bounds of one run. Once one is reached, each further call ends the run. `is_long` and `is_late` say which one it was, and
     `is_met` that the run was ended at a restart."""
 
+    calls = 0
+    is_long = is_late = is_met = False
+
     def __init__(self, most: float = _NEVER, until: float = _NEVER) -> None:
         self.most = most
-        self.until = _NEVER if until == _NEVER else until
-        self.calls = 0
-        self.is_long = self.is_late = self.is_met = False
+        self.until = until
+        # How many calls are made before `check` is asked.
+        self.free = most if until == _NEVER else 0
 
     def count(self) -> None:
         """Counts a call, before it is made."""
-        self.calls = calls = self.calls + 1
-        if calls > self.most or self.until is not _NEVER:
-            self.check(calls)
+        self.calls += 1
+        if self.calls > self.free:
+            self.check(self.calls)
 
     def end_met(self) -> None:
         """Ends the run at a restart, since another run had the same state."""
-        self.is_met, self.most = True, -1
+        self.is_met, self.free = True, 0
         raise RunEnded
 
     def check(self, count: int) -> None:

@@ -7,6 +7,8 @@ from typing import Any, List, NamedTuple, Optional, Tuple
 from .grammar import hex_of, partition_word, unhex
 from .shapes import SHAPES, value_of
 
+# Makes a tuple of a class with all of its fields, in a fraction of the time that a call of the class takes.
+new: Any = tuple.__new__
 # The rows of a crash: a write's number and a choice for each of its bytes, `1` if it is kept.
 Rows = List[Tuple[int, str]]
 
@@ -108,6 +110,9 @@ def reply_of(words: List[str]) -> Any:
         return [unhex(name) for name in words[1:]]
     if words[0] == "bytes":
         return unhex(words[1])
-    if words[0] == "crashed":
-        return [(int(write), kept) for write, kept in (row.split(":") for row in words[1:])]
-    return None
+    return rows_of(words) if words[0] == "crashed" else None
+
+
+def rows_of(words: List[str]) -> Rows:
+    """Returns the rows in the words of a crash's reply."""
+    return [(int(write), kept) for write, _, kept in [row.partition(":") for row in words[1:]]]

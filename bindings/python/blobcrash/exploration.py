@@ -59,16 +59,14 @@ class Tree(NamedTuple):
     # The profile of its files. Without one it is of stores.
     files: Optional[str] = None
 
-    def way(self) -> Any:
-        """The way of all runs."""
+    def store(self) -> Any:
+        """The store, or the files, of which those of all runs are made."""
         way = (self.by or Library) if self.files is None else files_way(self.by)
-        return InTurn(way) if way in (Library, FilesLibrary) else way
-
-    def store(self, run: Run, way: Any) -> Any:
-        """The store, or the files, of a run."""
+        if way in (Library, FilesLibrary):
+            way = InTurn(way)
         if self.files is not None:
-            return ExploredFiles(run, self.settings, self.files, way)
-        return ExploredStore(run, self.settings, self.images, way, self.allow_stale)
+            return ExploredFiles(self.seed, self.settings, self.files, way)
+        return ExploredStore(self.seed, self.settings, self.images, way, self.allow_stale)
 
 
 class Times(NamedTuple):
@@ -192,15 +190,18 @@ def visit(tree: Tree, subtrees: List[str], most: int, times: Times, progress: Op
     """Visits the leaves of subtrees until there were `most` runs, or the time is over. Raises `Failed` and `TooLong`. A `KeyboardInterrupt`
     has the part that was visited, as `part`."""
     visitor = _Visitor(tree, times, progress)
-    for at, subtree in enumerate(subtrees):
-        try:
-            rest = visitor.visit(path_of(subtree), most)
-        except _Interrupted as stopped:
-            stopped.error.part = visitor.part(stopped.rest + subtrees[at + 1 :])
-            raise stopped.error from None
-        if rest:
-            return visitor.part(rest + subtrees[at + 1 :])
-    return visitor.part([])
+    try:
+        for at, subtree in enumerate(subtrees):
+            try:
+                rest = visitor.visit(path_of(subtree), most)
+            except _Interrupted as stopped:
+                stopped.error.part = visitor.part(stopped.rest + subtrees[at + 1 :])
+                raise stopped.error from None
+            if rest:
+                return visitor.part(rest + subtrees[at + 1 :])
+        return visitor.part([])
+    finally:
+        visitor.store.end()
 
 
 class _Late(Exception):
@@ -220,7 +221,7 @@ class _Visitor:
 
     def __init__(self, tree: Tree, times: Times, progress: Optional[Progress]) -> None:
         self._tree = tree
-        self._way = tree.way()
+        self.store = tree.store()
         self._times = times
         self._progress = progress
         self._room = _ROOM
@@ -237,10 +238,13 @@ class _Visitor:
     def visit(self, path: List[Choice], most: int) -> List[str]:
         """Visits the leaves below a path, depth first, and returns the subtrees that the limits left."""
         along = Traversal(path)
+        _running.is_on = True
         try:
             return self._visit_along(along, path, most)
         except KeyboardInterrupt as error:
             raise _Interrupted(error, along.rest()) from None
+        finally:
+            _running.is_on = False
 
     def _visit_along(self, along: Traversal, path: List[Choice], most: int) -> List[str]:
         before: Optional[Run] = None
@@ -288,12 +292,8 @@ class _Visitor:
         while True:
             bounds = Bounds(tree.calls_per_run, until)
             run = Run(along, self._room, tree.power_losses, tree.seed, bounds, self._states)
-            store = tree.store(run, self._way)
-            _running.is_on = True
-            try:
-                outcome, error = called(tree.body, store)
-            finally:
-                _running.is_on = False
+            store = self.store.on(run)
+            outcome, error = called(tree.body, store)
             if run.error is not None:
                 raise run.error
             if bounds.is_long:

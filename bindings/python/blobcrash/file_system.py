@@ -289,10 +289,6 @@ class Files(Session):
             if error.is_first:
                 raise
 
-    def _shown(self, asked: FileCall, reply: Any) -> Any:
-        text = reply_text(asked, reply)
-        return (asked, text) if text else asked
-
     def _made(self) -> Iterable[Any]:
         return (f"{made[0]}{made[1]}" if type(made) is tuple else made for made in self._lines)
 
@@ -301,6 +297,9 @@ class Files(Session):
         if self._is_search:
             self._unsynced.before_call(asked, self._layer)
         reply = self._apply(asked, is_shown)
+        text = reply_text(asked, reply) if is_shown else ""
+        if text:
+            self._lines[-1] = asked, text
         if isinstance(reply, Refusal):
             raise error_of(reply, path, to)
         if self._is_search:

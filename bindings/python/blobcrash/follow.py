@@ -2,7 +2,9 @@
 
 from __future__ import annotations
 
-from typing import Any, Callable, Iterable, List, Optional, Tuple
+from array import array
+from functools import lru_cache
+from typing import Any, Callable, Iterable, List, Optional, Sequence, Tuple, TypeVar
 
 from .bounds import Bounded, Bounds, RunEnded
 from .calls import Reply
@@ -11,7 +13,7 @@ from .file_settings import torn_unless_set
 from .file_system import Files
 from .foreign import DRAWS, changes, having
 from .grammar import MAX, number_of_branches
-from .layers import Library
+from .layers import InTurn, Library
 from .met import Met, State, blobs_of, durable_blobs, frozen, place, settings_of
 from .paths import CHOICE, DRAW, POWER, SIZE, Choice, draws_of
 from .power import PowerLoss, powered
@@ -47,12 +49,23 @@ def called(body: Callable[..., Any], store: Any) -> Tuple[Any, Optional[BaseExce
         store.close()
 
 
+@lru_cache(maxsize=None)
+def _further(room: int) -> array[int]:
+    """The words of a run after those of its path."""
+    return array("Q", [*[0] * room, MAX])
+
+
 class Run:
     """The choices of one run. It follows a path, and then takes the first branch of each choice.
 
     `taken` are all of them, and `made` says of each how many calls there were, with the one that drew it. With a seed the draws are the
     seed's, and aren't choices. `bounds` end the run, and so does a state after a restart that is in `met`.
+
+    It is the layer of its store or its files: it counts calls and draws, and turns the power off at the calls that it chooses.
     """
+
+    is_short = False
+    error: Optional[NotDeterministic] = None
 
     def __init__(
         self,
@@ -67,16 +80,73 @@ class Run:
         self.planned = along.planned
         self.bounds = bounds or Bounds()
         self.met = {} if met is None else met
-        self.words = [*draws_of(along.path), *[0] * room, MAX]
+        self.words: Sequence[int] = array("Q", along.draws()) + _further(room)
         self.made: List[int] = []
         self.calls: List[Any] = []
         self.seed = seed
         self.losses = losses
-        self.is_short = False
-        self.error: Optional[NotDeterministic] = None
         # How many words were left when draws were counted last.
         self.left = len(self.words)
         along.begin(self.left)
+
+    def take(self, layer: Any, of_files: bool, is_in_turn: bool) -> Any:
+        """Takes the layer that makes its calls. Returns itself."""
+        self._layer = layer = powered(layer)
+        self._of_files, self._is_in_turn = of_files, is_in_turn
+        self._apply = layer.apply
+        # With a seed no draws are counted.
+        self._drawing = having(DRAWS, of_files) if self.seed is None else ()
+        return self
+
+    @property
+    def is_off(self) -> bool:
+        """Whether the power is off."""
+        return bool(self._layer.is_off)
+
+    @property
+    def inode_at(self) -> Any:
+        """The function of a layer of files that returns the inode of an open file, if it has one."""
+        return getattr(self._layer, "inode_at", None)
+
+    def cut_after(self, calls: int) -> None:
+        """Turns the power off after this number of calls that may change what a crash leaves."""
+        self._layer.cut_after(calls)
+
+    def close(self) -> None:
+        """Ends the layer, unless the next run does."""
+        if not self._is_in_turn:
+            self._layer.close()
+
+    def apply(self, asked: Any) -> Any:
+        """Makes a call. If a resize of a blob fails and the size is another one, that was drawn from those between the old one and the
+        new."""
+        word = asked.word
+        if self.losses and changes(word, self._of_files) and not self._layer.is_off and self.fails():
+            self._layer.cut_after(0)
+        self.calls.append(asked)
+        draws = word in self._drawing
+        before = self._layer.tracked_size(asked.number) if word == "resize" and draws else None
+        try:
+            reply = self._apply(asked)
+        except PowerLoss:
+            self.calls.pop()
+            raise
+        if draws:
+            left = self._layer.words_left()
+            if left != self.left:
+                self.count(left, self._sizes(asked, before, reply))
+        return reply
+
+    def _sizes(self, asked: Any, before: Optional[int], reply: Any) -> int:
+        """Returns among how many sizes a resize drew one."""
+        if before is None or reply != Reply("error Injected") or self._layer.tracked_size(asked.number) == before:
+            return 0
+        return abs(int(asked.first) - before) - 1
+
+    def state(self, images: Iterable[Tuple[str, bytes, bytes]]) -> State:
+        """The durable bytes of all blobs, and the settings."""
+        crashes = sum(call.word == "crash" for call in self.calls)
+        return durable_blobs(self._layer, blobs_of(self.calls, images)), settings_of(self.calls), crashes, self.losses, self._layer.left
 
     @property
     def taken(self) -> List[Choice]:
@@ -114,15 +184,17 @@ class Run:
             self.bounds.check(len(self.words))
             raise MoreWords
         self.left = left
-        before = self._along.made
-        self._along.count(left, sizes)
-        if self._along.differs:
-            draws = self._along.made - before - bool(sizes)
+        along = self._along
+        along.count(left, sizes)
+        made = along.made
+        more = made - len(self.made)
+        if along.differs:
+            draws = more - bool(sizes)
             raise self._differs(*[(DRAW, 2)] * draws, *[(SIZE, sizes)] * bool(sizes))
-        self.made += [len(self.calls)] * (self._along.made - before)
-        self.bounds.check(self._along.made)
+        self.made += [len(self.calls)] * more
+        self.bounds.check(made)
 
-    def draws(self) -> List[int]:
+    def draws(self) -> Sequence[int]:
         """The words of the draws that were made. If the run is short, all that it was given."""
         return self.words if self.is_short else draws_of(self.taken)
 
@@ -138,88 +210,66 @@ def _named(choice: Choice) -> str:
     return {CHOICE: f"`choose({choice[2]})`", SIZE: f"one of {choice[2]} drawn sizes"}.get(choice[0], choice[0])
 
 
-class _Followed:
-    """A layer that counts calls and draws, and of which the power goes off as the run says."""
+def _line_of(words: Iterable[int]) -> str:
+    return "words " + " ".join("max" if word == MAX else str(word) for word in words)
 
-    def __init__(self, layer: Any, run: Run, of_files: bool) -> None:
-        self._layer = layer
-        self._run = run
-        self._of_files = of_files
-        # With a seed no draws are counted.
-        self._drawing = having(DRAWS, of_files) if run.seed is None else ()
-        self._apply, self.close, self.cut_after = layer.apply, layer.close, layer.cut_after
-        self.inode_at = getattr(layer, "inode_at", None)
 
-    @property
-    def is_off(self) -> bool:
-        """Whether the power is off."""
-        return bool(self._layer.is_off)
-
-    def apply(self, asked: Any) -> Any:
-        """Makes a call. If a resize of a blob fails and the size is another one, that was drawn from those between the old one and the
-        new."""
-        run = self._run
-        word = asked.word
-        if run.losses and changes(word, self._of_files) and not self._layer.is_off and run.fails():
-            self._layer.cut_after(0)
-        run.calls.append(asked)
-        draws = word in self._drawing
-        before = self._layer.tracked_size(asked.number) if draws and word == "resize" else None
-        try:
-            reply = self._apply(asked)
-        except PowerLoss:
-            run.calls.pop()
-            raise
-        if draws:
-            left = self._layer.words_left()
-            if left != run.left:
-                run.count(left, self._sizes(asked, before, reply))
-        return reply
-
-    def _sizes(self, asked: Any, before: Optional[int], reply: Any) -> int:
-        """Returns among how many sizes a resize drew one."""
-        if before is None or reply != Reply("error Injected") or self._layer.tracked_size(asked.number) == before:
-            return 0
-        return abs(int(asked.first) - before) - 1
-
-    def state(self, images: Iterable[Tuple[str, bytes, bytes]]) -> State:
-        """The durable bytes of all blobs, and the settings."""
-        calls = self._run.calls
-        crashes = sum(call.word == "crash" for call in calls)
-        return durable_blobs(self._layer, blobs_of(calls, images)), settings_of(calls), crashes, self._run.losses, self._layer.left
+_Own = TypeVar("_Own", bound="OnPath")
 
 
 class OnPath(Bounded):
     """What the stores and the files of explored runs share. It stands before the class that makes the calls."""
 
     _is_search = True
-    _run: Run
+    _has_draws = True
+    # The run, once there is one.
+    _run: Any = None
+    _unsynced: Any
 
-    def _follow_run(self, run: Run, way: Any) -> Any:
-        """Takes a run. Returns the way of its calls, over another one."""
-        self._run, self._bounds, self._way = run, run.bounds, way
-        self._pushes = run.seed is None and hasattr(way, "push_words")
-        return self._begin
+    def _over(self, way: Any) -> Any:
+        """Takes the way of all runs. Returns one that keeps the preamble that they have in common."""
+        self._way, self._is_in_turn, self._pushes = way, isinstance(way, InTurn), hasattr(way, "push_words")
+        return self._keep
 
-    def _begin(self, preamble: bytes) -> Any:
-        layer = self._way(preamble)
-        if self._pushes:
-            layer.push_words(self._run.words)
-        return _Followed(powered(layer), self._run, self._of_files)
+    def _keep(self, preamble: bytes) -> None:
+        self._preamble = preamble
+
+    def on(self: _Own, run: Run) -> _Own:
+        """Returns the store, or the files, of a run, with the same arguments."""
+        other = object.__new__(type(self))
+        other._run, other._bounds = run, run.bounds
+        other._thread = other._owner = self._thread
+        other._lines, other._opened, other._unsynced = self._lines[:], {}, self._unsynced.again()
+        other._copy(self)
+        if run.seed is not None:
+            layer = self._way(self._preamble)
+        elif self._pushes:
+            layer = self._way(self._preamble)
+            layer.push_words(run.words)
+        else:
+            layer = self._way(f"{_line_of(run.words)}\n".encode() + self._preamble)
+        other._layer = run.take(layer, self._of_files, self._is_in_turn)
+        return other
+
+    def _copy(self, other: Any) -> None:
+        """Takes the arguments of the other store, or of the other files."""
+        raise NotImplementedError
+
+    def end(self) -> None:
+        """Ends the session that all runs had in turn."""
+        if self._is_in_turn:
+            self._way.close()
 
     def _words_line(self) -> List[str]:
-        """The words that the run is given, if they aren't pushed, and once it has begun those of its draws so far."""
-        has_begun = hasattr(self, "_layer")
-        if self._run.seed is not None or (self._pushes and not has_begun):
-            return []
-        words = self._run.draws() if has_begun else self._run.words
-        return ["words " + " ".join("max" if word == MAX else str(word) for word in words)] if words else []
+        """The words of the draws of the run so far."""
+        words = () if self._run is None or self._run.seed is not None else self._run.draws()
+        return [_line_of(words)] if words else []
 
     def choose(self, branches: int) -> int:
         """Returns a number below `branches`. Every one is tried, together with the outcomes of the draws."""
         branches = number_of_branches(branches)
         self._count()
-        branch = self._run.choose(CHOICE, branches) if branches > 1 else 0
+        branch: int = self._run.choose(CHOICE, branches) if branches > 1 else 0
         self.note(f"choose({branches}) is {branch}")
         return branch
 
@@ -233,11 +283,18 @@ class ExploredStore(OnPath, Store):
     """The store of one run."""
 
     def __init__(
-        self, run: Run, settings: Iterable[str], images: Iterable[Tuple[str, bytes, bytes]], by: Any = None, allow_stale: bool = False
+        self,
+        seed: Optional[int],
+        settings: Iterable[str],
+        images: Iterable[Tuple[str, bytes, bytes]],
+        by: Any = None,
+        allow_stale: bool = False,
     ) -> None:
         self._images = images
-        way = self._follow_run(run, by or Library)
-        super().__init__(run.seed, settings=settings, images=images, by=way, allow_stale=allow_stale)
+        super().__init__(seed, settings=settings, images=images, by=self._over(by or Library), allow_stale=allow_stale)
+
+    def _copy(self, other: Any) -> None:
+        self._images, self._allow_stale, self._direct = other._images, other._allow_stale, None
 
     def _expect(self, value: Any) -> None:
         # With a seed what follows depends on how many words were drawn.
@@ -252,6 +309,8 @@ class ExploredStore(OnPath, Store):
 class ExploredFiles(OnPath, Files):
     """The files of one run."""
 
-    def __init__(self, run: Run, settings: Iterable[str], profile: Any, by: Any = None) -> None:
-        way = self._follow_run(run, files_way(by))
-        super().__init__(run.seed, profile=profile, settings=torn_unless_set(settings), by=way)
+    def __init__(self, seed: Optional[int], settings: Iterable[str], profile: Any, by: Any = None) -> None:
+        super().__init__(seed, profile=profile, settings=torn_unless_set(settings), by=self._over(files_way(by)))
+
+    def _copy(self, other: Any) -> None:
+        self._draws_edits, self._restarts = other._draws_edits, 0

@@ -11,10 +11,11 @@ import signal
 import subprocess
 import weakref
 from contextlib import suppress
-from struct import Struct, pack
-from typing import Any, Callable, List, Optional, Type, Union
+from array import array
+from struct import Struct
+from typing import Any, Callable, Dict, List, Optional, Sequence, Type, Union
 
-from .calls import Call, Line, Opened, Reply, made, reply_of
+from .calls import Call, Line, Opened, Reply, made, new, rows_of
 from .checking import check as faults_of
 from .errors import BadLine, Interrupted, LibraryMissing, ProgramEnded
 from .foreign import (
@@ -216,8 +217,8 @@ class InProcess(InLibrary):
     def __init__(self, preamble: bytes = b"") -> None:
         self._apply, self._kinds = untyped(f"{self._functions}apply", keeps_lock=False), kinds(self._table)
         self._words_left = untyped(f"{self._functions}words_left")
-        self._session, self._asked = Session(), ctypes.create_string_buffer(_ASKED.size)
-        self.at, self._asked_at = ctypes.byref(self._session), ctypes.byref(self._asked)
+        self._session = Session()
+        self.at = ctypes.byref(self._session)
         self.room: Any = ctypes.create_string_buffer(_ROOM)
         self.begin(preamble)
 
@@ -225,7 +226,8 @@ class InProcess(InLibrary):
         """Begins in place with another preamble: what the session held is ended."""
         preamble = data_of(preamble, "a preamble")
         self._is_open, self._has_lost = True, False
-        ran = self._call("open", preamble, len(preamble))
+        length = len(preamble)
+        ran = self._quickest(length)("open", preamble, length)
         if ran.status == BAD_LINE:
             raise self._bad_preamble(preamble, ran.line)
         self._check(ran.status)
@@ -233,13 +235,15 @@ class InProcess(InLibrary):
     def words_left(self) -> int:
         """Returns how many words the generator has up to the last one that isn't zero. `ValueError` if a seed gives more."""
         ran = self._words_left(self.at)
-        self._check(ran.status)
+        if ran.status:
+            self._check(ran.status)
         left: int = ran.len
         return left
 
-    def push_words(self, words: List[int]) -> None:
-        """Inserts words before those that the generator has."""
-        self._check(self._quickest(len(words))("push_words", pack(f"{len(words)}Q", *words), len(words)))
+    def push_words(self, words: Sequence[int]) -> None:
+        """Inserts words before those that the generator has. An `array` with the type code `Q` takes least."""
+        count = len(words)
+        self._check(self._quickest(count)("push_words", array("Q", words).tobytes(), count))
 
     def close(self) -> int:
         """Ends the session, and returns 0."""
@@ -265,13 +269,15 @@ class InProcess(InLibrary):
 
     def _applied(self, kind: int, number: int, first: int, last: int, one: bytes, other: bytes) -> Any:
         """Makes a typed call, and returns its reply."""
-        _ASKED.pack_into(self._asked, 0, kind, number, first, last)
         size, length = len(one), len(other)
-        if (size | length) >> INT_BITS:
+        # The last argument isn't passed in a register.
+        if size < 256 and length < 256:
+            last_one = _LENGTHS[length]
+        elif (size | length) >> INT_BITS:
             raise MemoryError
-        # It isn't passed in a register.
-        last_one = _LENGTHS[length] if length < 256 else ctypes.c_size_t(length)
-        return self._apply(self.at, self._asked_at, one, size, other, last_one)
+        else:
+            last_one = ctypes.c_size_t(length)
+        return self._apply(self.at, _ASKED.pack(kind, number, first, last), one, size, other, last_one)
 
     def _check(self, status: int) -> None:
         if status == POWER_LOSS:
@@ -296,6 +302,11 @@ class InTurn:
         else:
             self._layer.begin(preamble)
         return self._layer
+
+    def close(self) -> None:
+        """Ends the session."""
+        if self._layer is not None:
+            self._layer.close()
 
 
 class Library(InProcess):
@@ -333,39 +344,46 @@ class Library(InProcess):
         text = partition.encode("utf-8", "replace") if partition else b""
         reply = self._applied(kind, number, first or 0, last or 0, text, name or b"")
         status = reply.status
-        return self.refusal(status) if status else self._value(word, reply)
+        if status:
+            return self.refusal(status)
+        value = _VALUES.get(word)
+        return value and value(self, reply)
 
     def read(self, handle: int, offset: int, length: int) -> Union[bytes, Reply]:
         """Returns exactly `length` bytes, or the reply that says why not."""
-        if not 0 <= handle <= MAX or not 0 <= offset <= MAX or length < 0:
-            raise ValueError(_NO_NUMBER)
-        if length > len(self.room) and not self._has_grown(handle, offset, length):
-            asked = Call("read", handle, offset, length)
-            found: Union[bytes, Reply] = made(asked, self.call(str(asked).encode()).decode())
-            return found
-        status = self._quickest(handle | offset | length)("read", handle, offset, self.room, length)
-        return self.room[:length] if status == DONE else self.refusal(status)
+        if (handle | offset | length) >> INT_BITS or length > len(self.room):
+            if not 0 <= handle <= MAX or not 0 <= offset <= MAX or length < 0:
+                raise ValueError(_NO_NUMBER)
+            if length > len(self.room) and not self._has_grown(handle, offset, length):
+                asked = Call("read", handle, offset, length)
+                found: Union[bytes, Reply] = made(asked, self.call(str(asked).encode()).decode())
+                return found
+            status = self._call("read", handle, offset, self.room, length)
+        else:
+            status = self.untyped_read(self.at, handle, offset, self.room, length)
+        return self.refusal(status) if status else self.room[:length]
 
     def write(self, handle: int, offset: int, data: bytes, sync: bool = False) -> Optional[Reply]:
         """Writes bytes. Returns the reply if it isn't `ok`."""
         data = data_of(data, "the data of a write")
-        if not 0 <= handle <= MAX or not 0 <= offset <= MAX:
-            raise ValueError(_NO_NUMBER)
-        status = self._quickest(handle | offset | len(data))("write", handle, offset, data, len(data), bool(sync))
-        return None if status == DONE else self.refusal(status)
+        length = len(data)
+        if (handle | offset | length) >> INT_BITS:
+            if not 0 <= handle <= MAX or not 0 <= offset <= MAX:
+                raise ValueError(_NO_NUMBER)
+            status = self._call("write", handle, offset, data, length, bool(sync))
+        else:
+            status = self.untyped_write(self.at, handle, offset, data, length, bool(sync))
+        return self.refusal(status) if status else None
 
-    def _value(self, word: str, reply: Any) -> Any:
-        """What a typed call returned."""
-        if word in ("open", "loose"):
-            return Opened(reply.number, reply.size, reply.version)
-        if word == "size":
-            return reply.size
-        if word == "startsync":
-            return reply.number
-        if word == "scan":
-            return [self._name(index) for index in range(reply.size)]
+    def _opened(self, reply: Any) -> Any:
+        return new(Opened, (reply.number, reply.size, reply.version))
+
+    def _names(self, reply: Any) -> Any:
+        return [self._name(index) for index in range(reply.size)]
+
+    def _rows(self, reply: Any) -> Any:
         # One call for all rows. By blobcrash_kept_run it would be one for each run of kept bytes.
-        return reply_of(self._last().decode().split(" ")) if word == "crash" else None
+        return rows_of(self._last().decode().split(" "))
 
     def _name(self, index: int) -> bytes:
         ran = self._call("name", index, self.room, len(self.room))
@@ -391,18 +409,32 @@ class Library(InProcess):
 
     def _last(self) -> bytes:
         """The last reply, as the program prints it."""
-        return self._printed(self._quickest(len(self.room))("reply", self.room, len(self.room)))
+        size = len(self.room)
+        return self._printed(self._quickest(size)("reply", self.room, size))
 
     def _printed(self, ran: Ran) -> bytes:
         """A reply in the buffer. Grows it if it is too small."""
-        while ran.status in (NO_ROOM, UNPRINTED):
+        while ran.status:
+            if ran.status not in (NO_ROOM, UNPRINTED):
+                self._check(ran.status)
             if ran.len > len(self.room):
                 self.room = ctypes.create_string_buffer(ran.len)
             ran = self._call("reply", self.room, len(self.room))
             if ran.status == UNPRINTED:
-                break
-        self._check(ran.status)
-        return bytes(self.room[: ran.len])
+                self._check(ran.status)
+        found: bytes = self.room[: ran.len]
+        return found
+
+
+# What typed calls return; the others return nothing.
+_VALUES: Dict[str, Callable[[Library, Any], Any]] = {
+    "open": Library._opened,
+    "loose": Library._opened,
+    "size": lambda library, reply: reply.size,
+    "startsync": lambda library, reply: reply.number,
+    "scan": Library._names,
+    "crash": Library._rows,
+}
 
 
 def explain(script: str) -> Optional[str]:

@@ -12,7 +12,7 @@ It names the subtree that begins where it ends. As a text it has a token for eac
 from __future__ import annotations
 
 import re
-from typing import List, Tuple
+from typing import Any, Iterable, List, Tuple
 
 from .grammar import MAX
 
@@ -44,9 +44,9 @@ def legend_of(text: str) -> str:
     return "; ".join(legend for form, legend in _LEGENDS if any(map(form.fullmatch, tokens)))
 
 
-def draws_of(path: List[Choice]) -> List[int]:
-    """The words of the draws of a path. Of a size it is the least word that draws it."""
-    return [WORDS[branch] if kind == DRAW else -(-branch * 2**64 // among) for kind, branch, among in path if kind in (DRAW, SIZE)]
+def draws_of(path: Iterable[Tuple[Any, int, int]], draw: Any = DRAW, size: Any = SIZE) -> List[int]:
+    """The words of the draws of a path. Of a size it is the least word that draws it. `draw` and `size` are the kinds of draws in it."""
+    return [WORDS[branch] if kind == draw else -(-branch * 2**64 // among) for kind, branch, among in path if kind == draw or kind == size]
 
 
 def text_of(path: List[Choice]) -> str:

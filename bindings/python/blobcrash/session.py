@@ -26,17 +26,17 @@ class Session:
     _bounds: Any = None
     _layer: Any
     _opened: Dict[int, Any]
+    _closed = False
+    _cause: Optional[BaseException] = None
 
     def __init__(self, words: Iterable[int]) -> None:
         self._words = [number(word, "a word") for word in words]
-        # The record: a line or a note as its text, or a call. Of a store also the four arguments of a write, one after another; of files a
+        # The record: a line or a note as its text, or a call. Of a store also the six arguments of a write, one after another; of files a
         # call with what its line says of the reply.
         self._lines: List[Any] = []
         self._thread = get_ident()
         # The thread that may make a call; none if a call is under way or was cut short, or if it is closed.
         self._owner: Optional[int] = self._thread
-        self._closed = False
-        self._cause: Optional[BaseException] = None
 
     def __enter__(self: _Own) -> _Own:
         return self
@@ -111,7 +111,10 @@ class Session:
             raise self._unusable()
         bounds = self._bounds
         if bounds is not None:
-            bounds.count()
+            # As `bounds.count()`, without a call.
+            bounds.calls = calls = bounds.calls + 1
+            if calls > bounds.free:
+                bounds.check(calls)
         self._owner = None
         try:
             reply = self._layer.apply(asked)
@@ -120,12 +123,8 @@ class Session:
             raise
         self._owner = self._thread
         if is_shown:
-            self._lines.append(self._shown(asked, reply))
+            self._lines.append(asked)
         return reply
-
-    def _shown(self, asked: Any, reply: Any) -> Any:
-        """What the record has of a call that was made."""
-        return asked
 
     def _ended(self, asked: Any, error: BaseException, is_shown: bool = True) -> None:
         """Notes a call that has no reply. One that may have been made ends the session."""

@@ -13,7 +13,7 @@ from __future__ import annotations
 import itertools
 import random
 import time
-from typing import Any, Callable, Iterable, Iterator, List, NamedTuple, Optional, Tuple, Union
+from typing import Any, Callable, Iterable, Iterator, List, NamedTuple, Optional, Sequence, Tuple, Union
 
 from .bodies import check_body, check_result
 from .bounds import Bounds
@@ -94,13 +94,9 @@ def shrink(
     if asked is not None:
         refuse_of_stores(images, allow_stale)
 
-    def store(run: Run) -> Any:
-        if asked is not None:
-            return ExploredFiles(run, settings, asked, by)
-        return ExploredStore(run, settings, images, by, allow_stale)
-
-    until = time.monotonic() + seconds_of(seconds)
-    search = _Search(body, store, number(runs, "a number of runs"), until)
+    until, most = time.monotonic() + seconds_of(seconds), number(runs, "a number of runs")
+    store: Any = ExploredStore(None, settings, images, by, allow_stale) if asked is None else ExploredFiles(None, settings, asked, by)
+    search = _Search(body, store.on, most, until)
     made = search.first(path, None if isinstance(failed, str) else failed.reason)
     while True:
         smaller = next(search.failing(made), None)
@@ -163,7 +159,7 @@ class Replay(Run):
             self._chosen[-1] = (SIZE, words[-1] * sizes >> 64, sizes)
         self._taken_words = drawn
 
-    def draws(self) -> List[int]:
+    def draws(self) -> Sequence[int]:
         return self.words[: self._taken_words]
 
     def choices(self) -> Choices:

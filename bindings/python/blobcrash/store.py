@@ -2,11 +2,12 @@
 
 from __future__ import annotations
 
+from itertools import islice
 from threading import get_ident
 from typing import Any, Callable, Dict, Iterable, Iterator, List, Optional, Tuple
 
 from .blob import Blob, FollowedBlob
-from .calls import Call, Line, Reply, Rows, reply_of
+from .calls import Call, Line, Reply, Rows, new, reply_of
 from .errors import BadLine, NeedsSeed, refusal
 from .files import BlobFile
 from .grammar import data_of, image_line, is_call, number, setting_line, text_of, tokens_of, versions_of
@@ -15,6 +16,7 @@ from .session import Session
 from .unkept import Unsynced
 
 Versions = Optional[Tuple[int, int]]
+_CRASH, _REOPEN = Call("crash"), Call("reopen")
 # The word after all that are pushed. It isn't zero, so that the library can tell how many words are left.
 _LAST_WORD = 1
 
@@ -164,14 +166,14 @@ class Store(Session):
 
     def crash(self) -> Rows:
         """Loses what isn't durable, except what the draws keep. Returns the draws. All handles are stale."""
-        rows: Rows = self._call(Call("crash"))
+        rows: Rows = self._call(_CRASH)
         self._unsynced.crash()
         self._end_handles("the store has crashed since")
         return rows
 
     def reopen(self) -> None:
         """Builds the store again from what is durable. All handles are stale, and no name is open."""
-        self._call(Call("reopen"))
+        self._call(_REOPEN)
         self._unsynced.reopen()
         self._end_handles("the store was reopened since")
 
@@ -218,7 +220,8 @@ class Store(Session):
 
     def _open(self, word: str, partition: str, name: bytes, versions: Versions) -> Tuple[Blob, int]:
         name, partition = data_of(name, "a name"), text_of(partition, "a partition")
-        handle, size, version = self._call(Call(word, 0, *versions_of(versions), partition, name))
+        first, last = (None, None) if versions is None else versions_of(versions)
+        handle, size, version = self._call(new(Call, (word, 0, first, last, partition, name)))
         kind = FollowedBlob if self._is_search else Blob
         blob = self._opened[handle] = kind(self, handle, version, partition, name)
         self._unsynced.open(word, handle, blob._of)
@@ -262,23 +265,28 @@ class Store(Session):
 
     @staticmethod
     def _write_call(handle: int, offset: int, data: bytes, sync: bool) -> Call:
-        return Call("writes" if sync else "write", handle, offset, name=data)
+        call: Call = new(Call, ("writes" if sync else "write", handle, offset, None, "", data))
+        return call
 
     def _made(self) -> Iterator[Any]:
+        at = self._direct and self._direct.at
         lines = iter(self._lines)
         for line in lines:
-            # The handle of a write by `Blob.write`, which the other arguments follow.
-            yield self._write_call(line, next(lines), next(lines), next(lines)) if type(line) is int else line
+            # The first argument of a write by `Blob.write`, which the others follow.
+            if line is at:
+                handle, offset, data, _, sync = islice(lines, 5)
+                line = self._write_call(handle, offset, data, sync)
+            yield line
 
     def _read(self, handle: int, offset: int, length: int) -> Any:
         """Reads exactly `length` bytes. Without a layer between, this makes no call object, as `Blob.write`."""
         direct = self._direct
+        asked = new(Call, ("read", handle, offset, length, "", None))
         if direct is None or offset >> INT_BITS or length > len(direct.room):
-            return self._call(Call("read", handle, offset, length))
+            return self._call(asked)
         if self._owner != get_ident():
             raise self._unusable()
         self._owner = None
-        asked = Call("read", handle, offset, length)
         try:
             status = direct.untyped_read(direct.at, handle, offset, direct.room, length)
             found = direct.room[:length]

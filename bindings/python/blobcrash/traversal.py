@@ -4,14 +4,15 @@ from __future__ import annotations
 
 import ctypes
 from struct import Struct
-from typing import Any, List, Sequence
+from typing import Any, Iterable, List, Sequence
 
 from .foreign import NO_ROOM, Choice, Explorer, function, untyped
-from .paths import KINDS, text_of
+from .paths import DRAW, KINDS, SIZE, draws_of, text_of
 from .paths import Choice as Chosen
 
 # The fields of a `Choice`.
 _CHOICE = Struct("@I4xQQ")
+_DRAW, _SIZE = KINDS.index(DRAW), KINDS.index(SIZE)
 
 
 class Traversal:
@@ -48,6 +49,10 @@ class Traversal:
     def taken(self) -> List[Chosen]:
         """The choices of the run."""
         return self._rows(0, self._explorer.taken)
+
+    def draws(self) -> List[int]:
+        """Returns the words of the draws of the path."""
+        return draws_of(self._fields(0, self._explorer.len), _DRAW, _SIZE)
 
     def begin(self, given: int) -> None:
         """Begins the run of the path, with this many words."""
@@ -91,9 +96,11 @@ class Traversal:
             texts.append(" ".join([*tokens[:last], text_of(other._rows(last, last + 1))]))
         return texts
 
+    def _fields(self, start: int, end: int) -> Iterable[Any]:
+        return _CHOICE.iter_unpack(self._bytes[start * _CHOICE.size : end * _CHOICE.size])
+
     def _rows(self, start: int, end: int) -> List[Chosen]:
-        rows = _CHOICE.iter_unpack(self._bytes[start * _CHOICE.size : end * _CHOICE.size])
-        return [(KINDS[kind], branch, among) for kind, branch, among in rows]
+        return [(KINDS[kind], branch, among) for kind, branch, among in self._fields(start, end)]
 
     def _hold(self, capacity: int) -> None:
         """Takes a longer list, with the same choices."""

@@ -29,6 +29,12 @@ class Unsynced:
         # The blobs of handles, or the inodes of open files by their descriptors.
         self._opened: Dict[int, Any] = {}
 
+    def again(self) -> Unsynced:
+        """Returns one with the same settings."""
+        other = Unsynced()
+        other._kept, other._syncs_lie = self._kept, self._syncs_lie
+        return other
+
     def set(self, tokens: List[str]) -> None:
         """Takes the line of a setting."""
         if tokens[:2] == ["config", "write"]:
