@@ -20,7 +20,7 @@ from random_scripts import random_script
 sys.path.insert(0, os.path.join(os.path.dirname(os.path.dirname(os.path.abspath(__file__))), "bindings", "python"))
 
 from blobcrash import BadLine
-from blobcrash.layers import explained
+from blobcrash.whole_scripts import explained
 
 LATE = ["seed 99", "words max", "words 0 1 2", "image p 7a -", "seed 1\nseed 2"]
 ITEM = re.compile(r"#   (write (\d+)|durable|resize)(?: to \d+| (\d+)\.\.(\d+))(.*)")

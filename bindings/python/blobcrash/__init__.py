@@ -43,7 +43,7 @@ from .files import BlobFile
 from .follow import ExploredFiles, ExploredStore, NotDeterministic
 from .foreign import TOP, is_proved, library
 from .judging import acknowledgement, judge
-from .layers import Library, Program, explain, program, run
+from .layers import Library, Program, program
 from .open_file import OpenFile
 from .patching import patched
 from .power import PowerLoss
@@ -56,6 +56,7 @@ from .signatures import Explores, Seeds
 from .spread import LostWork
 from .states import CrashState, CrashStates
 from .store import Store
+from .whole_scripts import explain, run
 
 explore: Explores = _explore
 seeds: Seeds = _seeds

@@ -11,8 +11,8 @@ from typing import List
 from .commands import OutputFailed, check_command, judge_command, read, shrink_command, version_command, write
 from .diagnose_command import diagnose_command
 from .errors import BadLine
-from .layers import run
 from .states_command import states_command
+from .whole_scripts import run
 
 _COMMANDS = {
     "check": check_command,

@@ -7,9 +7,9 @@ import importlib
 from types import TracebackType
 from typing import Any, Callable, Dict, List, Optional, TypeVar, cast
 
-from .layers import explain_as_json, run
 from .paths import legend_of
 from .power import PowerLoss
+from .whole_scripts import explain_as_json, run
 
 # A longer script is cut in the middle: `script` has all of it. So is a path with more characters.
 _MOST_LINES = 80

@@ -15,10 +15,10 @@ from .bounds import RunEnded
 from .failures import Failed, page_writer, reason_of
 from .follow import MoreWords
 from .foreign import library
-from .layers import explain
 from .power import PowerLoss
 from .seeding import SeededFiles
 from .shrinking import shrink
+from .whole_scripts import explain
 
 # A longer picture is cut here: all of it can be drawn from the script.
 MOST_LINES = 200
