@@ -71,7 +71,6 @@ impl BitOr for WriteOptions {
 /// ```
 /// use blobcrash::{Error, Store, WriteOptions};
 ///
-/// # fn main() -> Result<(), Error> {
 /// let store = Store::builder().seed(7).open()?;
 /// let (blob, _) = store.open("p", b"b")?;
 /// blob.write_at(0, b"record", WriteOptions::default())?;
@@ -81,8 +80,7 @@ impl BitOr for WriteOptions {
 /// blob.sync()?;
 /// store.restart()?;
 /// assert!(matches!(blob.size(), Err(Error::StaleHandle(_))));
-/// # Ok(())
-/// # }
+/// # Ok::<(), Error>(())
 /// ```
 #[derive(Debug)]
 pub struct Blob {
@@ -96,13 +94,11 @@ pub struct Blob {
 /// whether a sync was finished or not: finishing only frees the sync's entry in the store's table.
 ///
 /// ```
-/// # fn main() -> Result<(), blobcrash::Error> {
 /// let store = blobcrash::Store::builder().seed(7).open()?;
 /// let (blob, _) = store.open("p", b"b")?;
 /// let started = blob.start_sync()?;
 /// started.finish()?;
-/// # Ok(())
-/// # }
+/// # Ok::<(), blobcrash::Error>(())
 /// ```
 #[derive(Debug)]
 #[must_use = "`finish` returns the outcome"]
@@ -132,12 +128,10 @@ impl Blob {
     /// Returns the handle's number, by which lines of a script name it.
     ///
     /// ```
-    /// # fn main() -> Result<(), blobcrash::Error> {
     /// let store = blobcrash::Store::builder().open()?;
     /// let (blob, _) = store.open("p", b"b")?;
     /// assert_eq!(store.call(&format!("size {}", blob.handle()))?, "size 0");
-    /// # Ok(())
-    /// # }
+    /// # Ok::<(), blobcrash::Error>(())
     /// ```
     #[must_use]
     pub fn handle(&self) -> usize {
@@ -147,12 +141,10 @@ impl Blob {
     /// Returns the blob's version.
     ///
     /// ```
-    /// # fn main() -> Result<(), blobcrash::Error> {
     /// let store = blobcrash::Store::builder().open()?;
     /// let (blob, _) = store.open_versioned("p", b"b", 1..=3)?;
     /// assert_eq!(blob.version(), 3);
-    /// # Ok(())
-    /// # }
+    /// # Ok::<(), blobcrash::Error>(())
     /// ```
     #[must_use]
     pub fn version(&self) -> u16 {
@@ -162,13 +154,11 @@ impl Blob {
     /// Returns whether the handle is from before a crash, a reopen or the removal of its blob.
     ///
     /// ```
-    /// # fn main() -> Result<(), blobcrash::Error> {
     /// let store = blobcrash::Store::builder().open()?;
     /// let (blob, _) = store.open("p", b"b")?;
     /// store.remove("p", Some(b"b"))?;
     /// assert!(blob.is_stale());
-    /// # Ok(())
-    /// # }
+    /// # Ok::<(), blobcrash::Error>(())
     /// ```
     #[must_use]
     pub fn is_stale(&self) -> bool {
@@ -178,14 +168,12 @@ impl Blob {
     /// Sets whether the handle may be used when it is stale.
     ///
     /// ```
-    /// # fn main() -> Result<(), blobcrash::Error> {
     /// let store = blobcrash::Store::builder().open()?;
     /// let (blob, _) = store.open("p", b"b")?;
     /// store.remove("p", Some(b"b"))?;
     /// blob.allow_stale(true);
     /// assert_eq!(blob.size()?, 0);
-    /// # Ok(())
-    /// # }
+    /// # Ok::<(), blobcrash::Error>(())
     /// ```
     pub fn allow_stale(&self, allow: bool) {
         self.opened.allow_stale(allow);
@@ -196,14 +184,12 @@ impl Blob {
     ///
     /// ```
     /// # use blobcrash::{Error, Store, WriteOptions};
-    /// # fn main() -> Result<(), Error> {
     /// let store = Store::builder().open()?;
     /// let (blob, _) = store.open("p", b"b")?;
     /// blob.write_at(0, b"abc", WriteOptions::default())?;
     /// assert_eq!(blob.read_at(1, 2)?, b"bc");
     /// assert_eq!(blob.read_at(1, 3), Err(Error::BlobInsufficientLength));
-    /// # Ok(())
-    /// # }
+    /// # Ok::<(), Error>(())
     /// ```
     pub fn read_at(&self, offset: u64, len: usize) -> Result<Vec<u8>, Error> {
         let mut state = self.usable()?;
@@ -215,15 +201,13 @@ impl Blob {
     ///
     /// ```
     /// # use blobcrash::{Store, WriteOptions};
-    /// # fn main() -> Result<(), blobcrash::Error> {
     /// let store = Store::builder().open()?;
     /// let (blob, _) = store.open("p", b"b")?;
     /// blob.write_at(0, b"abc", WriteOptions::default())?;
     /// let mut buffer = [0; 2];
     /// blob.read_at_buf(1, &mut buffer)?;
     /// assert_eq!(&buffer, b"bc");
-    /// # Ok(())
-    /// # }
+    /// # Ok::<(), blobcrash::Error>(())
     /// ```
     pub fn read_at_buf(&self, offset: u64, into: &mut [u8]) -> Result<(), Error> {
         let mut state = self.usable()?;
@@ -240,13 +224,11 @@ impl Blob {
     ///
     /// ```
     /// # use blobcrash::{Store, WriteOptions};
-    /// # fn main() -> Result<(), blobcrash::Error> {
     /// let store = Store::builder().seed(7).open()?;
     /// let (blob, _) = store.open("p", b"b")?;
     /// blob.write_at(0, b"durable", WriteOptions::SYNC)?;
     /// blob.write_at(7, b", or not", WriteOptions::default())?;
-    /// # Ok(())
-    /// # }
+    /// # Ok::<(), blobcrash::Error>(())
     /// ```
     pub fn write_at(&self, offset: u64, bytes: &[u8], options: WriteOptions) -> Result<(), Error> {
         let mut state = self.usable()?;
@@ -263,13 +245,11 @@ impl Blob {
     /// with a length between the two, or the earlier one; `OffsetOverflow`, `Memory` and `StaleHandle`, with the length unchanged.
     ///
     /// ```
-    /// # fn main() -> Result<(), blobcrash::Error> {
     /// let store = blobcrash::Store::builder().open()?;
     /// let (blob, _) = store.open("p", b"b")?;
     /// blob.resize(2)?;
     /// assert_eq!(blob.read_at(0, 2)?, [0, 0]);
-    /// # Ok(())
-    /// # }
+    /// # Ok::<(), blobcrash::Error>(())
     /// ```
     pub fn resize(&self, len: u64) -> Result<(), Error> {
         self.usable()?
@@ -280,13 +260,11 @@ impl Blob {
     /// Returns the size that the handle tracks, in bytes.
     ///
     /// ```
-    /// # fn main() -> Result<(), blobcrash::Error> {
     /// let store = blobcrash::Store::builder().open()?;
     /// let (blob, _) = store.open("p", b"b")?;
     /// blob.resize(2)?;
     /// assert_eq!(blob.size()?, 2);
-    /// # Ok(())
-    /// # }
+    /// # Ok::<(), blobcrash::Error>(())
     /// ```
     pub fn size(&self) -> Result<u64, Error> {
         let reply = self.usable()?.by_number(Kind::Size, self.handle, 0)?;
@@ -297,15 +275,13 @@ impl Blob {
     ///
     /// ```
     /// # use blobcrash::{Store, WriteOptions};
-    /// # fn main() -> Result<(), blobcrash::Error> {
     /// let store = Store::builder().seed(7).open()?;
     /// let (blob, _) = store.open("p", b"b")?;
     /// blob.write_at(0, b"abc", WriteOptions::default())?;
     /// blob.sync()?;
     /// store.restart()?;
     /// assert_eq!(store.open("p", b"b")?.1, 3);
-    /// # Ok(())
-    /// # }
+    /// # Ok::<(), blobcrash::Error>(())
     /// ```
     pub fn sync(&self) -> Result<(), Error> {
         let mut state = self.usable()?;
@@ -317,12 +293,10 @@ impl Blob {
     /// Starts to make the handle's bytes durable; `finish` returns the outcome. Errors: `Memory`, `StaleHandle`.
     ///
     /// ```
-    /// # fn main() -> Result<(), blobcrash::Error> {
     /// let store = blobcrash::Store::builder().seed(7).open()?;
     /// let (blob, _) = store.open("p", b"b")?;
     /// blob.start_sync()?.finish()?;
-    /// # Ok(())
-    /// # }
+    /// # Ok::<(), blobcrash::Error>(())
     /// ```
     pub fn start_sync(&self) -> Result<StartedSync, Error> {
         let mut state = self.usable()?;
@@ -360,14 +334,12 @@ impl StartedSync {
     ///
     /// ```
     /// # use blobcrash::{Error, Store};
-    /// # fn main() -> Result<(), Error> {
     /// let store = Store::builder().seed(7).open()?;
     /// let (blob, _) = store.open("p", b"b")?;
     /// let started = blob.start_sync()?;
     /// store.reopen()?;
     /// assert_eq!(started.finish(), Err(Error::NoHandle));
-    /// # Ok(())
-    /// # }
+    /// # Ok::<(), Error>(())
     /// ```
     pub fn finish(mut self) -> Result<(), Error> {
         let mut state = self.shared.lock();

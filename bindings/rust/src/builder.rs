@@ -36,12 +36,10 @@ impl Builder {
     /// names aren't checked.
     ///
     /// ```
-    /// # fn main() -> Result<(), blobcrash::Error> {
     /// let raw = b"CWIC\0\0\0\0the bytes after a header of layout V0";
     /// let store = blobcrash::Store::builder().image("p", b"b", raw).open()?;
     /// assert_eq!(store.open("p", b"b")?.0.read_at(0, 9)?, b"the bytes");
-    /// # Ok(())
-    /// # }
+    /// # Ok::<(), blobcrash::Error>(())
     /// ```
     pub fn image(mut self, partition: &str, name: &[u8], raw: &[u8]) -> Builder {
         match image_line(partition, name, raw) {
@@ -56,13 +54,11 @@ impl Builder {
     ///
     /// ```
     /// # use blobcrash::{Config, Error, Probability, Store};
-    /// # fn main() -> Result<(), Error> {
     /// let half = Config::default().scan(Probability::new(1, 2).unwrap());
     /// let store = Store::builder().config(half).words(&[u64::MAX, 0]).open()?;
     /// assert!(matches!(store.scan("p"), Err(Error::PartitionMissing(_))));
     /// assert_eq!(store.scan("p"), Err(Error::Injected));
-    /// # Ok(())
-    /// # }
+    /// # Ok::<(), Error>(())
     /// ```
     pub fn words(mut self, words: &[u64]) -> Builder {
         if !words.is_empty() {
@@ -75,11 +71,9 @@ impl Builder {
     /// Sets the seed of the words after the given ones. A second seed is a `BadLine`.
     ///
     /// ```
-    /// # fn main() -> Result<(), blobcrash::Error> {
     /// let store = blobcrash::Store::builder().seed(7).open()?;
     /// assert_eq!(store.script(), "seed 7\n");
-    /// # Ok(())
-    /// # }
+    /// # Ok::<(), blobcrash::Error>(())
     /// ```
     pub fn seed(mut self, seed: u64) -> Builder {
         self.lines.push(format!("seed {seed}"));
@@ -92,13 +86,11 @@ impl Builder {
     ///
     /// ```
     /// # use blobcrash::{Config, Error, Probability, Store};
-    /// # fn main() -> Result<(), Error> {
     /// let half = Config::default().scan(Probability::new(1, 2).unwrap());
     /// let store = Store::builder().config(half).pushed().open()?;
     /// store.push_words(&[0])?;
     /// assert_eq!(store.scan("p"), Err(Error::Injected));
-    /// # Ok(())
-    /// # }
+    /// # Ok::<(), Error>(())
     /// ```
     pub fn pushed(mut self) -> Builder {
         self.is_pushed = true;
@@ -108,11 +100,9 @@ impl Builder {
     /// Adds lines of a script's preamble, as they are.
     ///
     /// ```
-    /// # fn main() -> Result<(), blobcrash::Error> {
     /// let store = blobcrash::Store::builder().lines(&["seed 7", "image p 62 -"]).open()?;
     /// assert_eq!(store.scan("p")?, [b"b"]);
-    /// # Ok(())
-    /// # }
+    /// # Ok::<(), blobcrash::Error>(())
     /// ```
     pub fn lines(mut self, lines: &[&str]) -> Builder {
         for line in lines {
@@ -129,11 +119,9 @@ impl Builder {
     ///
     /// ```
     /// # use blobcrash::{Config, Error, Probability, Store};
-    /// # fn main() -> Result<(), Error> {
     /// let store = Store::builder().config(Config::default().open(Probability::ONE)).open()?;
     /// assert_eq!(store.open("p", b"b").err(), Some(Error::Injected));
-    /// # Ok(())
-    /// # }
+    /// # Ok::<(), Error>(())
     /// ```
     pub fn config(mut self, config: Config) -> Builder {
         self.config = config;
@@ -143,13 +131,11 @@ impl Builder {
     /// Lets stale handles be used. Without this each use of one returns `StaleHandle`.
     ///
     /// ```
-    /// # fn main() -> Result<(), blobcrash::Error> {
     /// let store = blobcrash::Store::builder().allow_stale().open()?;
     /// let (blob, _) = store.open("p", b"b")?;
     /// store.remove("p", None)?;
     /// assert!(blob.size().is_ok());
-    /// # Ok(())
-    /// # }
+    /// # Ok::<(), blobcrash::Error>(())
     /// ```
     pub fn allow_stale(mut self) -> Builder {
         self.allow_stale = true;
@@ -159,11 +145,9 @@ impl Builder {
     /// Keeps no record of the calls, which then need no memory, and [`Store::script`] is empty.
     ///
     /// ```
-    /// # fn main() -> Result<(), blobcrash::Error> {
     /// let store = blobcrash::Store::builder().unrecorded().seed(7).open()?;
     /// assert_eq!(store.script(), "");
-    /// # Ok(())
-    /// # }
+    /// # Ok::<(), blobcrash::Error>(())
     /// ```
     pub fn unrecorded(mut self) -> Builder {
         self.unrecorded = true;

@@ -8,14 +8,12 @@ use std::io;
 ///
 /// ```
 /// # use blobcrash::{Error, Store};
-/// # fn main() -> Result<(), Error> {
 /// let store = Store::builder().open()?;
 /// let (_blob, _) = store.open("p", b"b")?;
 /// let error = store.open("p", b"b").unwrap_err();
 /// assert_eq!(error, Error::BlobAlreadyOpen("p".to_owned(), "62".to_owned()));
 /// assert_eq!(error.to_string(), "blob already open: p/62");
-/// # Ok(())
-/// # }
+/// # Ok::<(), Error>(())
 /// ```
 #[derive(Clone, Debug, PartialEq, Eq)]
 #[non_exhaustive]

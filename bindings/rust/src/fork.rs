@@ -17,7 +17,6 @@ impl Store {
     ///
     /// ```
     /// # use blobcrash::{Store, WriteOptions};
-    /// # fn main() -> Result<(), blobcrash::Error> {
     /// let store = Store::builder().seed(7).open()?;
     /// let (blob, _) = store.open("p", b"b")?;
     /// blob.write_at(0, b"abc", WriteOptions::SYNC)?;
@@ -27,8 +26,7 @@ impl Store {
     ///     outcome.reopen()?;
     ///     assert_eq!(outcome.open("p", b"b")?.1, 3);
     /// }
-    /// # Ok(())
-    /// # }
+    /// # Ok::<(), blobcrash::Error>(())
     /// ```
     pub fn fork(&self) -> Result<Store, Error> {
         let mut state = self.shared.lock();

@@ -16,9 +16,8 @@ type Key = (String, Vec<u8>);
 /// A clone is the same registry. Threads may share it.
 ///
 /// ```
-/// use blobcrash::{Error, Pending};
+/// use blobcrash::Pending;
 ///
-/// # fn main() -> Result<(), Error> {
 /// let pending = Pending::new()?;
 /// let (first, _, owes) = pending.admit("p", b"b", false)?;
 /// assert!(!owes);
@@ -30,8 +29,7 @@ type Key = (String, Vec<u8>);
 /// assert_eq!(second.debt(), Ok(true));
 /// second.clear(Ok(()));
 /// assert_eq!(second.debt(), Ok(false));
-/// # Ok(())
-/// # }
+/// # Ok::<(), blobcrash::Error>(())
 /// ```
 #[derive(Clone, Debug)]
 pub struct Pending {

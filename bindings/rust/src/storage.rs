@@ -138,14 +138,12 @@ pub trait Storage: Clone + Send + Sync + 'static {
 ///     to.write_at(0, bytes.coalesce().freeze(), WriteOptions::default())?;
 ///     to.start_sync().wait()
 /// }
-/// # fn main() -> Result<(), Error> {
 /// let store = blobcrash::Store::builder().seed(7).open()?;
 /// let (a, b) = (store.open("p", b"a")?.0, store.open("p", b"b")?.0);
 /// a.resize(3)?;
 /// copy(&a, &b, 3)?;
 /// assert_eq!(b.size()?, 3);
-/// # Ok(())
-/// # }
+/// # Ok::<(), Error>(())
 /// ```
 pub trait Blob: Send + Sync + 'static {
     /// Returns exactly `len` bytes at a logical offset. Errors as [`crate::Blob::read_at`].

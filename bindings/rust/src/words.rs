@@ -14,14 +14,12 @@ impl Store {
     ///
     /// ```
     /// # use blobcrash::{Config, Error, Probability, Store};
-    /// # fn main() -> Result<(), Error> {
     /// let half = Config::default().scan(Probability::new(1, 2).unwrap());
     /// let store = Store::builder().config(half).pushed().open()?;
     /// store.push_words(&[u64::MAX, 0])?;
     /// assert!(matches!(store.scan("p"), Err(Error::PartitionMissing(_))));
     /// assert_eq!(store.scan("p"), Err(Error::Injected));
-    /// # Ok(())
-    /// # }
+    /// # Ok::<(), Error>(())
     /// ```
     pub fn push_words(&self, words: &[u64]) -> Result<(), Error> {
         if !self.shared.is_pushed {
@@ -46,13 +44,11 @@ impl Store {
     ///
     /// ```
     /// # use blobcrash::{Config, Probability, Store};
-    /// # fn main() -> Result<(), blobcrash::Error> {
     /// let half = Config::default().scan(Probability::new(1, 2).unwrap());
     /// let store = Store::builder().config(half).words(&[0, 0, 1]).open()?;
     /// assert!(store.scan("p").is_err());
     /// assert_eq!(store.words_left(), Some(2));
-    /// # Ok(())
-    /// # }
+    /// # Ok::<(), blobcrash::Error>(())
     /// ```
     #[must_use]
     pub fn words_left(&self) -> Option<usize> {

@@ -18,7 +18,6 @@ use std::sync::atomic::{AtomicU64, Ordering};
 /// use std::io::{Read, Seek, Write};
 /// use std::os::unix::fs::FileExt;
 ///
-/// # fn main() -> std::io::Result<()> {
 /// # let files = blobcrash::files::Files::builder().seed(7).open()?;
 /// let mut file = files.create_new("/f")?;
 /// file.write_all(b"record")?;
@@ -31,8 +30,7 @@ use std::sync::atomic::{AtomicU64, Ordering};
 /// files.crash()?;
 /// assert_eq!(files.read("/f")?, b"recodd");
 /// assert!(file.metadata().is_err());
-/// # Ok(())
-/// # }
+/// # Ok::<(), std::io::Error>(())
 /// ```
 #[derive(Debug)]
 pub struct File {
@@ -69,12 +67,10 @@ impl File {
     /// may leave a length between the two if the file gets shorter.
     ///
     /// ```
-    /// # fn main() -> Result<(), blobcrash::Error> {
     /// # let files = blobcrash::files::Files::builder().seed(7).open()?;
     /// files.create("/f")?.set_len(2)?;
     /// assert_eq!(files.read("/f")?, [0, 0]);
-    /// # Ok(())
-    /// # }
+    /// # Ok::<(), blobcrash::Error>(())
     /// ```
     pub fn set_len(&self, len: u64) -> Result<(), Error> {
         let mut state = self.writable()?;
@@ -88,15 +84,13 @@ impl File {
     ///
     /// ```
     /// # use std::io::Write;
-    /// # fn main() -> std::io::Result<()> {
     /// # let files = blobcrash::files::Files::builder().seed(7).open()?;
     /// let mut file = files.create("/f")?;
     /// file.write_all(b"abc")?;
     /// file.sync_all()?;
     /// files.crash()?;
     /// assert_eq!(files.read("/f")?, b"abc");
-    /// # Ok(())
-    /// # }
+    /// # Ok::<(), std::io::Error>(())
     /// ```
     pub fn sync_all(&self) -> Result<(), Error> {
         self.by_number(Kind::Sync)
@@ -105,11 +99,9 @@ impl File {
     /// Makes the file's bytes and size durable: as `fdatasync`. Errors as `sync_all`.
     ///
     /// ```
-    /// # fn main() -> Result<(), blobcrash::Error> {
     /// # let files = blobcrash::files::Files::builder().seed(7).open()?;
     /// files.create("/f")?.sync_data()?;
-    /// # Ok(())
-    /// # }
+    /// # Ok::<(), blobcrash::Error>(())
     /// ```
     pub fn sync_data(&self) -> Result<(), Error> {
         self.by_number(Kind::SyncData)
@@ -118,11 +110,9 @@ impl File {
     /// Returns the number and the size of the file.
     ///
     /// ```
-    /// # fn main() -> Result<(), blobcrash::Error> {
     /// # let files = blobcrash::files::Files::builder().seed(7).open()?;
     /// assert_eq!(files.create("/f")?.metadata()?.len(), 0);
-    /// # Ok(())
-    /// # }
+    /// # Ok::<(), blobcrash::Error>(())
     /// ```
     pub fn metadata(&self) -> Result<Metadata, Error> {
         let mut state = self.usable()?;
@@ -139,11 +129,9 @@ impl File {
     /// Returns the number of the file's descriptor, by which lines of the record name it.
     ///
     /// ```
-    /// # fn main() -> Result<(), blobcrash::Error> {
     /// # let files = blobcrash::files::Files::builder().seed(7).open()?;
     /// assert_ne!(files.create("/f")?.descriptor(), files.create("/g")?.descriptor());
-    /// # Ok(())
-    /// # }
+    /// # Ok::<(), blobcrash::Error>(())
     /// ```
     #[must_use]
     pub fn descriptor(&self) -> u64 {

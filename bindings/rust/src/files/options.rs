@@ -8,7 +8,6 @@ use std::path::Path;
 /// ```
 /// use std::io::{Read, Write};
 ///
-/// # fn main() -> std::io::Result<()> {
 /// # let files = blobcrash::files::Files::builder().seed(7).open()?;
 /// let mut log = files.options().read(true).append(true).create(true).open("/log")?;
 /// log.write_all(b"record")?;
@@ -17,8 +16,7 @@ use std::path::Path;
 /// let mut text = String::new();
 /// log.read_to_string(&mut text)?;
 /// assert_eq!(text, ", another");
-/// # Ok(())
-/// # }
+/// # Ok::<(), std::io::Error>(())
 /// ```
 #[derive(Clone, Debug)]
 #[must_use = "`open` opens the file"]
@@ -86,12 +84,10 @@ impl OpenOptions {
     ///
     /// ```
     /// # use blobcrash::Error;
-    /// # fn main() -> Result<(), Error> {
     /// # let files = blobcrash::files::Files::builder().seed(7).open()?;
     /// assert!(matches!(files.options().create(true).open("/f"), Err(Error::Argument(_))));
     /// files.options().write(true).create_new(true).open("/f")?;
-    /// # Ok(())
-    /// # }
+    /// # Ok::<(), Error>(())
     /// ```
     pub fn open(&self, path: impl AsRef<Path>) -> Result<File, Error> {
         self.check()?;
