@@ -253,11 +253,10 @@ impl Session {
         name: &[u8],
         already: impl FnOnce() -> Error,
     ) -> Result<DebtReply, Error> {
-        let asked = call.raw();
         let (of, of_len) = (partition.as_ptr(), partition.len());
         let raw = &mut self.raw;
         // SAFETY: as for `call`; the numbers and the names are borrowed for the call.
-        let reply = unsafe { blobcrash_debt(raw, &asked, of, of_len, name.as_ptr(), name.len()) };
+        let reply = unsafe { blobcrash_debt(raw, &call, of, of_len, name.as_ptr(), name.len()) };
         reply.taken(already)
     }
 
@@ -429,7 +428,9 @@ pub(crate) fn changes(kind: u32) -> bool {
 /// Returns the word of a number in a table, or an empty text.
 pub(crate) fn word(table: u32, number: u32) -> String {
     // SAFETY: the buffer is borrowed for the call.
-    text_of(16, |at, room| unsafe { blobcrash_word(table, number, at, room) })
+    text_of(16, |at, room| unsafe {
+        blobcrash_word(table, number, at, room)
+    })
 }
 
 /// Returns the kind of a line's call. Of a line that is none it is that of a setting.
