@@ -27,6 +27,8 @@ pub(crate) const LAYOUT_MISMATCH: u32 = 50;
 pub(crate) const VERSION_MISMATCH: u32 = 51;
 pub(crate) const INVALID_CHECKSUM: u32 = 52;
 pub(crate) const INVALID_PADDING: u32 = 53;
+/// An open would create the blob.
+pub(crate) const TO_CREATE: u32 = 55;
 
 /// A session, which belongs to the library.
 #[repr(C)]
@@ -306,6 +308,18 @@ unsafe extern "C" {
         raw_len: u64,
         accepts: *const Accepts,
     ) -> ParsedHeader;
+    pub(crate) fn blobcrash_resolve_header(
+        raw: *const u8,
+        len: usize,
+        raw_len: u64,
+        accepts: *const Accepts,
+    ) -> ParsedHeader;
+    pub(crate) fn blobcrash_create_header(
+        layout: u16,
+        version: u16,
+        into: *mut u8,
+        capacity: usize,
+    ) -> Ran;
     pub(crate) fn blobcrash_interrupted_creation(layout: u16, raw: *const u8, len: usize) -> bool;
     pub(crate) fn blobcrash_run(
         script: *const u8,
@@ -385,6 +399,7 @@ pub(crate) mod tests {
             ("H_VERSION_MISMATCH", VERSION_MISMATCH),
             ("H_INVALID_CHECKSUM", INVALID_CHECKSUM),
             ("H_INVALID_PADDING", INVALID_PADDING),
+            ("H_TO_CREATE", TO_CREATE),
         ] {
             assert_eq!(header.get(name), Some(&number), "{name}");
         }

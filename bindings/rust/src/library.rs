@@ -490,6 +490,21 @@ pub(crate) fn parse_header(raw: &[u8], raw_len: u64, accepts: &Accepts) -> Optio
     (parsed.status != BAD_CALL).then_some(parsed)
 }
 
+/// Resolves a header region as an open does. `None` as for `parse_header`.
+pub(crate) fn resolve_header(raw: &[u8], raw_len: u64, accepts: &Accepts) -> Option<ParsedHeader> {
+    // SAFETY: as for `parse_header`.
+    let parsed = unsafe { blobcrash_resolve_header(raw.as_ptr(), raw.len(), raw_len, accepts) };
+    (parsed.status != BAD_CALL).then_some(parsed)
+}
+
+/// Returns the header region of a new blob with a layout and a version, or the status for which there is none.
+pub(crate) fn create_header(layout: u16, version: u16) -> Result<Vec<u8>, u32> {
+    // SAFETY: the buffer is borrowed for the call.
+    copied(8, |at, room| unsafe {
+        blobcrash_create_header(layout, version, at, room)
+    })
+}
+
 /// Returns whether an interrupted creation in a layout may have left these bytes of a whole blob.
 pub(crate) fn is_interrupted_creation(layout: u16, raw: &[u8]) -> bool {
     // SAFETY: the bytes are borrowed for the call.
