@@ -1,6 +1,7 @@
 use crate::library::Session;
 use crate::limits::Limits;
-use crate::script::{Script, first_word, image_line, one_line, tokens, words_line};
+use crate::record::Record;
+use crate::script::{first_word, image_line, one_line, tokens, words_line};
 use crate::shared::{Shared, State};
 use crate::{Config, Error, Explorable, Store};
 
@@ -231,11 +232,7 @@ impl Explorable for Builder {
         let has_draws = self.has_draws || self.is_pushed;
         let mut session = Session::open(&self.lines.join("\n"))?;
         session.push_words(words)?;
-        if !self.unrecorded {
-            let mut script = Script::with_words(words);
-            self.lines.iter().for_each(|line| script.push_line(line));
-            session.script = Some(script);
-        }
+        session.record = (!self.unrecorded).then(|| Record::new(words, &self.lines));
         let mut state = State::new(session, self.config, limits);
         state
             .limits

@@ -32,14 +32,14 @@ impl Store {
         let mut state = self.shared.lock();
         let power = state.session.power();
         let refused = |text: &str| Error::Argument(text.to_owned());
-        let Some(script) = &state.session.script else {
+        let Some(record) = &state.session.record else {
             return Err(refused("a store without a script can't be forked"));
         };
         if power.is_off || power.is_counting || state.limits.choices.is_some() {
             let text = "a store of an explored run, or with a limited power, can't be forked";
             return Err(refused(text));
         }
-        let text = script.text();
+        let text = record.text();
         // Only a line feed ends a line: `str::lines` would drop a carriage return, which is a part of a token.
         let lines: Vec<&str> = text.split_terminator('\n').collect();
         let is_first = |line: &&str| ["image", "words", "seed"].contains(&first_word(line));
@@ -48,7 +48,7 @@ impl Store {
         for line in &lines[first..] {
             session.call(line)?;
         }
-        session.script = Some(script.clone());
+        session.record = Some(record.clone());
         let forked = State::new(session, state.config(), Limits::default());
         let shared = &self.shared;
         let (has_draws, allow_stale) = (shared.has_draws, shared.allow_stale);

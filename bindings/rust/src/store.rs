@@ -290,9 +290,7 @@ impl Store {
     /// ```
     #[must_use]
     pub fn script(&self) -> String {
-        let state = self.shared.lock();
-        let script = state.session.script.as_ref();
-        script.map(|script| script.text()).unwrap_or_default()
+        self.shared.lock().session.script()
     }
 
     fn opened(
@@ -325,7 +323,7 @@ impl Store {
 
 fn crash(state: &mut State) -> Result<Selections, Error> {
     let rows = state.by_number(Kind::Crash, 0, 0)?.size;
-    let selections = state.session.kept(rows);
+    let selections = state.session.kept_writes(rows);
     state.has_crashed();
     Ok(selections)
 }

@@ -33,8 +33,8 @@ impl Store {
             return Err(Error::Argument(text.to_owned()));
         }
         state.session.push_words(words)?;
-        if let Some(script) = &mut state.session.script {
-            script.push_words(words, left);
+        if let Some(record) = &mut state.session.record {
+            record.push_words(words, left);
         }
         Ok(())
     }

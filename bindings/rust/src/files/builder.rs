@@ -1,10 +1,10 @@
 use super::Files;
 use super::library::Session;
-use super::record::Record;
 use super::state::{Shared, State};
 use crate::foreign::PROFILES;
 use crate::library::word;
 use crate::limits::Limits;
+use crate::record::Record;
 use crate::unsynced::TORN_WRITES;
 use crate::{Config, Error, Explorable, Probability};
 use std::fmt;

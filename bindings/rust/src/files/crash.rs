@@ -220,9 +220,7 @@ impl Files {
     /// ```
     #[must_use]
     pub fn script(&self) -> String {
-        let state = self.lock();
-        let record = state.session.record.as_ref();
-        record.map(|record| record.text()).unwrap_or_default()
+        self.lock().session.script()
     }
 
     /// Returns how many of the given words are left, up to the last one that isn't zero, or `None` if there is a seed.

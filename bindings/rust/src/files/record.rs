@@ -1,8 +1,7 @@
-//! Calls on files, and the record of those that were made: a line for each, as `blobcrash files` reads it.
+//! Calls on files, and what their record says of a crash.
 use super::foreign::{Kind, RawCall};
-use super::library::line_of;
-use crate::script::words_line;
-use crate::{Error, Selections};
+use crate::Selections;
+use crate::record::Record;
 
 /// A call with the numbers and the paths that its kind uses.
 #[derive(Debug)]
@@ -79,90 +78,7 @@ impl Call<'_> {
     }
 }
 
-/// The lines of the calls that were made.
-#[derive(Clone, Debug, Default)]
-pub(crate) struct Record {
-    /// The words before the lines.
-    words: Vec<u64>,
-    lines: Vec<Line>,
-    /// The paths, and the bytes of writes, of all calls, one after another.
-    bytes: Vec<u8>,
-}
-
-#[derive(Clone, Debug)]
-enum Line {
-    Text(String),
-    Call {
-        asked: RawCall,
-        /// How many bytes its two paths have.
-        path: usize,
-        to: usize,
-        /// The comment at the end of the line.
-        told: String,
-    },
-}
-
-impl Record {
-    /// A record that begins with these words and lines.
-    pub(crate) fn new(words: &[u64], lines: &[String]) -> Record {
-        let mut record = Record {
-            words: words.to_vec(),
-            ..Record::default()
-        };
-        lines.iter().for_each(|line| record.push(line.clone()));
-        record
-    }
-
-    /// The text of all lines.
-    pub(crate) fn text(&self) -> String {
-        let mut text = words_line(&self.words);
-        let mut bytes = self.bytes.as_slice();
-        for line in &self.lines {
-            match line {
-                Line::Text(line) => text.push_str(line),
-                Line::Call {
-                    asked,
-                    path,
-                    to,
-                    told,
-                } => {
-                    let (one, rest) = bytes.split_at(*path);
-                    let (other, rest) = rest.split_at(*to);
-                    text = text + &line_of(asked, one, other) + told;
-                    bytes = rest;
-                }
-            }
-            text.push('\n');
-        }
-        text
-    }
-
-    pub(crate) fn push(&mut self, line: String) {
-        self.lines.push(Line::Text(line));
-    }
-
-    pub(crate) fn note(&mut self, text: &str) {
-        text.split('\n')
-            .for_each(|line| self.push(format!("# {line}")));
-    }
-
-    /// Adds a call. A comment says which file it opened, or why it was refused.
-    pub(crate) fn push_call(&mut self, call: &Call<'_>, outcome: Result<Option<u64>, &Error>) {
-        let told = match outcome {
-            Ok(Some(number)) => format!(" # is {number}"),
-            Ok(None) => String::new(),
-            Err(error) => format!(" # is {error:?}"),
-        };
-        self.bytes.extend_from_slice(call.path);
-        self.bytes.extend_from_slice(call.to);
-        self.lines.push(Line::Call {
-            asked: call.raw(),
-            path: call.path.len(),
-            to: call.to.len(),
-            told,
-        });
-    }
-
+impl Record<RawCall> {
     /// Says what a crash kept.
     pub(crate) fn push_kept(&mut self, writes: &Selections, edits: &[bool]) {
         if !edits.is_empty() {

@@ -1,9 +1,10 @@
 //! What files share with their clones and their open files: one session, which a lock protects.
 use super::crash::Crash;
-use super::foreign::{Kind, Reply};
+use super::foreign::{Kind, RawCall, Reply};
 use super::library::{Name, Session, changes};
-use super::record::{Call, Record};
+use super::record::Call;
 use crate::limits::Limits;
+use crate::record::Record;
 use crate::{Config, Error};
 use std::sync::{Mutex, MutexGuard, PoisonError};
 
@@ -169,11 +170,11 @@ impl State {
 
     fn setting(&mut self, line: &str) -> Result<(), Error> {
         self.session.configure(line)?;
-        self.record(|record| record.push(line.to_owned()));
+        self.record(|record| record.push_line(line));
         Ok(())
     }
 
-    fn record(&mut self, push: impl FnOnce(&mut Record)) {
+    fn record(&mut self, push: impl FnOnce(&mut Record<RawCall>)) {
         if let Some(record) = &mut self.session.record {
             push(record);
         }
