@@ -14,7 +14,7 @@
 #include <vector>
 
 // The rows of all families: the number of the family, a slash and the key.
-using Rows = std::map<std::string, std::string>;
+using adapters::Rows;
 
 class Database {
   public:
