@@ -84,7 +84,7 @@ impl BitOr for WriteOptions {
 /// ```
 #[derive(Debug)]
 pub struct Blob {
-    shared: Arc<Shared>,
+    shared: Arc<Shared<State>>,
     opened: Arc<Opened>,
     handle: usize,
     version: u16,
@@ -103,7 +103,7 @@ pub struct Blob {
 #[derive(Debug)]
 #[must_use = "`finish` returns the outcome"]
 pub struct StartedSync {
-    shared: Arc<Shared>,
+    shared: Arc<Shared<State>>,
     number: usize,
     /// How often the store was reopened before: a reopen forgets every started sync.
     reopens: u64,
@@ -112,7 +112,7 @@ pub struct StartedSync {
 
 impl Blob {
     pub(crate) fn new(
-        shared: Arc<Shared>,
+        shared: Arc<Shared<State>>,
         opened: Arc<Opened>,
         handle: usize,
         version: u16,

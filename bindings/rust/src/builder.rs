@@ -238,7 +238,8 @@ impl Explorable for Builder {
             .limits
             .unsynced
             .set(&self.settings.unwrap_or_default());
-        let shared = Shared::new(state, has_draws, self.allow_stale, self.is_pushed);
-        Ok(Store::of(shared))
+        (state.allow_stale, state.is_pushed) = (self.allow_stale, self.is_pushed);
+        let shared = Shared::new(state, has_draws);
+        Ok(Store { shared })
     }
 }

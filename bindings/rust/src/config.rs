@@ -154,15 +154,20 @@ impl WriteConfig {
 /// Which calls fail, and how often. What isn't set doesn't fail, and keeps nothing.
 ///
 /// ```
-/// use blobcrash::{Config, PartialWriteMode, Probability, WriteConfig};
+/// use blobcrash::{Config, PartialWriteMode, Probability, ResizeConfig, WriteConfig};
 ///
 /// let rarely = Probability::new(1, 8).unwrap();
-/// let faults = Config::default().sync(rarely).write(WriteConfig {
+/// let writes = WriteConfig {
 ///     failure_rate: rarely,
 ///     retention_rate: Probability::new(1, 2).unwrap(),
 ///     mode: PartialWriteMode::Sectors(512),
-/// });
-/// assert_eq!(faults.sync_rate, Some(rarely));
+/// };
+/// let resizes = ResizeConfig { failure_rate: rarely, partial_rate: Probability::ZERO };
+/// let faults = Config::default().open(rarely).read(rarely).write(writes).sync(rarely);
+/// let faults = faults.resize(resizes).remove(rarely).scan(rarely);
+/// assert_eq!([faults.open_rate, faults.read_rate, faults.sync_rate], [Some(rarely); 3]);
+/// assert_eq!([faults.remove_rate, faults.scan_rate], [Some(rarely); 2]);
+/// assert_eq!((faults.write_rate, faults.resize_rate), (Some(writes), Some(resizes)));
 /// ```
 #[derive(Clone, Copy, Debug, Default, PartialEq, Eq)]
 #[must_use]
@@ -185,89 +190,42 @@ pub struct Config {
 
 impl Config {
     /// Sets how often opens fail.
-    ///
-    /// ```
-    /// # use blobcrash::{Config, Probability};
-    /// let config = Config::default().open(Probability::ONE);
-    /// assert_eq!(config.open_rate, Some(Probability::ONE));
-    /// ```
     pub const fn open(mut self, rate: Probability) -> Config {
         self.open_rate = Some(rate);
         self
     }
 
     /// Sets how often reads fail.
-    ///
-    /// ```
-    /// # use blobcrash::{Config, Probability};
-    /// let config = Config::default().read(Probability::ONE);
-    /// assert_eq!(config.read_rate, Some(Probability::ONE));
-    /// ```
     pub const fn read(mut self, rate: Probability) -> Config {
         self.read_rate = Some(rate);
         self
     }
 
     /// Sets how writes fail, and what a crash keeps of them.
-    ///
-    /// ```
-    /// # use blobcrash::{Config, PartialWriteMode, Probability, WriteConfig};
-    /// let writes = WriteConfig {
-    ///     failure_rate: Probability::ZERO,
-    ///     retention_rate: Probability::ONE,
-    ///     mode: PartialWriteMode::Subset,
-    /// };
-    /// assert_eq!(Config::default().write(writes).write_rate, Some(writes));
-    /// ```
     pub const fn write(mut self, writes: WriteConfig) -> Config {
         self.write_rate = Some(writes);
         self
     }
 
     /// Sets how often syncs fail.
-    ///
-    /// ```
-    /// # use blobcrash::{Config, Probability};
-    /// let config = Config::default().sync(Probability::ONE);
-    /// assert_eq!(config.sync_rate, Some(Probability::ONE));
-    /// ```
     pub const fn sync(mut self, rate: Probability) -> Config {
         self.sync_rate = Some(rate);
         self
     }
 
     /// Sets how resizes fail.
-    ///
-    /// ```
-    /// # use blobcrash::{Config, Probability, ResizeConfig};
-    /// let (failure_rate, partial_rate) = (Probability::ONE, Probability::ZERO);
-    /// let resizes = ResizeConfig { failure_rate, partial_rate };
-    /// assert_eq!(Config::default().resize(resizes).resize_rate, Some(resizes));
-    /// ```
     pub const fn resize(mut self, resizes: ResizeConfig) -> Config {
         self.resize_rate = Some(resizes);
         self
     }
 
     /// Sets how often removals fail.
-    ///
-    /// ```
-    /// # use blobcrash::{Config, Probability};
-    /// let config = Config::default().remove(Probability::ONE);
-    /// assert_eq!(config.remove_rate, Some(Probability::ONE));
-    /// ```
     pub const fn remove(mut self, rate: Probability) -> Config {
         self.remove_rate = Some(rate);
         self
     }
 
     /// Sets how often scans fail.
-    ///
-    /// ```
-    /// # use blobcrash::{Config, Probability};
-    /// let config = Config::default().scan(Probability::ONE);
-    /// assert_eq!(config.scan_rate, Some(Probability::ONE));
-    /// ```
     pub const fn scan(mut self, rate: Probability) -> Config {
         self.scan_rate = Some(rate);
         self

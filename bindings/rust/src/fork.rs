@@ -49,14 +49,9 @@ impl Store {
             session.call(line)?;
         }
         session.record = Some(record.clone());
-        let forked = State::new(session, state.config(), Limits::default());
-        let shared = &self.shared;
-        let (has_draws, allow_stale) = (shared.has_draws, shared.allow_stale);
-        Ok(Store::of(Shared::new(
-            forked,
-            has_draws,
-            allow_stale,
-            shared.is_pushed,
-        )))
+        let mut forked = State::new(session, state.config(), Limits::default());
+        (forked.allow_stale, forked.is_pushed) = (state.allow_stale, state.is_pushed);
+        let shared = Shared::new(forked, self.shared.has_draws);
+        Ok(Store { shared })
     }
 }

@@ -389,25 +389,30 @@ pub(crate) fn selections(rows: u64, mut run: impl FnMut(usize, usize) -> KeptRun
     (0..rows as usize).map(&mut row).collect()
 }
 
-/// Runs a whole script and writes its replies to the start of a buffer.
+/// Runs a whole script and writes what a function of the library says of it to the start of a buffer.
+fn run_by(
+    function: unsafe extern "C" fn(*const u8, usize, *mut u8, usize) -> ScriptRan,
+    script: &[u8],
+    text: &mut [u8],
+) -> ScriptRan {
+    let (room, at) = (text.len(), text.as_mut_ptr());
+    // SAFETY: the script and the buffer are borrowed for the call, and don't overlap.
+    unsafe { function(script.as_ptr(), script.len(), at, room) }
+}
+
+/// Its replies.
 pub(crate) fn run(script: &[u8], replies: &mut [u8]) -> ScriptRan {
-    let (room, at) = (replies.len(), replies.as_mut_ptr());
-    // SAFETY: the script and the buffer are borrowed for the call, and don't overlap.
-    unsafe { blobcrash_run(script.as_ptr(), script.len(), at, room) }
+    run_by(blobcrash_run, script, replies)
 }
 
-/// Runs a whole script and writes its replies, with remarks between them, to the start of a buffer.
+/// Its replies, with remarks between them.
 pub(crate) fn explain(script: &[u8], text: &mut [u8]) -> ScriptRan {
-    let (room, at) = (text.len(), text.as_mut_ptr());
-    // SAFETY: the script and the buffer are borrowed for the call, and don't overlap.
-    unsafe { blobcrash_explain(script.as_ptr(), script.len(), at, room) }
+    run_by(blobcrash_explain, script, text)
 }
 
-/// Runs a whole script and writes its explanation as JSON to the start of a buffer.
+/// Its explanation as JSON.
 pub(crate) fn explain_json(script: &[u8], text: &mut [u8]) -> ScriptRan {
-    let (room, at) = (text.len(), text.as_mut_ptr());
-    // SAFETY: the script and the buffer are borrowed for the call, and don't overlap.
-    unsafe { blobcrash_explain_json(script.as_ptr(), script.len(), at, room) }
+    run_by(blobcrash_explain_json, script, text)
 }
 
 /// Parses a header region. `None` if the arguments aren't those of one.

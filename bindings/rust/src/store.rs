@@ -37,16 +37,10 @@ pub type Selections = Vec<(u64, Vec<bool>)>;
 /// ```
 #[derive(Clone, Debug)]
 pub struct Store {
-    pub(crate) shared: Arc<Shared>,
+    pub(crate) shared: Arc<Shared<State>>,
 }
 
 impl Store {
-    pub(crate) fn of(shared: Shared) -> Store {
-        Store {
-            shared: Arc::new(shared),
-        }
-    }
-
     /// Returns what a store begins with: no blob, no fault, and a generator that needs a seed or words if a rate draws.
     ///
     /// ```
@@ -310,7 +304,7 @@ impl Store {
         let reply = state.by_name(kind, partition, name, [first, last])?;
         let (handle, size) = (reply.number, reply.size);
         let version = u16::try_from(reply.version).expect("a version has 16 bits");
-        let opened = Arc::new(Opened::new(partition, name, self.shared.allow_stale));
+        let opened = Arc::new(Opened::new(partition, name, state.allow_stale));
         if kind == Kind::Open {
             state.limits.unsynced.sync(opened.key);
         }

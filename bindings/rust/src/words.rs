@@ -22,11 +22,11 @@ impl Store {
     /// # Ok::<(), Error>(())
     /// ```
     pub fn push_words(&self, words: &[u64]) -> Result<(), Error> {
-        if !self.shared.is_pushed {
+        let mut state = self.shared.lock();
+        if !state.is_pushed {
             let text = "words are pushed into a store that `Builder::pushed` makes";
             return Err(Error::Argument(text.to_owned()));
         }
-        let mut state = self.shared.lock();
         let left = state.session.words_left().unwrap_or(0);
         if left == 0 {
             let text = "calls took more words than were pushed for them";

@@ -1,10 +1,11 @@
 use super::Files;
 use super::library::Session;
-use super::state::{Shared, State};
+use super::state::State;
 use crate::foreign::PROFILES;
 use crate::library::word;
 use crate::limits::Limits;
 use crate::record::Record;
+use crate::shared::Shared;
 use crate::unsynced::TORN_WRITES;
 use crate::{Config, Error, Explorable, Probability};
 use std::fmt;
@@ -387,6 +388,7 @@ impl Explorable for Builder {
         state.syncs_lie = self.syncs == Syncs::Lie;
         let settings = self.base.settings.unwrap_or_default();
         state.limits.unsynced.set(&settings);
-        Ok(Files::of(Shared::new(state, self.base.has_draws)))
+        let shared = Shared::new(state, self.base.has_draws);
+        Ok(Files { shared })
     }
 }

@@ -1,9 +1,10 @@
 //! The calls of a file system.
 use super::foreign::Kind;
-use super::state::{Shared, State};
+use super::state::State;
 use super::{Builder, DirEntry, File, FileType, Metadata, OpenOptions, bytes_of};
 use crate::Error;
 use crate::limits::{Limited, Limits, Recorded};
+use crate::shared::Shared;
 use std::path::Path;
 use std::sync::{Arc, MutexGuard};
 
@@ -33,16 +34,10 @@ use std::sync::{Arc, MutexGuard};
 /// ```
 #[derive(Clone, Debug)]
 pub struct Files {
-    pub(crate) shared: Arc<Shared>,
+    pub(crate) shared: Arc<Shared<State>>,
 }
 
 impl Files {
-    pub(crate) fn of(shared: Shared) -> Files {
-        Files {
-            shared: Arc::new(shared),
-        }
-    }
-
     /// Returns what a file system begins with: no file, no call that fails, and a generator that needs a seed or words. A crash keeps
     /// nothing of an unsynced write before [`Builder::config`] says what.
     ///

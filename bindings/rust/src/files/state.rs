@@ -1,4 +1,4 @@
-//! What files share with their clones and their open files: one session, which a lock protects.
+//! The state of files: their session, and what they know of it.
 use super::crash::Crash;
 use super::foreign::{Kind, RawCall, Reply};
 use super::library::{Name, Session, changes};
@@ -6,16 +6,8 @@ use super::record::Call;
 use crate::limits::Limits;
 use crate::record::Record;
 use crate::{Config, Error};
-use std::sync::{Mutex, MutexGuard, PoisonError};
 
-/// The state of files, with what doesn't change.
-#[derive(Debug)]
-pub(crate) struct Shared {
-    state: Mutex<State>,
-    pub(crate) has_draws: bool,
-}
-
-/// What calls change.
+/// The state of files.
 #[derive(Debug)]
 pub(crate) struct State {
     pub(crate) session: Session,
@@ -26,20 +18,6 @@ pub(crate) struct State {
     /// How many crashes there were. A file of an earlier life is stale.
     pub(crate) life: u64,
     pub(crate) syncs_lie: bool,
-}
-
-impl Shared {
-    pub(crate) fn new(state: State, has_draws: bool) -> Shared {
-        Shared {
-            state: Mutex::new(state),
-            has_draws,
-        }
-    }
-
-    /// Takes the lock. A panic of another thread leaves a state that can be used: a session has made a call or not.
-    pub(crate) fn lock(&self) -> MutexGuard<'_, State> {
-        self.state.lock().unwrap_or_else(PoisonError::into_inner)
-    }
 }
 
 impl State {
