@@ -250,18 +250,23 @@ impl Config {
         let resizes = self
             .resize_rate
             .map(|r| [Some(r.failure_rate), Some(r.partial_rate)]);
-        let others = [
-            self.open_rate,
-            self.read_rate,
-            self.sync_rate,
-            self.remove_rate,
-            self.scan_rate,
-        ];
         let pairs = writes.into_iter().chain(resizes).flatten();
         let draws = |rate: Option<Probability>| rate.is_some_and(Probability::needs_draws);
         // The size of a partial resize is drawn whatever its rates are.
         let is_partial = |r: ResizeConfig| !r.failure_rate.is_zero() && !r.partial_rate.is_zero();
-        others.into_iter().chain(pairs).any(draws) || self.resize_rate.is_some_and(is_partial)
+        let alone = self.rates().map(|(_, rate)| rate);
+        alone.into_iter().chain(pairs).any(draws) || self.resize_rate.is_some_and(is_partial)
+    }
+
+    /// The rates of the calls that have no other setting, by the words of their lines.
+    fn rates(&self) -> [(&'static str, Option<Probability>); 5] {
+        [
+            ("open", self.open_rate),
+            ("read", self.read_rate),
+            ("sync", self.sync_rate),
+            ("remove", self.remove_rate),
+            ("scan", self.scan_rate),
+        ]
     }
 
     /// Applies the tokens of a setting's line, after `config`, which is known to be one.
@@ -295,13 +300,7 @@ impl Config {
     /// The lines that make this configuration of one that sets nothing.
     pub(crate) fn lines(&self) -> Vec<String> {
         let mut lines = Vec::new();
-        for (word, rate) in [
-            ("open", self.open_rate),
-            ("read", self.read_rate),
-            ("sync", self.sync_rate),
-            ("remove", self.remove_rate),
-            ("scan", self.scan_rate),
-        ] {
+        for (word, rate) in self.rates() {
             lines.extend(rate.map(|rate| format!("config {word} {}", rate.words())));
         }
         lines.extend(self.write_rate.map(|writes| {

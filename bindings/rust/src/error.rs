@@ -264,52 +264,32 @@ mod tests {
     #[test]
     fn replies_are_parsed() {
         let text = str::to_owned;
-        let already = Error::BlobAlreadyOpen(text("partition"), text("626c6f62"));
-        let version = Error::BlobVersionMismatch {
-            expected: (3, 7),
-            found: 10,
-        };
-        let corrupt = Error::BlobCorrupt(
-            text("image"),
-            text("626c6f62"),
-            text("invalid header checksum"),
-        );
-        for (name, line, error) in [
-            ("INJECTED", "error Injected", Error::Injected),
-            (
-                "BLOB_ALREADY_OPEN",
-                "error BlobAlreadyOpen partition 626c6f62",
-                already,
-            ),
-            (
-                "BLOB_VERSION_MISMATCH",
-                "error BlobVersionMismatch 3 7 10",
-                version,
-            ),
-            (
-                "BLOB_CORRUPT",
-                "error BlobCorrupt image 626c6f62 invalid header checksum",
-                corrupt,
-            ),
-            (
-                "BLOB_MISSING",
-                "error BlobMissing p -",
-                Error::BlobMissing(text("p"), text("")),
-            ),
-            (
-                "PARTITION_MISSING",
-                "error PartitionMissing -",
-                Error::PartitionMissing(text("-")),
-            ),
-            (
-                "PARTITION_NAME_INVALID",
-                "error PartitionNameInvalid -",
-                Error::PartitionNameInvalid(text("")),
-            ),
-        ] {
+        let parses = |name: &str, line: &str, error: Error| {
             let status = header()[format!("E_{name}").as_str()];
             assert_eq!(Error::of(status, line), error);
-        }
+        };
+        parses("INJECTED", "error Injected", Error::Injected);
+        let already = Error::BlobAlreadyOpen(text("partition"), text("626c6f62"));
+        let line = "error BlobAlreadyOpen partition 626c6f62";
+        parses("BLOB_ALREADY_OPEN", line, already);
+        let (expected, found) = ((3, 7), 10);
+        let version = Error::BlobVersionMismatch { expected, found };
+        let line = "error BlobVersionMismatch 3 7 10";
+        parses("BLOB_VERSION_MISMATCH", line, version);
+        let reason = text("invalid header checksum");
+        let corrupt = Error::BlobCorrupt(text("image"), text("626c6f62"), reason);
+        let line = "error BlobCorrupt image 626c6f62 invalid header checksum";
+        parses("BLOB_CORRUPT", line, corrupt);
+        let missing = Error::BlobMissing(text("p"), text(""));
+        parses("BLOB_MISSING", "error BlobMissing p -", missing);
+        let missing = Error::PartitionMissing(text("-"));
+        parses("PARTITION_MISSING", "error PartitionMissing -", missing);
+        let invalid = Error::PartitionNameInvalid(text(""));
+        parses(
+            "PARTITION_NAME_INVALID",
+            "error PartitionNameInvalid -",
+            invalid,
+        );
         let unknown = Error::Unknown(text("status 15 ok"));
         assert_eq!(Error::of(15, "ok"), unknown);
     }

@@ -327,17 +327,18 @@ impl<B: Explorable> Exploration<B> {
         let mut states = States::default();
         let mut met = Met::default();
         while visited.runs < self.limit {
-            let choices = Choices::new(path, self.losses, self.calls).with_states(states);
+            let mut choices = Choices::new(path, self.losses, self.calls);
+            choices.states = states;
             let run = Run::explored(&builder, choices, words, visited.runs + 1)?;
             let result = catch_unwind(AssertUnwindSafe(|| body(&run)));
             if run.choices(Choices::end) {
                 let (run, script, most) = (visited.runs + 1, run.script(), self.calls);
                 return Err(ExploreError::TooLong { run, most, script });
             }
-            states = run.choices(Choices::take_states);
-            let is_met = run.choices(|choices| choices.is_met());
+            states = run.choices(|choices| std::mem::take(&mut choices.states));
+            let is_met = run.choices(|choices| choices.is_met);
             let result = (!is_met).then(|| result.unwrap_or_else(|panic| resume_unwind(panic)));
-            if !is_met && run.choices(|choices| choices.is_short()) {
+            if !is_met && run.choices(|choices| choices.is_short) {
                 words *= 2;
                 path = run.choices(|choices| std::mem::take(&mut choices.path));
                 continue;

@@ -246,12 +246,8 @@ impl Session {
         name: &[u8],
         with_header: bool,
     ) -> Result<Option<Vec<u8>>, Error> {
-        let (of, of_len, named, named_len) = (
-            partition.as_ptr(),
-            partition.len(),
-            name.as_ptr(),
-            name.len(),
-        );
+        let (of, of_len) = (partition.as_ptr(), partition.len());
+        let (named, named_len) = (name.as_ptr(), name.len());
         let raw = &mut self.raw;
         // SAFETY: as for `call`; the texts and the buffer are borrowed for the call, and don't overlap.
         let copied = copied(SMALL, |at, capacity| unsafe {

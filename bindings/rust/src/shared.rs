@@ -186,7 +186,7 @@ impl State {
         if let Some(now) = self.session.tracked_size(handle) {
             if now != from && now != to {
                 self.limits
-                    .count_size(from.abs_diff(to) - 1, &mut self.session);
+                    .count_draws(from.abs_diff(to) - 1, &mut self.session);
             }
         }
     }

@@ -15,6 +15,7 @@ use std::fmt;
 /// ```
 /// # use blobcrash::files::Profile;
 /// assert_eq!(Profile::default(), Profile::Ext4);
+/// assert_eq!(Profile::ALL.len(), 4);
 /// ```
 #[derive(Clone, Copy, Debug, Default, PartialEq, Eq, PartialOrd, Ord, Hash)]
 pub enum Profile {
@@ -37,11 +38,6 @@ impl fmt::Display for Profile {
 
 impl Profile {
     /// All profiles, from the one that promises most.
-    ///
-    /// ```
-    /// # use blobcrash::files::Profile;
-    /// assert_eq!(Profile::ALL.len(), 4);
-    /// ```
     pub const ALL: [Profile; 4] = [Profile::Ext4, Profile::Xfs, Profile::Btrfs, Profile::Posix];
 }
 
@@ -67,11 +63,6 @@ pub enum Edits {
 }
 
 /// What a sync of a file that fails does to the bytes that it was to make durable.
-///
-/// ```
-/// # use blobcrash::files::FailedSync;
-/// assert_eq!(FailedSync::default(), FailedSync::Keeps);
-/// ```
 #[derive(Clone, Copy, Debug, Default, PartialEq, Eq, Hash)]
 pub enum FailedSync {
     /// They stay unsynced. A later sync may make them durable.
@@ -82,11 +73,6 @@ pub enum FailedSync {
 }
 
 /// Whether a sync that returns `Ok` has made anything durable.
-///
-/// ```
-/// # use blobcrash::files::Syncs;
-/// assert_eq!(Syncs::default(), Syncs::Honest);
-/// ```
 #[derive(Clone, Copy, Debug, Default, PartialEq, Eq, Hash)]
 pub enum Syncs {
     /// It has.
@@ -97,11 +83,6 @@ pub enum Syncs {
 }
 
 /// Which bytes of a write that fails are written.
-///
-/// ```
-/// # use blobcrash::files::FailedWrite;
-/// assert_eq!(FailedWrite::default(), FailedWrite::ByMode);
-/// ```
 #[derive(Clone, Copy, Debug, Default, PartialEq, Eq, Hash)]
 pub enum FailedWrite {
     /// Those that the mode of writes selects.
@@ -357,15 +338,15 @@ impl Builder {
             .space
             .map(|[bytes, files]| format!("space {bytes} {files}"));
         self.base.lines.push(format!("profile {}", self.profile));
-        let edits = self.edits.map(|edits| match edits {
+        let switches = self.switches();
+        self.base.lines.extend(self.edits.map(|edits| match edits {
             Edits::Prefix => "edits prefix".to_owned(),
             Edits::Any => "edits any".to_owned(),
             Edits::Logged => "edits logged".to_owned(),
-        });
-        self.base.lines.extend(edits);
-        let switches = self.switches();
-        let settings = keep.into_iter().chain(space).chain(switches);
-        self.base.lines.extend(settings);
+        }));
+        self.base
+            .lines
+            .extend(keep.into_iter().chain(space).chain(switches));
         self.base.complete()
     }
 }

@@ -83,7 +83,7 @@ impl Session {
         // SAFETY: as for `configure`; the bytes are borrowed for the call.
         let status = unsafe { blobcrash_files_write(&mut self.raw, file, offset, at, len) };
         let outcome = self.done(status);
-        let call = Call::moved(Kind::Write, file, [offset, 0], bytes);
+        let call = Call::of_bytes(Kind::Write, file, [offset, 0], bytes);
         self.push(&call, outcome.as_ref().map(|()| None));
         outcome
     }
@@ -94,7 +94,7 @@ impl Session {
         // SAFETY: as for `configure`; the buffer is borrowed for the call.
         let ran = unsafe { blobcrash_files_read(&mut self.raw, file, offset, at, capacity) };
         let outcome = self.done(ran.status);
-        let call = Call::moved(Kind::Read, file, [offset, capacity as u64], b"");
+        let call = Call::of_bytes(Kind::Read, file, [offset, capacity as u64], b"");
         self.push(&call, outcome.as_ref().map(|()| None));
         outcome.map(|()| ran.len.min(capacity))
     }
@@ -152,15 +152,13 @@ impl Session {
     pub(crate) fn kept(&mut self, reply: &Reply) -> Crash {
         Crash {
             writes: self.kept_writes(reply.size),
-            edits: self.kept_edits(reply.number),
-            places: self.kept_places(reply.size),
+            edits: (0..reply.number as usize)
+                .map(|edit| self.kept_edit(edit))
+                .collect(),
+            places: (0..reply.size as usize)
+                .map(|row| self.kept_place(row))
+                .collect(),
         }
-    }
-
-    /// Returns where each of these writes of the last call, a `Crash`, was.
-    fn kept_places(&mut self, rows: u64) -> Vec<Place> {
-        let rows = 0..rows as usize;
-        rows.map(|row| self.kept_place(row)).collect()
     }
 
     fn kept_place(&mut self, row: usize) -> Place {
@@ -170,12 +168,6 @@ impl Session {
             inode: (reply.status == DONE && reply.number > 0).then_some(reply.number),
             offset: reply.size,
         }
-    }
-
-    /// Returns whether the last call, a `Crash`, kept each unsettled edit.
-    fn kept_edits(&mut self, edits: u64) -> Vec<bool> {
-        let edits = 0..edits as usize;
-        edits.map(|edit| self.kept_edit(edit)).collect()
     }
 
     fn kept_edit(&mut self, edit: usize) -> bool {

@@ -23,34 +23,20 @@ impl Call<'_> {
     /// A call by two paths. `first` says what a rename does if the second one is taken.
     pub(crate) fn of_paths<'a>(kind: Kind, first: u64, path: &'a [u8], to: &'a [u8]) -> Call<'a> {
         Call {
-            kind,
-            number: 0,
-            first,
-            last: 0,
             path,
             to,
+            ..Call::of_number(kind, 0, first)
         }
     }
 
     /// A call by a number.
     pub(crate) fn of_number(kind: Kind, number: u64, first: u64) -> Call<'static> {
-        Call {
-            kind,
-            number,
-            first,
-            last: 0,
-            path: b"",
-            to: b"",
-        }
+        Call::of_bytes(kind, number, [first, 0], b"")
     }
 
     /// A read or a write of a file. The bytes of a write are the path.
-    pub(crate) fn moved(
-        kind: Kind,
-        number: u64,
-        [first, last]: [u64; 2],
-        bytes: &[u8],
-    ) -> Call<'_> {
+    pub(crate) fn of_bytes(kind: Kind, number: u64, range: [u64; 2], bytes: &[u8]) -> Call<'_> {
+        let [first, last] = range;
         Call {
             kind,
             number,
