@@ -11,6 +11,7 @@ use std::sync::{Arc, MutexGuard};
 ///
 /// let options = WriteOptions::default() | WriteOptions::SYNC;
 /// assert!(options.contains(WriteOptions::SYNC));
+/// assert!(!WriteOptions::default().contains(WriteOptions::SYNC));
 /// assert_eq!(options.without(WriteOptions::SYNC), WriteOptions::default());
 /// ```
 #[derive(Clone, Copy, Debug, Default, PartialEq, Eq)]
@@ -21,30 +22,15 @@ pub struct WriteOptions {
 
 impl WriteOptions {
     /// The bytes are durable when the write returns `Ok`.
-    ///
-    /// ```
-    /// # use blobcrash::WriteOptions;
-    /// assert_ne!(WriteOptions::SYNC, WriteOptions::default());
-    /// ```
     pub const SYNC: WriteOptions = WriteOptions { sync: true };
 
     /// Returns whether these options have all of the others.
-    ///
-    /// ```
-    /// # use blobcrash::WriteOptions;
-    /// assert!(!WriteOptions::default().contains(WriteOptions::SYNC));
-    /// ```
     #[must_use]
     pub const fn contains(self, others: WriteOptions) -> bool {
         self.sync || !others.sync
     }
 
     /// Returns these options without the others.
-    ///
-    /// ```
-    /// # use blobcrash::WriteOptions;
-    /// assert_eq!(WriteOptions::SYNC.without(WriteOptions::SYNC), WriteOptions::default());
-    /// ```
     pub const fn without(self, others: WriteOptions) -> WriteOptions {
         WriteOptions {
             sync: self.sync && !others.sync,
@@ -84,10 +70,10 @@ impl BitOr for WriteOptions {
 /// ```
 #[derive(Debug)]
 pub struct Blob {
-    shared: Arc<Shared<State>>,
-    opened: Arc<Opened>,
-    handle: usize,
-    version: u16,
+    pub(crate) shared: Arc<Shared<State>>,
+    pub(crate) opened: Arc<Opened>,
+    pub(crate) handle: usize,
+    pub(crate) version: u16,
 }
 
 /// A started sync. If it is dropped it is finished, and its outcome is lost. That makes no draw, and a crash leaves the same
@@ -111,20 +97,6 @@ pub struct StartedSync {
 }
 
 impl Blob {
-    pub(crate) fn new(
-        shared: Arc<Shared<State>>,
-        opened: Arc<Opened>,
-        handle: usize,
-        version: u16,
-    ) -> Blob {
-        Blob {
-            shared,
-            opened,
-            handle,
-            version,
-        }
-    }
-
     /// Returns the handle's number, by which lines of a script name it.
     ///
     /// ```

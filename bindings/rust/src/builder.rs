@@ -178,9 +178,9 @@ impl Builder {
     /// Returns the builder of runs of a search, with their seed if they have one. Refuses words and a seed of the caller's.
     pub(crate) fn searched(&self, seed: Option<u64>) -> Result<Builder, Error> {
         if self.has_draws || self.is_pushed {
-            let text =
-                "an explored run, or that of a seed, has neither a seed nor words of its builder's";
-            return Err(Error::Argument(text.to_owned()));
+            return Err(Error::argument(
+                "an explored run, or that of a seed, has neither a seed nor words of its builder's",
+            ));
         }
         let mut builder = self.clone();
         builder.has_draws = true;
@@ -207,8 +207,9 @@ impl Builder {
         }
         self.config.check()?;
         if self.is_pushed && self.has_draws {
-            let text = "a store with pushed words has neither a seed nor other words";
-            return Err(Error::Argument(text.to_owned()));
+            return Err(Error::argument(
+                "a store with pushed words has neither a seed nor other words",
+            ));
         }
         if !self.has_draws && !self.is_pushed && self.config.needs_draws() {
             return Err(Error::NeedsSeed);

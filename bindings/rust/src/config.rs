@@ -129,28 +129,6 @@ pub struct ResizeConfig {
     pub partial_rate: Probability,
 }
 
-impl ResizeConfig {
-    fn of((failure_rate, partial_rate): (Probability, Probability)) -> ResizeConfig {
-        ResizeConfig {
-            failure_rate,
-            partial_rate,
-        }
-    }
-}
-
-impl WriteConfig {
-    fn of(
-        (failure_rate, retention_rate): (Probability, Probability),
-        mode: PartialWriteMode,
-    ) -> WriteConfig {
-        WriteConfig {
-            failure_rate,
-            retention_rate,
-            mode,
-        }
-    }
-}
-
 /// Which calls fail, and how often. What isn't set doesn't fail, and keeps nothing.
 ///
 /// ```
@@ -237,7 +215,7 @@ impl Config {
             Some(WriteConfig {
                 mode: PartialWriteMode::Sectors(0),
                 ..
-            }) => Err(Error::Argument("a sector has at least one byte".to_owned())),
+            }) => Err(Error::argument("a sector has at least one byte")),
             _ => Ok(()),
         }
     }
@@ -282,16 +260,25 @@ impl Config {
             Some(&"sync") => self.sync_rate = rate(0),
             Some(&"remove") => self.remove_rate = rate(0),
             Some(&"scan") => self.scan_rate = rate(0),
-            Some(&"resize") => self.resize_rate = rate(0).zip(rate(2)).map(ResizeConfig::of),
+            Some(&"resize") => {
+                let rates = rate(0).zip(rate(2));
+                self.resize_rate = rates.map(|(failure_rate, partial_rate)| ResizeConfig {
+                    failure_rate,
+                    partial_rate,
+                });
+            }
             Some(&"write") => {
                 let mode = match setting.get(5) {
                     Some(&"prefix") => PartialWriteMode::Prefix,
                     Some(&"subset") => PartialWriteMode::Subset,
                     _ => PartialWriteMode::Sectors(numbers.get(4).copied().unwrap_or(1)),
                 };
-                self.write_rate = rate(0)
-                    .zip(rate(2))
-                    .map(|rates| WriteConfig::of(rates, mode));
+                let rates = rate(0).zip(rate(2));
+                self.write_rate = rates.map(|(failure_rate, retention_rate)| WriteConfig {
+                    failure_rate,
+                    retention_rate,
+                    mode,
+                });
             }
             _ => *self = Config::default(),
         }

@@ -77,9 +77,7 @@ impl DebtReply {
         match self.status {
             DONE => Ok(self),
             BLOB_ALREADY_OPEN => Err(already()),
-            BAD_CALL => Err(Error::Argument(
-                "a failure with texts isn't kept".to_owned(),
-            )),
+            BAD_CALL => Err(Error::argument("a failure with texts isn't kept")),
             other => Err(Error::of(other, "")),
         }
     }

@@ -69,8 +69,9 @@ impl Store {
         let is_whole = raw.len() as u64 >= Layout::V1.data_offset();
         let parsed = is_whole.then(|| header::parse(raw, raw.len() as u64, &first, &any));
         let Some(Ok((_, version, data_offset))) = parsed else {
-            let text = "a raw blob of a running store has a whole header of layout V1";
-            return Err(Error::Argument(text.to_owned()));
+            return Err(Error::argument(
+                "a raw blob of a running store has a whole header of layout V1",
+            ));
         };
         let mut state = self.shared.lock();
         if is_power_off(&mut state.session) {

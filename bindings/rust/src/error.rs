@@ -142,6 +142,10 @@ impl Error {
             .unwrap_or_else(|| Error::Unknown(format!("status {status} {reply}")))
     }
 
+    pub(crate) fn argument(text: &str) -> Error {
+        Error::Argument(text.to_owned())
+    }
+
     /// The status of a refusal without texts.
     pub(crate) fn status(&self) -> Option<u32> {
         self.refusal().map(|row| row.0)
@@ -157,7 +161,7 @@ impl Error {
         // An empty text is printed as `-`, which is no hex and a partition name that isn't refused.
         let or_empty = |text: String| if text == "-" { String::new() } else { text };
         Some(match status {
-            BAD_CALL => Error::Argument("a number isn't allowed in this call".to_owned()),
+            BAD_CALL => Error::argument("a number isn't allowed in this call"),
             NO_MEMORY | NO_ROOM | UNPRINTED => Error::OutOfMemory,
             18 => Error::PartitionNameInvalid(or_empty(field()?)),
             19 => Error::PartitionMissing(field()?),

@@ -151,8 +151,9 @@ impl Run<Store> {
 fn state_of(store: &Store, at: &'static Location<'static>, losses: u64) -> Result<State, Error> {
     let mut inner = store.shared.lock();
     let Some(record) = &inner.session.record else {
-        let text = "a restart is compared by the script: the builder can't be `unrecorded`";
-        return Err(Error::Argument(text.to_owned()));
+        return Err(Error::argument(
+            "a restart is compared by the script: the builder can't be `unrecorded`",
+        ));
     };
     let text = record.calls();
     let (mut names, mut crashes) = (BTreeSet::new(), 0);

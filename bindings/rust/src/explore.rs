@@ -368,9 +368,8 @@ impl<B: Explorable> Exploration<B> {
 
 /// The error of an exploration without runs, which would check nothing.
 pub(crate) fn nothing_to_run<E>() -> ExploreError<E> {
-    ExploreError::Store(Error::Argument(
-        "there is nothing to run: no seeds, or a limit of 0 runs".to_owned(),
-    ))
+    let text = "there is nothing to run: no seeds, or a limit of 0 runs";
+    ExploreError::Store(Error::argument(text))
 }
 
 /// Calls `body` with each run of an [`Exploration`] without power losses, at most `limit` times. Errors as [`Exploration::visit`].

@@ -31,13 +31,12 @@ impl Store {
     pub fn fork(&self) -> Result<Store, Error> {
         let mut state = self.shared.lock();
         let power = state.session.power();
-        let refused = |text: &str| Error::Argument(text.to_owned());
         let Some(record) = &state.session.record else {
-            return Err(refused("a store without a script can't be forked"));
+            return Err(Error::argument("a store without a script can't be forked"));
         };
         if power.is_off || power.is_counting || state.limits.choices.is_some() {
             let text = "a store of an explored run, or with a limited power, can't be forked";
-            return Err(refused(text));
+            return Err(Error::argument(text));
         }
         let text = record.text();
         // Only a line feed ends a line: `str::lines` would drop a carriage return, which is a part of a token.

@@ -61,22 +61,6 @@ pub struct Limits {
 }
 
 impl Limits {
-    /// The limits of an explored run.
-    pub(crate) fn of_choices(choices: Choices) -> Limits {
-        Limits {
-            choices: Some(choices),
-            ..Limits::default()
-        }
-    }
-
-    /// The limits of a seed's run.
-    pub(crate) fn of_seed(seed: u64) -> Limits {
-        Limits {
-            chooser: Some(seed),
-            ..Limits::default()
-        }
-    }
-
     /// Whether this is a run of a search, of which unsynced writes are followed.
     pub(crate) fn is_search(&self) -> bool {
         self.choices.is_some() || self.chooser.is_some()

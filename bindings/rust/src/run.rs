@@ -69,8 +69,11 @@ impl<S: Limited> Run<S> {
         number: u64,
     ) -> Result<Run<S>, Error> {
         let words = choices.words(words);
-        let opened = builder.made(&words, Limits::of_choices(choices))?;
-        Ok(Run { opened, number })
+        let limits = Limits {
+            choices: Some(choices),
+            ..Limits::default()
+        };
+        Ok(Run::new(builder.made(&words, limits)?, number))
     }
 
     /// Returns a number below `branches`. An exploration tries every one, together with the outcomes of the draws. With

@@ -2,7 +2,6 @@
 //!
 //! No text of a caller is put into a line before it is known to be one token of its kind.
 use crate::Error;
-use std::fmt::Write;
 
 /// The line of a raw blob. Its partition may be no partition name, but it must be one token.
 pub(crate) fn image_line(partition: &str, name: &[u8], raw: &[u8]) -> Result<String, Error> {
@@ -16,15 +15,11 @@ pub(crate) fn image_line(partition: &str, name: &[u8], raw: &[u8]) -> Result<Str
 
 /// The line that gives words to the generator, with its line feed. Without words it is empty.
 pub(crate) fn words_line(words: &[u64]) -> String {
-    let mut line = String::new();
-    for word in words {
-        line.push_str(if line.is_empty() { "words " } else { " " });
-        let _ = write!(line, "{word}");
+    if words.is_empty() {
+        return String::new();
     }
-    if !line.is_empty() {
-        line.push('\n');
-    }
-    line
+    let words: Vec<String> = words.iter().map(u64::to_string).collect();
+    format!("words {}\n", words.join(" "))
 }
 
 /// Checks that a text is one line.

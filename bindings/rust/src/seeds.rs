@@ -39,7 +39,11 @@ pub fn seeds<B: Explorable, T: Ord, E>(
     let mut met = Met::default();
     for seed in seeds {
         let builder = builder.prepared(Some(seed))?;
-        let run = Run::new(builder.made(&[], Limits::of_seed(seed))?, visited.runs + 1);
+        let limits = Limits {
+            chooser: Some(seed),
+            ..Limits::default()
+        };
+        let run = Run::new(builder.made(&[], limits)?, visited.runs + 1);
         let result = body(&run);
         met.add(run.met());
         visited.add(&run, result, |_| format!("seed {seed}"))?;

@@ -76,8 +76,9 @@ pub fn shrink<B: Explorable, T, E>(
     body: impl FnMut(&Run<B::Opened>) -> Result<T, E>,
 ) -> Result<Shrunk<E>, Error> {
     let ExploreError::Failed { error, path, .. } = failed else {
-        let text = "only a run that failed can be made smaller";
-        return Err(Error::Argument(text.to_owned()));
+        return Err(Error::argument(
+            "only a run that failed can be made smaller",
+        ));
     };
     let mut search = Search {
         builder: builder.prepared(None)?,

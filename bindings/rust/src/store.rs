@@ -302,16 +302,19 @@ impl Store {
         };
         let mut state = self.shared.lock();
         let reply = state.by_name(kind, partition, name, [first, last])?;
-        let (handle, size) = (reply.number, reply.size);
-        let version = u16::try_from(reply.version).expect("a version has 16 bits");
+        let handle = reply.number;
         let opened = Arc::new(Opened::new(partition, name, state.allow_stale));
         if kind == Kind::Open {
             state.limits.unsynced.sync(opened.key);
         }
         state.insert(handle, &opened);
-        drop(state);
-        let shared = Arc::clone(&self.shared);
-        Ok((Blob::new(shared, opened, handle, version), size))
+        let blob = Blob {
+            shared: Arc::clone(&self.shared),
+            opened,
+            handle,
+            version: u16::try_from(reply.version).expect("a version has 16 bits"),
+        };
+        Ok((blob, reply.size))
     }
 }
 

@@ -24,13 +24,15 @@ impl Store {
     pub fn push_words(&self, words: &[u64]) -> Result<(), Error> {
         let mut state = self.shared.lock();
         if !state.is_pushed {
-            let text = "words are pushed into a store that `Builder::pushed` makes";
-            return Err(Error::Argument(text.to_owned()));
+            return Err(Error::argument(
+                "words are pushed into a store that `Builder::pushed` makes",
+            ));
         }
         let left = state.session.words_left().unwrap_or(0);
         if left == 0 {
-            let text = "calls took more words than were pushed for them";
-            return Err(Error::Argument(text.to_owned()));
+            return Err(Error::argument(
+                "calls took more words than were pushed for them",
+            ));
         }
         state.session.push_words(words)?;
         if let Some(record) = &mut state.session.record {

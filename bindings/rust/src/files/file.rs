@@ -34,33 +34,17 @@ use std::sync::atomic::{AtomicU64, Ordering};
 /// ```
 #[derive(Debug)]
 pub struct File {
-    files: Files,
-    descriptor: u64,
+    pub(crate) files: Files,
+    pub(crate) descriptor: u64,
     /// How many crashes there were when the file was opened.
-    life: u64,
-    position: AtomicU64,
-    reads: bool,
-    writes: bool,
-    appends: bool,
+    pub(crate) life: u64,
+    pub(crate) position: AtomicU64,
+    pub(crate) reads: bool,
+    pub(crate) writes: bool,
+    pub(crate) appends: bool,
 }
 
 impl File {
-    pub(crate) fn new(
-        files: &Files,
-        (descriptor, life): (u64, u64),
-        (reads, writes, appends): (bool, bool, bool),
-    ) -> File {
-        File {
-            files: files.clone(),
-            descriptor,
-            life,
-            position: AtomicU64::new(0),
-            reads,
-            writes,
-            appends,
-        }
-    }
-
     /// Truncates the file to a length, or extends it by zeros. The length is durable when the file is synced.
     ///
     /// Errors: `Argument` if the file isn't open for writing; `NoSpace` beyond a limit of bytes; `OffsetOverflow`; `Injected`, which
@@ -154,16 +138,14 @@ impl File {
 
     fn readable(&self) -> Result<MutexGuard<'_, State>, Error> {
         if !self.reads {
-            let text = "the file isn't open for reading";
-            return Err(Error::Argument(text.to_owned()));
+            return Err(Error::argument("the file isn't open for reading"));
         }
         self.usable()
     }
 
     fn writable(&self) -> Result<MutexGuard<'_, State>, Error> {
         if !self.writes {
-            let text = "the file isn't open for writing";
-            return Err(Error::Argument(text.to_owned()));
+            return Err(Error::argument("the file isn't open for writing"));
         }
         self.usable()
     }
@@ -250,8 +232,7 @@ impl Seek for &File {
             SeekFrom::End(by) => (self.size()?, by),
         };
         let at = from.checked_add_signed(by);
-        let text = "a position is from 0 to 2^64 - 1";
-        let at = at.ok_or_else(|| Error::Argument(text.to_owned()))?;
+        let at = at.ok_or_else(|| Error::argument("a position is from 0 to 2^64 - 1"))?;
         self.position.store(at, Ordering::Relaxed);
         Ok(at)
     }

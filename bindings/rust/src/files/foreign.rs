@@ -14,7 +14,7 @@ pub(crate) struct RawFiles {
 #[repr(C)]
 #[derive(Clone, Copy, Debug)]
 pub(crate) struct RawCall {
-    pub(crate) kind: u32,
+    pub(crate) kind: Kind,
     pub(crate) number: u64,
     pub(crate) first: u64,
     pub(crate) last: u64,

@@ -69,11 +69,11 @@ impl Session {
 
     /// Makes a call, and doesn't record it.
     pub(crate) fn apply(&mut self, call: &Call<'_>) -> Result<Reply, Error> {
-        let asked = call.raw();
         let (path, len) = (call.path.as_ptr(), call.path.len());
         let (to, to_len) = (call.to.as_ptr(), call.to.len());
         // SAFETY: as for `configure`; the numbers and the paths are borrowed for the call.
-        let reply = unsafe { blobcrash_files_apply(&mut self.raw, &asked, path, len, to, to_len) };
+        let reply =
+            unsafe { blobcrash_files_apply(&mut self.raw, &call.asked, path, len, to, to_len) };
         self.done(reply.status).map(|()| reply)
     }
 
@@ -127,7 +127,7 @@ impl Session {
             Err(Error::PowerLoss) => return,
             Err(error) => format!(" # is {error:?}"),
         };
-        record.push(call.raw(), call.path, call.to, remark);
+        record.push(call.asked, call.path, call.to, remark);
     }
 
     /// Returns the name with an index of the last call, a `List`, or `None` if it has no such name.

@@ -2,6 +2,7 @@ use super::foreign::Kind;
 use super::{File, Files, bytes_of};
 use crate::Error;
 use std::path::Path;
+use std::sync::atomic::AtomicU64;
 
 /// How a file is opened: the options of `std::fs::OpenOptions`.
 ///
@@ -99,11 +100,15 @@ impl OpenOptions {
             (false, true) => Kind::OpenTruncated,
             (false, false) => Kind::Open,
         };
-        let descriptor = state.by_path(kind, path)?.number;
-        let life = state.life;
-        drop(state);
-        let may = (self.read, self.write || self.append, self.append);
-        Ok(File::new(&self.files, (descriptor, life), may))
+        Ok(File {
+            files: self.files.clone(),
+            descriptor: state.by_path(kind, path)?.number,
+            life: state.life,
+            position: AtomicU64::new(0),
+            reads: self.read,
+            writes: self.write || self.append,
+            appends: self.append,
+        })
     }
 
     fn check(&self) -> Result<(), Error> {
@@ -118,6 +123,6 @@ impl OpenOptions {
         } else {
             return Ok(());
         };
-        Err(Error::Argument(text.to_owned()))
+        Err(Error::argument(text))
     }
 }

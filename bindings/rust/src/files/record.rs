@@ -6,10 +6,7 @@ use crate::record::Record;
 /// A call with the numbers and the paths that its kind uses.
 #[derive(Debug)]
 pub(crate) struct Call<'a> {
-    pub(crate) kind: Kind,
-    pub(crate) number: u64,
-    pub(crate) first: u64,
-    pub(crate) last: u64,
+    pub(crate) asked: RawCall,
     pub(crate) path: &'a [u8],
     pub(crate) to: &'a [u8],
 }
@@ -38,28 +35,23 @@ impl Call<'_> {
     pub(crate) fn of_bytes(kind: Kind, number: u64, range: [u64; 2], bytes: &[u8]) -> Call<'_> {
         let [first, last] = range;
         Call {
-            kind,
-            number,
-            first,
-            last,
+            asked: RawCall {
+                kind,
+                number,
+                first,
+                last,
+            },
             path: bytes,
             to: b"",
         }
     }
 
-    /// The numbers of the call.
-    pub(crate) fn raw(&self) -> RawCall {
-        RawCall {
-            kind: self.kind as u32,
-            number: self.number,
-            first: self.first,
-            last: self.last,
-        }
-    }
-
     /// Returns the number that a call returned which opens a file.
     pub(crate) fn opened(&self, number: u64) -> Option<u64> {
-        let opens = matches!(self.kind, Kind::Create | Kind::Open | Kind::OpenTruncated);
+        let opens = matches!(
+            self.asked.kind,
+            Kind::Create | Kind::Open | Kind::OpenTruncated
+        );
         opens.then_some(number)
     }
 }

@@ -44,13 +44,14 @@ impl State {
 
     /// Makes a call.
     pub(crate) fn call(&mut self, call: &Call<'_>) -> Result<Reply, Error> {
-        self.permit(call.kind)?;
-        let inode = match call.kind {
-            Kind::Sync | Kind::SyncData => self.searched_inode(call.number),
+        self.permit(call.asked.kind)?;
+        let RawCall { kind, number, .. } = call.asked;
+        let inode = match kind {
+            Kind::Sync | Kind::SyncData => self.searched_inode(number),
             _ => None,
         };
         let reply = self.session.call(call)?;
-        match (call.kind, inode) {
+        match (kind, inode) {
             (_, Some(inode)) if !self.syncs_lie => self.limits.unsynced.sync(inode),
             (Kind::SyncAll, _) if !self.syncs_lie => self.limits.unsynced.clear(),
             (Kind::Settle, _) => self.limits.unsynced.clear(),
