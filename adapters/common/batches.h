@@ -1,5 +1,5 @@
-// What the drivers of LevelDB and RocksDB have in common: modes, lives that write batches, and what a crash may leave of these. Each driver's
-// Mode is a BatchMode, with the columns of its table as `enum Count`.
+// What the drivers of LevelDB and RocksDB have in common: modes, lives that write batches, and what a crash may leave of these. The Mode
+// of each driver is a BatchMode, with the columns of its table as `enum Count`.
 #ifndef ADAPTERS_BATCHES_H
 #define ADAPTERS_BATCHES_H
 
@@ -39,8 +39,8 @@ bool read_mode(const char* name, Mode* mode, bool (*read_own)(const std::string&
     return name[strlen(name) - 1] != '-';
 }
 
-// Returns whether the promise held that with syncs nothing acknowledged is lost, and without them only the last batches are. A database in this
-// mode may be refused, or have other rows.
+// Returns whether the promise held that with syncs nothing acknowledged is lost, and without them only the last batches are. A database
+// in this mode may be refused, or have other rows.
 template <class Mode>
 const char* batch_verdict(const Mode& mode, const uint64_t* counts, bool may_be_refused, bool may_differ) {
     bool is_damaged = counts[Mode::CORRUPT] + counts[Mode::WRONG] > 0;
@@ -137,8 +137,8 @@ class BatchLife {
         return is_done;
     }
 
-    // Compares all rows with those that the last batch left that is found: its number is in the row `last`. Later ones are forgotten. `other` is
-    // what else is wrong.
+    // Compares all rows with those that the last batch left that is found: its number is in the row `last`. Later ones are forgotten.
+    // `other` is what else is wrong.
     void compare(const Rows& rows, const std::string& last, const std::string& other = "") {
         uint64_t found = rows.count(last) > 0 ? std::stoull(rows.at(last)) : 0;
         if (found >= states_.size() || rows != states_[found]) {

@@ -19,7 +19,8 @@ const int ROUNDS = 12;
 
 class Life : adapters::BatchLife<Mode> {
   public:
-    Life(const Mode& mode, uint64_t seed, uint64_t* counts) : BatchLife(mode, seed, counts, disk_of(mode, seed)), env_(&files_, mode.extra) {}
+    Life(const Mode& mode, uint64_t seed, uint64_t* counts)
+        : BatchLife(mode, seed, counts, disk_of(mode, seed)), env_(&files_, mode.extra) {}
 
     // Returns what is wrong, or an empty text.
     std::string live() {

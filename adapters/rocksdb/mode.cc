@@ -39,7 +39,8 @@ bool mode_read(const char* name, Mode* mode) {
 const char* mode_verdict(const char* name, const uint64_t* counts) {
     Mode mode;
     mode_read(name, &mode);
-    bool may_be_refused = mode.recovery == WALRecoveryMode::kAbsoluteConsistency || mode.recovery == WALRecoveryMode::kTolerateCorruptedTailRecords;
+    bool may_be_refused = mode.recovery == WALRecoveryMode::kAbsoluteConsistency ||
+                          mode.recovery == WALRecoveryMode::kTolerateCorruptedTailRecords;
     bool may_differ = mode.recovery == WALRecoveryMode::kSkipAnyCorruptedRecords && !mode.syncs;
     return adapters::batch_verdict(mode, counts, may_be_refused, may_differ);
 }
