@@ -1,4 +1,5 @@
-//! The library as it is declared in `bindings/c/blobcrash.h`: its statuses, structs and functions. `library` and `paths` alone call them.
+//! The library as it is declared in `bindings/c/blobcrash.h`: its statuses, structs and functions. `library`, `session` and `paths` alone
+//! call them.
 use crate::debt_calls::{DebtCall, DebtReply};
 use std::ffi::c_void;
 

@@ -1,4 +1,4 @@
-//! The files of the library as they are declared in `bindings/c/blobcrash_files.h`. `library` alone calls the functions.
+//! The files of the library as they are declared in `bindings/c/blobcrash_files.h`. `library` and `session` alone call the functions.
 use crate::foreign::{KeptRun, PowerState, Ran, ScriptRan, kinds};
 use std::ffi::c_void;
 
