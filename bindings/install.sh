@@ -61,7 +61,7 @@ for module in blobcrash/*.py blobcrash_page/*.py blobcrash_page/*.js blobcrash_p
 done
 for header in "$top"/bindings/c/*.h; do
     # What two tests share isn't installed.
-    [ "${header##*/}" != files_checks.h ] || continue
+    case $header in *checks.h) continue ;; esac
     put 644 "$header" "$to/include/blobcrash/${header##*/}"
 done
 put 644 "$top/out/libblobcrash.a" "$to/lib/libblobcrash.a"

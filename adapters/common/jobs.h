@@ -47,11 +47,6 @@ class Jobs {
         return static_cast<int>(removed.size());
     }
 
-    size_t count() {
-        std::lock_guard<std::mutex> lock(mutex_);
-        return jobs_.size();
-    }
-
     // From here to `stop` a thread runs the jobs.
     void start() {
         ends_ = false;

@@ -3,7 +3,6 @@
 //     crash --scenarios                 the scenarios of LevelDB's own test of faults, in each profile
 //     crash --record SCRIPT MODE        records a short run for tools/states
 //     crash --check FOLDER FILE         checks what a crash of it left below FOLDER/d; FILE has the acknowledged batches
-#include "driver.h"
 #include "life.h"
 #include "mode.h"
 #include "recorded.h"
@@ -29,12 +28,7 @@ int main(int argc, char** argv) {
     if (argc == 2 && strcmp(argv[1], "--scenarios") == 0) return scenarios_run();
     if (argc == 4 && strcmp(argv[1], "--record") == 0) return recorded_run(argv[2], argv[3]);
     if (argc == 4 && strcmp(argv[1], "--check") == 0) return recorded_check(argv[2], argv[3]);
-    driver leveldb = {};
-    leveldb.name = "crash";
-    leveldb.modes = MODES;
-    leveldb.modes_len = sizeof MODES / sizeof *MODES;
-    leveldb.columns = COLUMNS;
-    leveldb.columns_len = sizeof COLUMNS / sizeof *COLUMNS;
+    driver leveldb = adapters::driver_of(MODES, COLUMNS);
     leveldb.is_mode = is_mode;
     leveldb.live = live;
     leveldb.verdict = mode_verdict;

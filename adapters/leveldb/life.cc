@@ -2,35 +2,25 @@
 
 #include "log.h"
 #include "mode.h"
-#include "random.h"
 
 #include <leveldb/db.h>
 #include <leveldb/write_batch.h>
 
 #include <cinttypes>
 #include <cstdio>
-#include <map>
 #include <memory>
 
+using adapters::Rows;
 using leveldb::Status;
 
 namespace {
 
 const int ROUNDS = 12;
 
-// The rows of a database.
-using Rows = std::map<std::string, std::string>;
-
-class Life {
+class Life : adapters::BatchLife<Mode> {
   public:
     Life(const Mode& mode, uint64_t seed, uint64_t* counts)
-        : mode_(mode), counts_(counts), draws_(seed), files_(adapters::library_disk(preamble(mode, seed))), env_(&files_, mode.extra), states_(1) {
-        tear_ = words_tear(&mode.disk, &draws_);
-        longest_value_ = below(2) == 0 ? 200 : 3000;
-        files_.make_directory("/d");
-        files_.settle();
-        if (mode.disk.lies) files_.set("syncs lie");
-    }
+        : BatchLife(mode, seed, counts, disk_of(mode, seed)), env_(&files_, mode.extra) {}
 
     // Returns what is wrong, or an empty text.
     std::string live() {
@@ -40,7 +30,7 @@ class Life {
             if (cuts_recovery) files_.power_off_after(static_cast<int64_t>(below(16)));
             std::unique_ptr<leveldb::DB> db = open();
             if (db == nullptr && !files_.is_off() && (mode_.fails || mode_.fails_reads)) db = open_without_faults();
-            if (files_.is_off()) counts_[RECOVERY]++;
+            if (files_.is_off()) counts_[Mode::RECOVERY]++;
             else if (db == nullptr) damage("it can't be opened: " + opened_.ToString());
             else use(db.get(), !cuts_recovery);
             close(&db);
@@ -52,42 +42,13 @@ class Life {
             else check(db.get());
             close(&db);
         }
-        counts_[FAULTS] += files_.faults();
-        counts_[BROKEN] += !wrong_.empty();
-        return wrong_;
+        return end();
     }
 
   private:
-    const Mode& mode_;
-    uint64_t* counts_;
-    uint64_t draws_;
-    adapters::CrashFiles files_;
     CrashEnv env_;
     TracedLog log_;
-    std::string tear_, wrong_;
-    size_t longest_value_;
-    // What each batch left, and the number of the last one that was acknowledged.
-    std::vector<Rows> states_;
-    uint64_t acknowledged_ = 0;
     Status opened_;
-
-    static std::string preamble(const Mode& mode, uint64_t seed) {
-        char lines[WORDS_PREAMBLE];
-        words_preamble(&mode.disk, seed, lines);
-        return lines;
-    }
-
-    uint64_t below(uint64_t end) { return random_below(&draws_, end); }
-
-    void set_faults() {
-        char line[WORDS_LINE];
-        words_write_setting(tear_.c_str(), mode_.fails ? "1 200" : "0 1", &draws_, line);
-        files_.set(line);
-        if (mode_.fails) files_.set("config sync 1 100");
-        if (!mode_.fails_reads) return;
-        files_.set("config open 1 200");
-        files_.set("config read 1 400");
-    }
 
     std::unique_ptr<leveldb::DB> open() {
         leveldb::Options options;
@@ -115,16 +76,6 @@ class Life {
     void close(std::unique_ptr<leveldb::DB>* db) {
         env_.jobs.run();
         db->reset();
-    }
-
-    void crash() {
-        files_.crash();
-        counts_[CRASHES]++;
-    }
-
-    void damage(const std::string& what) {
-        counts_[CORRUPT]++;
-        wrong_ = what;
     }
 
     // Checks the database and writes batches until the power goes off or a call fails.
@@ -156,16 +107,9 @@ class Life {
         states_.push_back(next);
         leveldb::WriteOptions options;
         options.sync = mode_.syncs;
-        Status status = db->Write(options, &batch);
-        if (status.ok()) {
-            acknowledged_ = states_.size() - 1;
-            counts_[BATCHES]++;
-        }
-        if (!status.ok() && files_.is_off()) counts_[IN_WRITE]++;
-        return status.ok();
+        return acknowledge(db->Write(options, &batch).ok());
     }
 
-    // Compares all rows with those that the last batch left that is found. Later ones are forgotten.
     void check(leveldb::DB* db) {
         Rows rows;
         leveldb::ReadOptions options;
@@ -173,19 +117,7 @@ class Life {
         std::unique_ptr<leveldb::Iterator> at(db->NewIterator(options));
         for (at->SeekToFirst(); at->Valid(); at->Next()) rows[at->key().ToString()] = at->value().ToString();
         if (!at->status().ok()) return damage("it can't be read: " + at->status().ToString());
-        uint64_t last = rows.count("last") > 0 ? std::stoull(rows["last"]) : 0;
-        if (last >= states_.size() || rows != states_[last]) {
-            counts_[WRONG]++;
-            wrong_ = "the rows are those of no batch; the last one that is found is " + std::to_string(last) + ", of " +
-                     std::to_string(acknowledged_);
-            return;
-        }
-        if (last < acknowledged_) {
-            counts_[LOST] += acknowledged_ - last;
-            if (mode_.syncs) wrong_ = std::to_string(acknowledged_ - last) + " acknowledged batches are lost";
-        }
-        acknowledged_ = last;
-        states_.resize(last + 1);
+        compare(rows, "last");
     }
 };
 

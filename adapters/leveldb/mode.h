@@ -2,17 +2,15 @@
 #ifndef BLOBCRASH_LEVELDB_MODE_H
 #define BLOBCRASH_LEVELDB_MODE_H
 
+#include "batches.h"
 #include "env.h"
-#include "words.h"
 
-struct Mode {
-    words disk = words_default;
+struct Mode : adapters::BatchMode {
+    // What lives count: the columns of the table.
+    enum Count { BATCHES, CRASHES, IN_WRITE, RECOVERY, FAULTS, LOST, CORRUPT, WRONG, BROKEN };
     ExtraSyncs extra;
-    bool syncs = false, fails = false, fails_reads = false, is_paranoid = false, reuses = false;
+    bool is_paranoid = false, reuses = false;
 };
-
-// What lives count: the columns of the table.
-enum Count { BATCHES, CRASHES, IN_WRITE, RECOVERY, FAULTS, LOST, CORRUPT, WRONG, BROKEN };
 
 // Reads a name: `sync` or `nosync`, and then words of adapters/common/words.h or
 //

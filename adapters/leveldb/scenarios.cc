@@ -1,36 +1,24 @@
 #include "scenarios.h"
 
+#include "batches.h"
 #include "env.h"
 #include "log.h"
-#include "random.h"
-#include "words.h"
 
 #include <leveldb/db.h>
 
 #include <cstdio>
 #include <memory>
 
+using adapters::scenario_key;
+using adapters::scenario_value;
 using leveldb::Status;
 
 namespace {
 
-const int ITERATIONS = 3, MOST_VALUES = 2000, VALUE_LEN = 1000;
+const int ITERATIONS = 3, MOST_VALUES = 2000;
 
 // What the crash loses: the bytes that no sync made durable, or the names.
 enum class Reset { DROPS_BYTES, DROPS_NAMES };
-
-std::string key_of(int number) {
-    char key[20];
-    snprintf(key, sizeof key, "%016d", number);
-    return key;
-}
-
-std::string value_of(int number) {
-    uint64_t state = static_cast<uint64_t>(number);
-    std::string value;
-    for (int at = 0; at < VALUE_LEN; at++) value += static_cast<char>(' ' + random_below(&state, 95));
-    return value;
-}
 
 class Scenario {
   public:
@@ -114,14 +102,14 @@ class Scenario {
 
     void build(int start, int count) {
         for (int at = start; at < start + count && failed_.empty(); at++)
-            expect(db_->Put(leveldb::WriteOptions(), key_of(at), value_of(at)), "a write");
+            expect(db_->Put(leveldb::WriteOptions(), scenario_key(at), scenario_value(at)), "a write");
     }
 
     void verify(int start, int count, bool are_there) {
         std::string value;
         for (int at = start; at < start + count && failed_.empty(); at++) {
-            Status status = db_->Get(leveldb::ReadOptions(), key_of(at), &value);
-            if (status.ok() != are_there || (are_there && value != value_of(at)))
+            Status status = db_->Get(leveldb::ReadOptions(), scenario_key(at), &value);
+            if (status.ok() != are_there || (are_there && value != scenario_value(at)))
                 failed_ = "key " + std::to_string(at) + (are_there ? " is lost" : " is there");
         }
     }

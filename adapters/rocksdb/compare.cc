@@ -33,7 +33,8 @@ void run(const std::string& mode, const char* disk, uint64_t seeds) {
     }
     double seconds = processor_seconds() - began;
     printf("| %-29s | %-7s | %7" PRIu64 " | %7" PRIu64 " | %7" PRIu64 " | %7" PRIu64 " | %7" PRIu64 " | %9.0f |\n", mode.c_str(), disk,
-           counts[CRASHES], counts[BROKEN], counts[LOST], counts[CORRUPT], counts[WRONG], static_cast<double>(counts[CRASHES]) / seconds);
+           counts[Mode::CRASHES], counts[Mode::BROKEN], counts[Mode::LOST], counts[Mode::CORRUPT], counts[Mode::WRONG],
+           static_cast<double>(counts[Mode::CRASHES]) / seconds);
     fflush(stdout);
 }
 

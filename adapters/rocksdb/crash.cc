@@ -3,7 +3,6 @@
 //     crash --compare SEEDS     some modes on two disks, the library's and that of simple_disk.h, with the crashes a second
 //     crash --scenarios         the scenarios of RocksDB's own test of faults, in each profile
 #include "compare.h"
-#include "driver.h"
 #include "life.h"
 #include "mode.h"
 #include "scenarios.h"
@@ -29,12 +28,7 @@ static bool is_mode(const char* name) {
 int main(int argc, char** argv) {
     if (argc == 3 && strcmp(argv[1], "--compare") == 0) return compare(argv[2]);
     if (argc == 2 && strcmp(argv[1], "--scenarios") == 0) return scenarios_run();
-    driver rocksdb = {};
-    rocksdb.name = "crash";
-    rocksdb.modes = MODES;
-    rocksdb.modes_len = sizeof MODES / sizeof *MODES;
-    rocksdb.columns = COLUMNS;
-    rocksdb.columns_len = sizeof COLUMNS / sizeof *COLUMNS;
+    driver rocksdb = adapters::driver_of(MODES, COLUMNS);
     rocksdb.is_mode = is_mode;
     rocksdb.live = live;
     rocksdb.verdict = mode_verdict;

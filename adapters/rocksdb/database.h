@@ -14,7 +14,7 @@
 #include <vector>
 
 // The rows of all families: the number of the family, a slash and the key.
-using Rows = std::map<std::string, std::string>;
+using adapters::Rows;
 
 class Database {
   public:
@@ -26,7 +26,6 @@ class Database {
     // Opens one that exists, and nothing is written to it.
     rocksdb::Status open_to_read(const std::string& path);
     void close();
-    bool is_open() const { return db_ != nullptr; }
     rocksdb::DB* db() const { return db_.get(); }
     // NULL if the mode has no transactions.
     rocksdb::TransactionDB* transactions() const { return transactions_; }

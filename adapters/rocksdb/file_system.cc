@@ -24,27 +24,37 @@ IOStatus refuse(const rocksdb::FileOptions& options) {
 
 // Files.
 
-IOStatus CrashFileSystem::NewSequentialFile(const std::string& name, const FileOptions& options,
-                                            std::unique_ptr<rocksdb::FSSequentialFile>* file, Debug*) {
+// Opens a file that exists, as a file of this class.
+template <class Open, class File>
+IOStatus CrashFileSystem::open_as(const std::string& name, const FileOptions& options, std::unique_ptr<File>* file) {
     uint64_t descriptor;
     IOStatus status = refuse(options);
     if (status.ok()) status = io_status(files_->open(name, &descriptor), name);
-    if (status.ok()) file->reset(new OpenSequential(files_, descriptor, name));
+    if (status.ok()) file->reset(new Open(files_, descriptor, name));
     return status;
+}
+
+IOStatus CrashFileSystem::NewSequentialFile(const std::string& name, const FileOptions& options,
+                                            std::unique_ptr<rocksdb::FSSequentialFile>* file, Debug*) {
+    return open_as<OpenSequential>(name, options, file);
 }
 
 IOStatus CrashFileSystem::NewRandomAccessFile(const std::string& name, const FileOptions& options,
                                               std::unique_ptr<rocksdb::FSRandomAccessFile>* file, Debug*) {
-    uint64_t descriptor;
-    IOStatus status = refuse(options);
-    if (status.ok()) status = io_status(files_->open(name, &descriptor), name);
-    if (status.ok()) file->reset(new OpenRandomAccess(files_, descriptor, name));
-    return status;
+    return open_as<OpenRandomAccess>(name, options, file);
 }
 
-IOStatus CrashFileSystem::open_writable(uint32_t status, uint64_t descriptor, const std::string& name, const FileOptions& options,
+IOStatus CrashFileSystem::NewRandomRWFile(const std::string& name, const FileOptions& options,
+                                          std::unique_ptr<rocksdb::FSRandomRWFile>* file, Debug*) {
+    return open_as<OpenRandomRW>(name, options, file);
+}
+
+IOStatus CrashFileSystem::open_writable(OpenCall open, const std::string& name, const FileOptions& options,
                                         std::unique_ptr<rocksdb::FSWritableFile>* file) {
-    uint64_t size = 0;
+    uint64_t descriptor = 0, size = 0;
+    IOStatus refused = refuse(options);
+    if (!refused.ok()) return refused;
+    uint32_t status = (files_->*open)(name, &descriptor);
     if (status == BLOBCRASH_DONE) status = files_->size(descriptor, &size);
     if (status == BLOBCRASH_DONE) file->reset(new OpenWritable(files_, descriptor, name, size, options));
     return io_status(status, name);
@@ -52,20 +62,12 @@ IOStatus CrashFileSystem::open_writable(uint32_t status, uint64_t descriptor, co
 
 IOStatus CrashFileSystem::NewWritableFile(const std::string& name, const FileOptions& options,
                                           std::unique_ptr<rocksdb::FSWritableFile>* file, Debug*) {
-    uint64_t descriptor = 0;
-    IOStatus status = refuse(options);
-    if (!status.ok()) return status;
-    uint32_t opened = files_->open_empty(name, &descriptor);
-    return open_writable(opened, descriptor, name, options, file);
+    return open_writable(&adapters::CrashFiles::open_empty, name, options, file);
 }
 
 IOStatus CrashFileSystem::ReopenWritableFile(const std::string& name, const FileOptions& options,
                                              std::unique_ptr<rocksdb::FSWritableFile>* file, Debug*) {
-    uint64_t descriptor = 0;
-    IOStatus status = refuse(options);
-    if (!status.ok()) return status;
-    uint32_t opened = files_->open_or_create(name, &descriptor);
-    return open_writable(opened, descriptor, name, options, file);
+    return open_writable(&adapters::CrashFiles::open_or_create, name, options, file);
 }
 
 // An old file under a new name, which is written over from its start.
@@ -78,15 +80,6 @@ IOStatus CrashFileSystem::ReuseWritableFile(const std::string& name, const std::
     status = io_status(files_->rename(old, name), old);
     if (status.ok()) file->reset(new OpenWritable(files_, descriptor, name, 0, options));
     else files_->close(descriptor);
-    return status;
-}
-
-IOStatus CrashFileSystem::NewRandomRWFile(const std::string& name, const FileOptions& options,
-                                          std::unique_ptr<rocksdb::FSRandomRWFile>* file, Debug*) {
-    uint64_t descriptor;
-    IOStatus status = refuse(options);
-    if (status.ok()) status = io_status(files_->open(name, &descriptor), name);
-    if (status.ok()) file->reset(new OpenRandomRW(files_, descriptor, name));
     return status;
 }
 

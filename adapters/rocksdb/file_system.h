@@ -62,7 +62,11 @@ class CrashFileSystem : public rocksdb::FileSystem {
     std::mutex mutex_;
     std::set<std::string> locked_;
 
-    Status open_writable(uint32_t status, uint64_t descriptor, const std::string& name, const FileOptions& options,
+    using OpenCall = uint32_t (adapters::CrashFiles::*)(const std::string& path, uint64_t* descriptor);
+
+    template <class Open, class File>
+    Status open_as(const std::string& name, const FileOptions& options, std::unique_ptr<File>* file);
+    Status open_writable(OpenCall open, const std::string& name, const FileOptions& options,
                          std::unique_ptr<rocksdb::FSWritableFile>* file);
 };
 

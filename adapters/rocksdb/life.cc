@@ -2,9 +2,7 @@
 
 #include "copies.h"
 #include "database.h"
-#include "driver.h"
 #include "prepared.h"
-#include "random.h"
 #include "simple_disk.h"
 
 #include <cinttypes>
@@ -23,25 +21,12 @@ namespace {
 const int ROUNDS = 12;
 const size_t FLUSHED_AFTER = 65536;
 
-std::unique_ptr<adapters::Disk> disk_of(const Mode& mode, uint64_t seed) {
-    char lines[WORDS_PREAMBLE];
-    if (mode.is_simple) return std::make_unique<SimpleDisk>(seed);
-    words_preamble(&mode.disk, seed, lines);
-    return adapters::library_disk(lines);
-}
-
-class Life {
+class Life : adapters::BatchLife<Mode> {
   public:
     Life(const Mode& mode, uint64_t seed, uint64_t* counts)
-        : mode_(mode), counts_(counts), draws_(seed), files_(disk_of(mode, seed)),
+        : BatchLife(mode, seed, counts, mode.is_simple ? std::make_unique<SimpleDisk>(seed) : disk_of(mode, seed)),
           env_(std::make_shared<CrashFileSystem>(&files_, strcmp(mode.disk.profile, "btrfs") == 0)), database_(mode, &env_),
-          prepared_(mode, &database_), copies_(mode, &env_), states_(1) {
-        tear_ = words_tear(&mode.disk, &draws_);
-        longest_value_ = below(2) == 0 ? 200 : 3000;
-        files_.make_directory("/d");
-        files_.settle();
-        if (mode.disk.lies) files_.set("syncs lie");
-    }
+          prepared_(mode, &database_), copies_(mode, &env_) {}
 
     // Returns what is wrong, or an empty text.
     std::string live() {
@@ -54,7 +39,7 @@ class Life {
                 crash();
                 opened = database_.open("/d");
             }
-            if (files_.is_off()) counts_[RECOVERY]++;
+            if (files_.is_off()) counts_[Mode::RECOVERY]++;
             else if (!opened.ok()) damage("it can't be opened: " + opened.ToString());
             else if (is_last) check();
             else use();
@@ -62,49 +47,20 @@ class Life {
             database_.close();
             if (!is_last) crash();
         }
-        counts_[FAULTS] += files_.faults();
-        counts_[BROKEN] += !wrong_.empty();
-        return wrong_;
+        return end();
     }
 
   private:
-    const Mode& mode_;
-    uint64_t* counts_;
-    uint64_t draws_;
-    adapters::CrashFiles files_;
     CrashEnv env_;
     Database database_;
     Prepared prepared_;
     Copies copies_;
-    std::string tear_, wrong_;
-    size_t longest_value_;
     // Of batches since the last flush.
     size_t unflushed_ = 0;
-    // What each batch left, and the number of the last one that was acknowledged.
-    std::vector<Rows> states_;
-    uint64_t acknowledged_ = 0;
-
-    uint64_t below(uint64_t end) { return random_below(&draws_, end); }
-
-    void set_faults() {
-        char line[WORDS_LINE];
-        words_write_setting(tear_.c_str(), mode_.fails ? "1 200" : "0 1", &draws_, line);
-        files_.set(line);
-        if (mode_.fails) files_.set("config sync 1 100");
-        if (!mode_.fails_reads) return;
-        files_.set("config open 1 200");
-        files_.set("config read 1 400");
-    }
 
     void crash() {
         env_.jobs.run();
-        files_.crash();
-        counts_[CRASHES]++;
-    }
-
-    void damage(const std::string& what) {
-        counts_[CORRUPT]++;
-        wrong_ = what;
+        BatchLife::crash();
     }
 
     // Checks the database and writes batches until the power goes off or a call fails. Background work waits for some batches.
@@ -117,7 +73,7 @@ class Life {
         files_.power_off_after(static_cast<int64_t>(below(160)));
         while (write() && others()) {
             if (below(4) > 0) env_.jobs.run(1);
-            if (files_.is_off()) counts_[IN_WORK]++;
+            if (files_.is_off()) counts_[Mode::IN_WORK]++;
         }
     }
 
@@ -167,37 +123,16 @@ class Life {
         states_.push_back(next);
         Status status = mode_.has_transactions && below(2) == 0 ? transact(&batch) : database_.write(&batch);
         unflushed_ += batch.GetDataSize();
-        if (status.ok()) {
-            acknowledged_ = states_.size() - 1;
-            counts_[BATCHES]++;
-        }
-        if (!status.ok() && files_.is_off()) counts_[IN_WRITE]++;
-        return status.ok();
+        return acknowledge(status.ok());
     }
 
-    // Compares all rows with those that the last batch left that is found. Later ones are forgotten.
     void check() {
         Rows rows;
         Status status = database_.read(&rows);
         if (!status.ok()) return damage("it can't be read: " + status.ToString());
         std::string other = mode_.has_transactions ? prepared_.check(&rows) : "";
         if (other.empty()) other = copies_.check();
-        uint64_t last = rows.count("0/last") > 0 ? std::stoull(rows["0/last"]) : 0;
-        if (last >= states_.size() || rows != states_[last]) {
-            counts_[WRONG]++;
-            wrong_ = "the rows are those of no batch; the last one that is found is " + std::to_string(last) + ", of " +
-                     std::to_string(acknowledged_);
-            return;
-        }
-        if (last < acknowledged_) {
-            counts_[LOST] += acknowledged_ - last;
-            if (mode_.syncs) wrong_ = std::to_string(acknowledged_ - last) + " acknowledged batches are lost";
-        } else if (!other.empty()) {
-            counts_[LOST]++;
-            wrong_ = other;
-        }
-        acknowledged_ = last;
-        states_.resize(last + 1);
+        compare(rows, "0/last", other);
     }
 };
 
@@ -223,7 +158,7 @@ void live(const char* name, uint64_t seed, bool is_told, uint64_t* counts) {
     memcpy(counts, shared, len);
     munmap(shared, len);
     if (status == 0) return;
-    counts[CORRUPT]++;
-    counts[BROKEN]++;
+    counts[Mode::CORRUPT]++;
+    counts[Mode::BROKEN]++;
     if (is_told) printf("%s, seed %" PRIu64 ": the process was ended by signal %d\n", name, seed, WTERMSIG(status));
 }

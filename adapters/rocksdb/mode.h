@@ -2,21 +2,18 @@
 #ifndef BLOBCRASH_ROCKSDB_MODE_H
 #define BLOBCRASH_ROCKSDB_MODE_H
 
-#include "words.h"
+#include "batches.h"
 
 #include <rocksdb/options.h>
 
-struct Mode {
-    words disk = words_default;
+struct Mode : adapters::BatchMode {
+    // What lives count: the columns of the table.
+    enum Count { BATCHES, CRASHES, IN_WRITE, IN_WORK, RECOVERY, FAULTS, LOST, CORRUPT, WRONG, BROKEN };
     rocksdb::WALRecoveryMode recovery = rocksdb::WALRecoveryMode::kPointInTimeRecovery;
-    bool syncs = false, fails = false, fails_reads = false, is_simple = false;
-    bool flushes_log = false, tracks = false, keeps_logs = false, has_two_queues = false, syncs_queued = false;
+    bool is_simple = false, flushes_log = false, tracks = false, keeps_logs = false, has_two_queues = false, syncs_queued = false;
     bool has_families = false, flushes_atomically = false, has_transactions = false, has_blobs = false;
     bool has_checkpoints = false, has_backups = false;
 };
-
-// What lives count: the columns of the table.
-enum Count { BATCHES, CRASHES, IN_WRITE, IN_WORK, RECOVERY, FAULTS, LOST, CORRUPT, WRONG, BROKEN };
 
 // Reads a name: `sync` or `nosync`, and then words of adapters/common/words.h or
 //

@@ -1,16 +1,17 @@
 #include "scenarios.h"
 
 #include "database.h"
-#include "random.h"
 
 #include <cstdio>
 #include <cstring>
 
+using adapters::scenario_key;
+using adapters::scenario_value;
 using rocksdb::Status;
 
 namespace {
 
-const int ITERATIONS = 3, MOST_VALUES = 2000, VALUE_LEN = 1000;
+const int ITERATIONS = 3, MOST_VALUES = 2000;
 
 // What a crash keeps of writes and of names.
 struct Reset {
@@ -20,19 +21,6 @@ const Reset RESETS[] = {{"drops bytes", "config write 0 1 0 1 prefix", "keep 1 1
                         {"drops random bytes", "config write 0 1 127 128 prefix", "keep 1 1"},
                         {"drops names", "config write 0 1 1 1 prefix", "keep 0 1"},
                         {"drops bytes and names", "config write 0 1 0 1 prefix", "keep 0 1"}};
-
-std::string key_of(int number) {
-    char key[20];
-    snprintf(key, sizeof key, "%016d", number);
-    return key;
-}
-
-std::string value_of(int number) {
-    uint64_t state = static_cast<uint64_t>(number);
-    std::string value;
-    for (int at = 0; at < VALUE_LEN; at++) value += static_cast<char>(' ' + random_below(&state, 95));
-    return value;
-}
 
 rocksdb::WriteOptions synced(bool syncs) {
     rocksdb::WriteOptions options;
@@ -133,7 +121,7 @@ class Scenario {
     }
 
     void put(int number, bool syncs) {
-        if (failed_.empty()) expect(db()->Put(synced(syncs), key_of(number), value_of(number)), "a write");
+        if (failed_.empty()) expect(db()->Put(synced(syncs), scenario_key(number), scenario_value(number)), "a write");
     }
 
     void build(int start, int count, bool syncs) {
@@ -152,9 +140,9 @@ class Scenario {
     void verify(int start, int count, bool are_there) {
         std::string value;
         for (int at = start; at < start + count && failed_.empty(); at++) {
-            Status status = db()->Get({}, key_of(at), &value);
+            Status status = db()->Get({}, scenario_key(at), &value);
             if (!are_there && status.IsNotFound()) continue;
-            if (!status.ok() || value != value_of(at)) failed_ = "key " + std::to_string(at) + ": " + status.ToString();
+            if (!status.ok() || value != scenario_value(at)) failed_ = "key " + std::to_string(at) + ": " + status.ToString();
         }
     }
 };

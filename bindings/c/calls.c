@@ -4,21 +4,7 @@
  */
 #include "blobcrash.h"
 
-#include <stdio.h>
-#include <string.h>
-
-static int failed;
-
-static void check(bool holds, const char *what, int line) {
-    if (holds) return;
-    printf("line %d: %s\n", line, what);
-    failed = 1;
-}
-
-#define CHECK(holds) check(holds, #holds, __LINE__)
-
-/* A text with its length, as two arguments. */
-#define TEXT(text) (const uint8_t *)(text), strlen(text)
+#include "checks.h"
 
 static bool is_told(const uint8_t *room, size_t len, const char *reply) {
     return len == strlen(reply) && memcmp(room, reply, len) == 0;

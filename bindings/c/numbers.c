@@ -5,23 +5,11 @@
  */
 #include "blobcrash.h"
 
-#include <stdio.h>
-#include <string.h>
+#include "checks.h"
 
 /* The address sanitizer, if there is one, refuses what can't be allocated, as `malloc` does. */
 const char *__asan_default_options(void);
 const char *__asan_default_options(void) { return "allocator_may_return_null=1"; }
-
-static int failed;
-
-static void check(bool holds, const char *what, int line) {
-    if (holds) return;
-    printf("line %d: %s\n", line, what);
-    failed = 1;
-}
-
-#define CHECK(holds) check(holds, #holds, __LINE__)
-#define TEXT(text) (const uint8_t *)(text), strlen(text)
 
 enum { CAPACITY = 512 };
 

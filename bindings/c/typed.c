@@ -8,17 +8,7 @@ static void on_line(struct blobcrash_session *session, const char *line, size_t 
 #define BLOBCRASH_ON_LINE on_line
 #include "blobcrash_calls.h"
 
-#include <stdio.h>
-
-static int failed;
-
-static void check(bool holds, const char *what, int line) {
-    if (holds) return;
-    printf("line %d: %s\n", line, what);
-    failed = 1;
-}
-
-#define CHECK(holds) check(holds, #holds, __LINE__)
+#include "checks.h"
 
 /* The calls since the last look, a line each. */
 static struct {

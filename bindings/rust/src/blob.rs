@@ -11,6 +11,7 @@ use std::sync::{Arc, MutexGuard};
 ///
 /// let options = WriteOptions::default() | WriteOptions::SYNC;
 /// assert!(options.contains(WriteOptions::SYNC));
+/// assert!(!WriteOptions::default().contains(WriteOptions::SYNC));
 /// assert_eq!(options.without(WriteOptions::SYNC), WriteOptions::default());
 /// ```
 #[derive(Clone, Copy, Debug, Default, PartialEq, Eq)]
@@ -21,30 +22,15 @@ pub struct WriteOptions {
 
 impl WriteOptions {
     /// The bytes are durable when the write returns `Ok`.
-    ///
-    /// ```
-    /// # use blobcrash::WriteOptions;
-    /// assert_ne!(WriteOptions::SYNC, WriteOptions::default());
-    /// ```
     pub const SYNC: WriteOptions = WriteOptions { sync: true };
 
     /// Returns whether these options have all of the others.
-    ///
-    /// ```
-    /// # use blobcrash::WriteOptions;
-    /// assert!(!WriteOptions::default().contains(WriteOptions::SYNC));
-    /// ```
     #[must_use]
     pub const fn contains(self, others: WriteOptions) -> bool {
         self.sync || !others.sync
     }
 
     /// Returns these options without the others.
-    ///
-    /// ```
-    /// # use blobcrash::WriteOptions;
-    /// assert_eq!(WriteOptions::SYNC.without(WriteOptions::SYNC), WriteOptions::default());
-    /// ```
     pub const fn without(self, others: WriteOptions) -> WriteOptions {
         WriteOptions {
             sync: self.sync && !others.sync,
@@ -71,7 +57,6 @@ impl BitOr for WriteOptions {
 /// ```
 /// use blobcrash::{Error, Store, WriteOptions};
 ///
-/// # fn main() -> Result<(), Error> {
 /// let store = Store::builder().seed(7).open()?;
 /// let (blob, _) = store.open("p", b"b")?;
 /// blob.write_at(0, b"record", WriteOptions::default())?;
@@ -81,33 +66,30 @@ impl BitOr for WriteOptions {
 /// blob.sync()?;
 /// store.restart()?;
 /// assert!(matches!(blob.size(), Err(Error::StaleHandle(_))));
-/// # Ok(())
-/// # }
+/// # Ok::<(), Error>(())
 /// ```
 #[derive(Debug)]
 pub struct Blob {
-    shared: Arc<Shared>,
-    opened: Arc<Opened>,
-    handle: usize,
-    version: u16,
+    pub(crate) shared: Arc<Shared<State>>,
+    pub(crate) opened: Arc<Opened>,
+    pub(crate) handle: usize,
+    pub(crate) version: u16,
 }
 
 /// A started sync. If it is dropped it is finished, and its outcome is lost. That makes no draw, and a crash leaves the same
 /// whether a sync was finished or not: finishing only frees the sync's entry in the store's table.
 ///
 /// ```
-/// # fn main() -> Result<(), blobcrash::Error> {
 /// let store = blobcrash::Store::builder().seed(7).open()?;
 /// let (blob, _) = store.open("p", b"b")?;
 /// let started = blob.start_sync()?;
 /// started.finish()?;
-/// # Ok(())
-/// # }
+/// # Ok::<(), blobcrash::Error>(())
 /// ```
 #[derive(Debug)]
 #[must_use = "`finish` returns the outcome"]
 pub struct StartedSync {
-    shared: Arc<Shared>,
+    shared: Arc<Shared<State>>,
     number: usize,
     /// How often the store was reopened before: a reopen forgets every started sync.
     reopens: u64,
@@ -115,29 +97,13 @@ pub struct StartedSync {
 }
 
 impl Blob {
-    pub(crate) fn new(
-        shared: Arc<Shared>,
-        opened: Arc<Opened>,
-        handle: usize,
-        version: u16,
-    ) -> Blob {
-        Blob {
-            shared,
-            opened,
-            handle,
-            version,
-        }
-    }
-
     /// Returns the handle's number, by which lines of a script name it.
     ///
     /// ```
-    /// # fn main() -> Result<(), blobcrash::Error> {
     /// let store = blobcrash::Store::builder().open()?;
     /// let (blob, _) = store.open("p", b"b")?;
     /// assert_eq!(store.call(&format!("size {}", blob.handle()))?, "size 0");
-    /// # Ok(())
-    /// # }
+    /// # Ok::<(), blobcrash::Error>(())
     /// ```
     #[must_use]
     pub fn handle(&self) -> usize {
@@ -147,12 +113,10 @@ impl Blob {
     /// Returns the blob's version.
     ///
     /// ```
-    /// # fn main() -> Result<(), blobcrash::Error> {
     /// let store = blobcrash::Store::builder().open()?;
     /// let (blob, _) = store.open_versioned("p", b"b", 1..=3)?;
     /// assert_eq!(blob.version(), 3);
-    /// # Ok(())
-    /// # }
+    /// # Ok::<(), blobcrash::Error>(())
     /// ```
     #[must_use]
     pub fn version(&self) -> u16 {
@@ -162,13 +126,11 @@ impl Blob {
     /// Returns whether the handle is from before a crash, a reopen or the removal of its blob.
     ///
     /// ```
-    /// # fn main() -> Result<(), blobcrash::Error> {
     /// let store = blobcrash::Store::builder().open()?;
     /// let (blob, _) = store.open("p", b"b")?;
     /// store.remove("p", Some(b"b"))?;
     /// assert!(blob.is_stale());
-    /// # Ok(())
-    /// # }
+    /// # Ok::<(), blobcrash::Error>(())
     /// ```
     #[must_use]
     pub fn is_stale(&self) -> bool {
@@ -178,14 +140,12 @@ impl Blob {
     /// Sets whether the handle may be used when it is stale.
     ///
     /// ```
-    /// # fn main() -> Result<(), blobcrash::Error> {
     /// let store = blobcrash::Store::builder().open()?;
     /// let (blob, _) = store.open("p", b"b")?;
     /// store.remove("p", Some(b"b"))?;
     /// blob.allow_stale(true);
     /// assert_eq!(blob.size()?, 0);
-    /// # Ok(())
-    /// # }
+    /// # Ok::<(), blobcrash::Error>(())
     /// ```
     pub fn allow_stale(&self, allow: bool) {
         self.opened.allow_stale(allow);
@@ -196,14 +156,12 @@ impl Blob {
     ///
     /// ```
     /// # use blobcrash::{Error, Store, WriteOptions};
-    /// # fn main() -> Result<(), Error> {
     /// let store = Store::builder().open()?;
     /// let (blob, _) = store.open("p", b"b")?;
     /// blob.write_at(0, b"abc", WriteOptions::default())?;
     /// assert_eq!(blob.read_at(1, 2)?, b"bc");
     /// assert_eq!(blob.read_at(1, 3), Err(Error::BlobInsufficientLength));
-    /// # Ok(())
-    /// # }
+    /// # Ok::<(), Error>(())
     /// ```
     pub fn read_at(&self, offset: u64, len: usize) -> Result<Vec<u8>, Error> {
         let mut state = self.usable()?;
@@ -215,15 +173,13 @@ impl Blob {
     ///
     /// ```
     /// # use blobcrash::{Store, WriteOptions};
-    /// # fn main() -> Result<(), blobcrash::Error> {
     /// let store = Store::builder().open()?;
     /// let (blob, _) = store.open("p", b"b")?;
     /// blob.write_at(0, b"abc", WriteOptions::default())?;
     /// let mut buffer = [0; 2];
     /// blob.read_at_buf(1, &mut buffer)?;
     /// assert_eq!(&buffer, b"bc");
-    /// # Ok(())
-    /// # }
+    /// # Ok::<(), blobcrash::Error>(())
     /// ```
     pub fn read_at_buf(&self, offset: u64, into: &mut [u8]) -> Result<(), Error> {
         let mut state = self.usable()?;
@@ -240,13 +196,11 @@ impl Blob {
     ///
     /// ```
     /// # use blobcrash::{Store, WriteOptions};
-    /// # fn main() -> Result<(), blobcrash::Error> {
     /// let store = Store::builder().seed(7).open()?;
     /// let (blob, _) = store.open("p", b"b")?;
     /// blob.write_at(0, b"durable", WriteOptions::SYNC)?;
     /// blob.write_at(7, b", or not", WriteOptions::default())?;
-    /// # Ok(())
-    /// # }
+    /// # Ok::<(), blobcrash::Error>(())
     /// ```
     pub fn write_at(&self, offset: u64, bytes: &[u8], options: WriteOptions) -> Result<(), Error> {
         let mut state = self.usable()?;
@@ -263,13 +217,11 @@ impl Blob {
     /// with a length between the two, or the earlier one; `OffsetOverflow`, `Memory` and `StaleHandle`, with the length unchanged.
     ///
     /// ```
-    /// # fn main() -> Result<(), blobcrash::Error> {
     /// let store = blobcrash::Store::builder().open()?;
     /// let (blob, _) = store.open("p", b"b")?;
     /// blob.resize(2)?;
     /// assert_eq!(blob.read_at(0, 2)?, [0, 0]);
-    /// # Ok(())
-    /// # }
+    /// # Ok::<(), blobcrash::Error>(())
     /// ```
     pub fn resize(&self, len: u64) -> Result<(), Error> {
         self.usable()?
@@ -280,13 +232,11 @@ impl Blob {
     /// Returns the size that the handle tracks, in bytes.
     ///
     /// ```
-    /// # fn main() -> Result<(), blobcrash::Error> {
     /// let store = blobcrash::Store::builder().open()?;
     /// let (blob, _) = store.open("p", b"b")?;
     /// blob.resize(2)?;
     /// assert_eq!(blob.size()?, 2);
-    /// # Ok(())
-    /// # }
+    /// # Ok::<(), blobcrash::Error>(())
     /// ```
     pub fn size(&self) -> Result<u64, Error> {
         let reply = self.usable()?.by_number(Kind::Size, self.handle, 0)?;
@@ -297,15 +247,13 @@ impl Blob {
     ///
     /// ```
     /// # use blobcrash::{Store, WriteOptions};
-    /// # fn main() -> Result<(), blobcrash::Error> {
     /// let store = Store::builder().seed(7).open()?;
     /// let (blob, _) = store.open("p", b"b")?;
     /// blob.write_at(0, b"abc", WriteOptions::default())?;
     /// blob.sync()?;
     /// store.restart()?;
     /// assert_eq!(store.open("p", b"b")?.1, 3);
-    /// # Ok(())
-    /// # }
+    /// # Ok::<(), blobcrash::Error>(())
     /// ```
     pub fn sync(&self) -> Result<(), Error> {
         let mut state = self.usable()?;
@@ -317,12 +265,10 @@ impl Blob {
     /// Starts to make the handle's bytes durable; `finish` returns the outcome. Errors: `Memory`, `StaleHandle`.
     ///
     /// ```
-    /// # fn main() -> Result<(), blobcrash::Error> {
     /// let store = blobcrash::Store::builder().seed(7).open()?;
     /// let (blob, _) = store.open("p", b"b")?;
     /// blob.start_sync()?.finish()?;
-    /// # Ok(())
-    /// # }
+    /// # Ok::<(), blobcrash::Error>(())
     /// ```
     pub fn start_sync(&self) -> Result<StartedSync, Error> {
         let mut state = self.usable()?;
@@ -360,14 +306,12 @@ impl StartedSync {
     ///
     /// ```
     /// # use blobcrash::{Error, Store};
-    /// # fn main() -> Result<(), Error> {
     /// let store = Store::builder().seed(7).open()?;
     /// let (blob, _) = store.open("p", b"b")?;
     /// let started = blob.start_sync()?;
     /// store.reopen()?;
     /// assert_eq!(started.finish(), Err(Error::NoHandle));
-    /// # Ok(())
-    /// # }
+    /// # Ok::<(), Error>(())
     /// ```
     pub fn finish(mut self) -> Result<(), Error> {
         let mut state = self.shared.lock();

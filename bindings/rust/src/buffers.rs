@@ -18,6 +18,7 @@ pub struct IoBuf(Vec<u8>);
 ///
 /// let buffer = IoBufMut::with_capacity(4);
 /// assert!(buffer.capacity() >= 4 && buffer.is_empty());
+/// assert_eq!(IoBufMut::from(vec![1, 2]).freeze(), [1, 2]);
 /// ```
 #[derive(Clone, Debug, Default, Eq)]
 pub struct IoBufMut(Vec<u8>);
@@ -29,8 +30,9 @@ pub struct IoBufMut(Vec<u8>);
 ///
 /// let mut bytes = IoBufs::from(b"ab");
 /// bytes.append(IoBuf::from(b"c"));
-/// assert_eq!(bytes.remaining(), 3);
+/// assert!(bytes.remaining() == 3 && !bytes.is_empty());
 /// assert_eq!(bytes.coalesce(), b"abc");
+/// assert!(IoBufs::from(b"").is_empty());
 /// ```
 #[derive(Clone, Debug, Default)]
 pub struct IoBufs(Vec<IoBuf>);
@@ -41,8 +43,9 @@ pub struct IoBufs(Vec<IoBuf>);
 /// use blobcrash::storage::IoBufsMut;
 ///
 /// let bytes = IoBufsMut::from(b"abc".to_vec());
-/// assert_eq!(bytes.len(), 3);
+/// assert!(bytes.len() == 3 && !bytes.is_empty() && bytes.capacity() >= 3);
 /// assert_eq!(bytes.coalesce(), b"abc");
+/// assert!(IoBufsMut::default().is_empty());
 /// ```
 #[derive(Clone, Debug, Default)]
 pub struct IoBufsMut(IoBufMut);
@@ -107,33 +110,18 @@ impl DerefMut for IoBufMut {
 
 impl IoBufMut {
     /// Returns an empty buffer that can hold this number of bytes.
-    ///
-    /// ```
-    /// # use blobcrash::storage::IoBufMut;
-    /// assert!(IoBufMut::with_capacity(8).capacity() >= 8);
-    /// ```
     #[must_use]
     pub fn with_capacity(capacity: usize) -> IoBufMut {
         IoBufMut(Vec::with_capacity(capacity))
     }
 
     /// Returns how many bytes the buffer can hold.
-    ///
-    /// ```
-    /// # use blobcrash::storage::IoBufMut;
-    /// assert!(IoBufMut::from(vec![1, 2]).capacity() >= 2);
-    /// ```
     #[must_use]
     pub fn capacity(&self) -> usize {
         self.0.capacity()
     }
 
     /// Returns the bytes as a piece to write.
-    ///
-    /// ```
-    /// # use blobcrash::storage::IoBufMut;
-    /// assert_eq!(IoBufMut::from(vec![1, 2]).freeze(), [1, 2]);
-    /// ```
     #[must_use]
     pub fn freeze(self) -> IoBuf {
         IoBuf(self.0)
@@ -154,46 +142,23 @@ impl FromIterator<IoBuf> for IoBufs {
 
 impl IoBufs {
     /// Adds a piece at the end.
-    ///
-    /// ```
-    /// # use blobcrash::storage::{IoBuf, IoBufs};
-    /// let mut bytes = IoBufs::default();
-    /// bytes.append(IoBuf::from(b"a"));
-    /// assert_eq!(bytes.remaining(), 1);
-    /// ```
     pub fn append(&mut self, piece: IoBuf) {
         self.0.push(piece);
     }
 
     /// Returns how many bytes there are.
-    ///
-    /// ```
-    /// # use blobcrash::storage::IoBufs;
-    /// assert_eq!(IoBufs::from(vec![0; 9]).remaining(), 9);
-    /// ```
     #[must_use]
     pub fn remaining(&self) -> usize {
         self.0.iter().map(|piece| piece.len()).sum()
     }
 
     /// Returns whether there are no bytes.
-    ///
-    /// ```
-    /// # use blobcrash::storage::IoBufs;
-    /// assert!(IoBufs::from(b"").is_empty());
-    /// ```
     #[must_use]
     pub fn is_empty(&self) -> bool {
         self.0.iter().all(|piece| piece.is_empty())
     }
 
     /// Returns the bytes in one piece. A single piece isn't copied.
-    ///
-    /// ```
-    /// # use blobcrash::storage::{IoBuf, IoBufs};
-    /// let bytes: IoBufs = [IoBuf::from(b"a"), IoBuf::from(b"b")].into_iter().collect();
-    /// assert_eq!(bytes.coalesce(), b"ab");
-    /// ```
     #[must_use]
     pub fn coalesce(mut self) -> IoBuf {
         if self.0.len() == 1 {
@@ -212,44 +177,24 @@ impl<T: Into<IoBufMut>> From<T> for IoBufsMut {
 
 impl IoBufsMut {
     /// Returns how many bytes there are.
-    ///
-    /// ```
-    /// # use blobcrash::storage::IoBufsMut;
-    /// assert_eq!(IoBufsMut::from(vec![0; 9]).len(), 9);
-    /// ```
     #[must_use]
     pub fn len(&self) -> usize {
         self.0.len()
     }
 
     /// Returns whether there are no bytes.
-    ///
-    /// ```
-    /// # use blobcrash::storage::IoBufsMut;
-    /// assert!(IoBufsMut::default().is_empty());
-    /// ```
     #[must_use]
     pub fn is_empty(&self) -> bool {
         self.0.is_empty()
     }
 
     /// Returns how many bytes the buffer can hold.
-    ///
-    /// ```
-    /// # use blobcrash::storage::{IoBufMut, IoBufsMut};
-    /// assert!(IoBufsMut::from(IoBufMut::with_capacity(8)).capacity() >= 8);
-    /// ```
     #[must_use]
     pub fn capacity(&self) -> usize {
         self.0.capacity()
     }
 
     /// Returns the bytes in one piece.
-    ///
-    /// ```
-    /// # use blobcrash::storage::IoBufsMut;
-    /// assert_eq!(IoBufsMut::from(b"abc".to_vec()).coalesce(), b"abc");
-    /// ```
     #[must_use]
     pub fn coalesce(self) -> IoBufMut {
         self.0

@@ -1,6 +1,7 @@
 use crate::library::Session;
 use crate::limits::Limits;
-use crate::script::{Script, first_word, image_line, one_line, tokens, words_line};
+use crate::record::Record;
+use crate::script::{first_word, image_line, one_line, tokens, words_line};
 use crate::shared::{Shared, State};
 use crate::{Config, Error, Explorable, Store};
 
@@ -36,12 +37,10 @@ impl Builder {
     /// names aren't checked.
     ///
     /// ```
-    /// # fn main() -> Result<(), blobcrash::Error> {
     /// let raw = b"CWIC\0\0\0\0the bytes after a header of layout V0";
     /// let store = blobcrash::Store::builder().image("p", b"b", raw).open()?;
     /// assert_eq!(store.open("p", b"b")?.0.read_at(0, 9)?, b"the bytes");
-    /// # Ok(())
-    /// # }
+    /// # Ok::<(), blobcrash::Error>(())
     /// ```
     pub fn image(mut self, partition: &str, name: &[u8], raw: &[u8]) -> Builder {
         match image_line(partition, name, raw) {
@@ -56,13 +55,11 @@ impl Builder {
     ///
     /// ```
     /// # use blobcrash::{Config, Error, Probability, Store};
-    /// # fn main() -> Result<(), Error> {
     /// let half = Config::default().scan(Probability::new(1, 2).unwrap());
     /// let store = Store::builder().config(half).words(&[u64::MAX, 0]).open()?;
     /// assert!(matches!(store.scan("p"), Err(Error::PartitionMissing(_))));
     /// assert_eq!(store.scan("p"), Err(Error::Injected));
-    /// # Ok(())
-    /// # }
+    /// # Ok::<(), Error>(())
     /// ```
     pub fn words(mut self, words: &[u64]) -> Builder {
         if !words.is_empty() {
@@ -75,11 +72,9 @@ impl Builder {
     /// Sets the seed of the words after the given ones. A second seed is a `BadLine`.
     ///
     /// ```
-    /// # fn main() -> Result<(), blobcrash::Error> {
     /// let store = blobcrash::Store::builder().seed(7).open()?;
     /// assert_eq!(store.script(), "seed 7\n");
-    /// # Ok(())
-    /// # }
+    /// # Ok::<(), blobcrash::Error>(())
     /// ```
     pub fn seed(mut self, seed: u64) -> Builder {
         self.lines.push(format!("seed {seed}"));
@@ -92,13 +87,11 @@ impl Builder {
     ///
     /// ```
     /// # use blobcrash::{Config, Error, Probability, Store};
-    /// # fn main() -> Result<(), Error> {
     /// let half = Config::default().scan(Probability::new(1, 2).unwrap());
     /// let store = Store::builder().config(half).pushed().open()?;
     /// store.push_words(&[0])?;
     /// assert_eq!(store.scan("p"), Err(Error::Injected));
-    /// # Ok(())
-    /// # }
+    /// # Ok::<(), Error>(())
     /// ```
     pub fn pushed(mut self) -> Builder {
         self.is_pushed = true;
@@ -108,11 +101,9 @@ impl Builder {
     /// Adds lines of a script's preamble, as they are.
     ///
     /// ```
-    /// # fn main() -> Result<(), blobcrash::Error> {
     /// let store = blobcrash::Store::builder().lines(&["seed 7", "image p 62 -"]).open()?;
     /// assert_eq!(store.scan("p")?, [b"b"]);
-    /// # Ok(())
-    /// # }
+    /// # Ok::<(), blobcrash::Error>(())
     /// ```
     pub fn lines(mut self, lines: &[&str]) -> Builder {
         for line in lines {
@@ -129,11 +120,9 @@ impl Builder {
     ///
     /// ```
     /// # use blobcrash::{Config, Error, Probability, Store};
-    /// # fn main() -> Result<(), Error> {
     /// let store = Store::builder().config(Config::default().open(Probability::ONE)).open()?;
     /// assert_eq!(store.open("p", b"b").err(), Some(Error::Injected));
-    /// # Ok(())
-    /// # }
+    /// # Ok::<(), Error>(())
     /// ```
     pub fn config(mut self, config: Config) -> Builder {
         self.config = config;
@@ -143,13 +132,11 @@ impl Builder {
     /// Lets stale handles be used. Without this each use of one returns `StaleHandle`.
     ///
     /// ```
-    /// # fn main() -> Result<(), blobcrash::Error> {
     /// let store = blobcrash::Store::builder().allow_stale().open()?;
     /// let (blob, _) = store.open("p", b"b")?;
     /// store.remove("p", None)?;
     /// assert!(blob.size().is_ok());
-    /// # Ok(())
-    /// # }
+    /// # Ok::<(), blobcrash::Error>(())
     /// ```
     pub fn allow_stale(mut self) -> Builder {
         self.allow_stale = true;
@@ -159,11 +146,9 @@ impl Builder {
     /// Keeps no record of the calls, which then need no memory, and [`Store::script`] is empty.
     ///
     /// ```
-    /// # fn main() -> Result<(), blobcrash::Error> {
     /// let store = blobcrash::Store::builder().unrecorded().seed(7).open()?;
     /// assert_eq!(store.script(), "");
-    /// # Ok(())
-    /// # }
+    /// # Ok::<(), blobcrash::Error>(())
     /// ```
     pub fn unrecorded(mut self) -> Builder {
         self.unrecorded = true;
@@ -193,9 +178,9 @@ impl Builder {
     /// Returns the builder of runs of a search, with their seed if they have one. Refuses words and a seed of the caller's.
     pub(crate) fn searched(&self, seed: Option<u64>) -> Result<Builder, Error> {
         if self.has_draws || self.is_pushed {
-            let text =
-                "an explored run, or that of a seed, has neither a seed nor words of its builder's";
-            return Err(Error::Argument(text.to_owned()));
+            return Err(Error::argument(
+                "an explored run, or that of a seed, has neither a seed nor words of its builder's",
+            ));
         }
         let mut builder = self.clone();
         builder.has_draws = true;
@@ -222,8 +207,9 @@ impl Builder {
         }
         self.config.check()?;
         if self.is_pushed && self.has_draws {
-            let text = "a store with pushed words has neither a seed nor other words";
-            return Err(Error::Argument(text.to_owned()));
+            return Err(Error::argument(
+                "a store with pushed words has neither a seed nor other words",
+            ));
         }
         if !self.has_draws && !self.is_pushed && self.config.needs_draws() {
             return Err(Error::NeedsSeed);
@@ -247,17 +233,14 @@ impl Explorable for Builder {
         let has_draws = self.has_draws || self.is_pushed;
         let mut session = Session::open(&self.lines.join("\n"))?;
         session.push_words(words)?;
-        if !self.unrecorded {
-            let mut script = Script::with_words(words);
-            self.lines.iter().for_each(|line| script.push_line(line));
-            session.script = Some(script);
-        }
+        session.record = (!self.unrecorded).then(|| Record::new(words, &self.lines));
         let mut state = State::new(session, self.config, limits);
         state
             .limits
             .unsynced
             .set(&self.settings.unwrap_or_default());
-        let shared = Shared::new(state, has_draws, self.allow_stale, self.is_pushed);
-        Ok(Store::of(shared))
+        (state.allow_stale, state.is_pushed) = (self.allow_stale, self.is_pushed);
+        let shared = Shared::new(state, has_draws);
+        Ok(Store { shared })
     }
 }

@@ -11,17 +11,19 @@ use std::panic::resume_unwind;
 pub struct Choices {
     pub(crate) path: Path,
     /// How many more times the power may fail.
-    losses: u64,
-    is_short: bool,
+    pub(crate) losses: u64,
+    /// Whether the run took all words that it was given.
+    pub(crate) is_short: bool,
     /// How many calls the run has, and at most may have. It may have as many choices.
-    calls: u64,
+    pub(crate) calls: u64,
     most: u64,
-    is_long: bool,
+    /// Whether it has more.
+    pub(crate) is_long: bool,
     /// What decides the run in place of the path.
-    replay: Option<Replay>,
-    /// The states that runs came to by restarts, and whether this one was ended in one of them.
-    states: States,
-    is_met: bool,
+    pub(crate) replay: Option<Replay>,
+    /// The states that this run and earlier ones came to by restarts, and whether this one was ended in one of them.
+    pub(crate) states: States,
+    pub(crate) is_met: bool,
 }
 
 /// What a run unwinds with that an exploration ends.
@@ -69,17 +71,6 @@ impl Choices {
         choices
     }
 
-    /// The choices of the next run, with the states that earlier ones came to.
-    pub(crate) fn with_states(mut self, states: States) -> Choices {
-        self.states = states;
-        self
-    }
-
-    /// Returns the states that runs came to.
-    pub(crate) fn take_states(&mut self) -> States {
-        std::mem::take(&mut self.states)
-    }
-
     /// How many more times the power may fail, if the run is one of a search that ends runs at a restart: not of a run by given choices,
     /// nor within the path, of which all runs are made.
     pub(crate) fn searched_losses(&self) -> Option<u64> {
@@ -94,20 +85,6 @@ impl Choices {
     {
         self.is_met = self.states.has_met(state, expected, self.path.taken());
         self.is_met
-    }
-
-    /// Whether the run was ended in a state that an earlier one came to.
-    pub(crate) fn is_met(&self) -> bool {
-        self.is_met
-    }
-
-    pub(crate) fn replay(&self) -> Option<&Replay> {
-        self.replay.as_ref()
-    }
-
-    /// How many calls the run has.
-    pub(crate) fn calls(&self) -> u64 {
-        self.calls
     }
 
     /// The words of the draws that the run has made.
@@ -127,11 +104,6 @@ impl Choices {
         self.calls += 1;
         self.is_long |= self.calls > self.most;
         !self.is_long
-    }
-
-    /// Whether the run has more calls, or more choices, than it may have.
-    pub(crate) fn is_long(&self) -> bool {
-        self.is_long
     }
 
     /// Lifts the limit of a run that has ended, and returns whether the run is too long. Nothing could catch a later unwinding: a body may
@@ -165,29 +137,14 @@ impl Choices {
         branch
     }
 
-    /// Counts the draws up to here, after which `left` words are left.
-    pub(crate) fn count(&mut self, left: usize) {
+    /// Counts the draws up to here, after which `left` words are left. If `sizes` isn't 0, the last one drew one of that many.
+    pub(crate) fn count(&mut self, left: usize, sizes: u64) {
         self.is_short |= left == 0;
         if let Some(replay) = &mut self.replay {
-            return replay.count(left, 0);
+            return replay.count(left, sizes);
         }
-        self.path.count(left);
+        self.path.count(left, sizes);
         self.is_long |= self.path.made() as u64 > self.most;
-    }
-
-    /// Counts draws as `count` does, if the last one drew a size among `among`.
-    pub(crate) fn count_size(&mut self, left: usize, among: u64) {
-        self.is_short |= left == 0;
-        if let Some(replay) = &mut self.replay {
-            return replay.count(left, among);
-        }
-        self.path.count_size(left, among);
-        self.is_long |= self.path.made() as u64 > self.most;
-    }
-
-    /// Whether the power may fail at all.
-    pub(crate) fn has_losses(&self) -> bool {
-        self.losses > 0
     }
 
     /// Chooses whether the power fails now.
@@ -195,10 +152,5 @@ impl Choices {
         let fails = self.take(Kind::Power, 2) == 1;
         self.losses -= u64::from(fails);
         fails
-    }
-
-    /// Whether the run took all words that it was given.
-    pub(crate) fn is_short(&self) -> bool {
-        self.is_short
     }
 }

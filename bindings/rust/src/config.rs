@@ -129,40 +129,23 @@ pub struct ResizeConfig {
     pub partial_rate: Probability,
 }
 
-impl ResizeConfig {
-    fn of((failure_rate, partial_rate): (Probability, Probability)) -> ResizeConfig {
-        ResizeConfig {
-            failure_rate,
-            partial_rate,
-        }
-    }
-}
-
-impl WriteConfig {
-    fn of(
-        (failure_rate, retention_rate): (Probability, Probability),
-        mode: PartialWriteMode,
-    ) -> WriteConfig {
-        WriteConfig {
-            failure_rate,
-            retention_rate,
-            mode,
-        }
-    }
-}
-
 /// Which calls fail, and how often. What isn't set doesn't fail, and keeps nothing.
 ///
 /// ```
-/// use blobcrash::{Config, PartialWriteMode, Probability, WriteConfig};
+/// use blobcrash::{Config, PartialWriteMode, Probability, ResizeConfig, WriteConfig};
 ///
 /// let rarely = Probability::new(1, 8).unwrap();
-/// let faults = Config::default().sync(rarely).write(WriteConfig {
+/// let writes = WriteConfig {
 ///     failure_rate: rarely,
 ///     retention_rate: Probability::new(1, 2).unwrap(),
 ///     mode: PartialWriteMode::Sectors(512),
-/// });
-/// assert_eq!(faults.sync_rate, Some(rarely));
+/// };
+/// let resizes = ResizeConfig { failure_rate: rarely, partial_rate: Probability::ZERO };
+/// let faults = Config::default().open(rarely).read(rarely).write(writes).sync(rarely);
+/// let faults = faults.resize(resizes).remove(rarely).scan(rarely);
+/// assert_eq!([faults.open_rate, faults.read_rate, faults.sync_rate], [Some(rarely); 3]);
+/// assert_eq!([faults.remove_rate, faults.scan_rate], [Some(rarely); 2]);
+/// assert_eq!((faults.write_rate, faults.resize_rate), (Some(writes), Some(resizes)));
 /// ```
 #[derive(Clone, Copy, Debug, Default, PartialEq, Eq)]
 #[must_use]
@@ -185,89 +168,42 @@ pub struct Config {
 
 impl Config {
     /// Sets how often opens fail.
-    ///
-    /// ```
-    /// # use blobcrash::{Config, Probability};
-    /// let config = Config::default().open(Probability::ONE);
-    /// assert_eq!(config.open_rate, Some(Probability::ONE));
-    /// ```
     pub const fn open(mut self, rate: Probability) -> Config {
         self.open_rate = Some(rate);
         self
     }
 
     /// Sets how often reads fail.
-    ///
-    /// ```
-    /// # use blobcrash::{Config, Probability};
-    /// let config = Config::default().read(Probability::ONE);
-    /// assert_eq!(config.read_rate, Some(Probability::ONE));
-    /// ```
     pub const fn read(mut self, rate: Probability) -> Config {
         self.read_rate = Some(rate);
         self
     }
 
     /// Sets how writes fail, and what a crash keeps of them.
-    ///
-    /// ```
-    /// # use blobcrash::{Config, PartialWriteMode, Probability, WriteConfig};
-    /// let writes = WriteConfig {
-    ///     failure_rate: Probability::ZERO,
-    ///     retention_rate: Probability::ONE,
-    ///     mode: PartialWriteMode::Subset,
-    /// };
-    /// assert_eq!(Config::default().write(writes).write_rate, Some(writes));
-    /// ```
     pub const fn write(mut self, writes: WriteConfig) -> Config {
         self.write_rate = Some(writes);
         self
     }
 
     /// Sets how often syncs fail.
-    ///
-    /// ```
-    /// # use blobcrash::{Config, Probability};
-    /// let config = Config::default().sync(Probability::ONE);
-    /// assert_eq!(config.sync_rate, Some(Probability::ONE));
-    /// ```
     pub const fn sync(mut self, rate: Probability) -> Config {
         self.sync_rate = Some(rate);
         self
     }
 
     /// Sets how resizes fail.
-    ///
-    /// ```
-    /// # use blobcrash::{Config, Probability, ResizeConfig};
-    /// let (failure_rate, partial_rate) = (Probability::ONE, Probability::ZERO);
-    /// let resizes = ResizeConfig { failure_rate, partial_rate };
-    /// assert_eq!(Config::default().resize(resizes).resize_rate, Some(resizes));
-    /// ```
     pub const fn resize(mut self, resizes: ResizeConfig) -> Config {
         self.resize_rate = Some(resizes);
         self
     }
 
     /// Sets how often removals fail.
-    ///
-    /// ```
-    /// # use blobcrash::{Config, Probability};
-    /// let config = Config::default().remove(Probability::ONE);
-    /// assert_eq!(config.remove_rate, Some(Probability::ONE));
-    /// ```
     pub const fn remove(mut self, rate: Probability) -> Config {
         self.remove_rate = Some(rate);
         self
     }
 
     /// Sets how often scans fail.
-    ///
-    /// ```
-    /// # use blobcrash::{Config, Probability};
-    /// let config = Config::default().scan(Probability::ONE);
-    /// assert_eq!(config.scan_rate, Some(Probability::ONE));
-    /// ```
     pub const fn scan(mut self, rate: Probability) -> Config {
         self.scan_rate = Some(rate);
         self
@@ -279,7 +215,7 @@ impl Config {
             Some(WriteConfig {
                 mode: PartialWriteMode::Sectors(0),
                 ..
-            }) => Err(Error::Argument("a sector has at least one byte".to_owned())),
+            }) => Err(Error::argument("a sector has at least one byte")),
             _ => Ok(()),
         }
     }
@@ -292,18 +228,23 @@ impl Config {
         let resizes = self
             .resize_rate
             .map(|r| [Some(r.failure_rate), Some(r.partial_rate)]);
-        let others = [
-            self.open_rate,
-            self.read_rate,
-            self.sync_rate,
-            self.remove_rate,
-            self.scan_rate,
-        ];
         let pairs = writes.into_iter().chain(resizes).flatten();
         let draws = |rate: Option<Probability>| rate.is_some_and(Probability::needs_draws);
         // The size of a partial resize is drawn whatever its rates are.
         let is_partial = |r: ResizeConfig| !r.failure_rate.is_zero() && !r.partial_rate.is_zero();
-        others.into_iter().chain(pairs).any(draws) || self.resize_rate.is_some_and(is_partial)
+        let alone = self.rates().map(|(_, rate)| rate);
+        alone.into_iter().chain(pairs).any(draws) || self.resize_rate.is_some_and(is_partial)
+    }
+
+    /// The rates of the calls that have no other setting, by the words of their lines.
+    fn rates(&self) -> [(&'static str, Option<Probability>); 5] {
+        [
+            ("open", self.open_rate),
+            ("read", self.read_rate),
+            ("sync", self.sync_rate),
+            ("remove", self.remove_rate),
+            ("scan", self.scan_rate),
+        ]
     }
 
     /// Applies the tokens of a setting's line, after `config`, which is known to be one.
@@ -319,16 +260,25 @@ impl Config {
             Some(&"sync") => self.sync_rate = rate(0),
             Some(&"remove") => self.remove_rate = rate(0),
             Some(&"scan") => self.scan_rate = rate(0),
-            Some(&"resize") => self.resize_rate = rate(0).zip(rate(2)).map(ResizeConfig::of),
+            Some(&"resize") => {
+                let rates = rate(0).zip(rate(2));
+                self.resize_rate = rates.map(|(failure_rate, partial_rate)| ResizeConfig {
+                    failure_rate,
+                    partial_rate,
+                });
+            }
             Some(&"write") => {
                 let mode = match setting.get(5) {
                     Some(&"prefix") => PartialWriteMode::Prefix,
                     Some(&"subset") => PartialWriteMode::Subset,
                     _ => PartialWriteMode::Sectors(numbers.get(4).copied().unwrap_or(1)),
                 };
-                self.write_rate = rate(0)
-                    .zip(rate(2))
-                    .map(|rates| WriteConfig::of(rates, mode));
+                let rates = rate(0).zip(rate(2));
+                self.write_rate = rates.map(|(failure_rate, retention_rate)| WriteConfig {
+                    failure_rate,
+                    retention_rate,
+                    mode,
+                });
             }
             _ => *self = Config::default(),
         }
@@ -337,13 +287,7 @@ impl Config {
     /// The lines that make this configuration of one that sets nothing.
     pub(crate) fn lines(&self) -> Vec<String> {
         let mut lines = Vec::new();
-        for (word, rate) in [
-            ("open", self.open_rate),
-            ("read", self.read_rate),
-            ("sync", self.sync_rate),
-            ("remove", self.remove_rate),
-            ("scan", self.scan_rate),
-        ] {
+        for (word, rate) in self.rates() {
             lines.extend(rate.map(|rate| format!("config {word} {}", rate.words())));
         }
         lines.extend(self.write_rate.map(|writes| {

@@ -1,48 +1,29 @@
 //! The calls of the registry of durability debt, in numbers.
 use crate::Error;
-use crate::error::REFUSALS;
-use crate::foreign::{BAD_CALL, DONE};
+use crate::foreign::{BAD_CALL, DONE, kinds};
 
-/// A call of the registry of durability debt. A failure has no texts.
-#[derive(Debug)]
-pub(crate) enum DebtCall {
-    Admit {
-        existing: bool,
-    },
-    Release {
-        number: usize,
-    },
-    Settle {
-        number: usize,
-        dirty: bool,
-        failure: Option<Error>,
-    },
-    Debt {
-        number: usize,
-    },
-    Clear {
-        number: usize,
-        failure: Option<Error>,
-    },
-    Fail {
-        number: usize,
-        failure: Error,
-    },
-    Close {
-        number: usize,
-    },
-    Forget,
-    ForgetPartition,
-    IsSettled {
-        number: usize,
-    },
-    Keeps,
+kinds! {
+    /// The kinds of calls of the registry.
+    DebtKind {
+        Admit = 0,
+        Release = 1,
+        Settle = 2,
+        Debt = 3,
+        Clear = 4,
+        Fail = 5,
+        Close = 6,
+        Forget = 7,
+        ForgetPartition = 8,
+        IsSettled = 9,
+        Keeps = 10,
+    }
 }
 
-/// The numbers of a call.
+/// A call of the registry, without its names.
 #[repr(C)]
-pub(crate) struct RawDebtCall {
-    kind: u32,
+pub(crate) struct DebtCall {
+    kind: DebtKind,
+    /// The status of a failure, or `DONE`.
     failure: u32,
     number: usize,
     flag: bool,
@@ -62,38 +43,31 @@ pub(crate) struct DebtReply {
 const BLOB_ALREADY_OPEN: u32 = 21;
 
 impl DebtCall {
-    /// The numbers of the call. A failure with texts has no status, and the library refuses it.
-    pub(crate) fn raw(&self) -> RawDebtCall {
-        let of = |failure: Option<&Error>| match failure {
-            None => DONE,
-            Some(failure) => {
-                let row = REFUSALS.iter().find(|row| row.1 == *failure);
-                row.map_or(u32::MAX, |row| row.0)
-            }
-        };
-        let (kind, failure, number, flag) = match self {
-            DebtCall::Admit { existing } => (0, None, 0, *existing),
-            DebtCall::Release { number } => (1, None, *number, false),
-            DebtCall::Settle {
-                number,
-                dirty,
-                failure,
-            } => (2, failure.as_ref(), *number, *dirty),
-            DebtCall::Debt { number } => (3, None, *number, false),
-            DebtCall::Clear { number, failure } => (4, failure.as_ref(), *number, false),
-            DebtCall::Fail { number, failure } => (5, Some(failure), *number, false),
-            DebtCall::Close { number } => (6, None, *number, false),
-            DebtCall::Forget => (7, None, 0, false),
-            DebtCall::ForgetPartition => (8, None, 0, false),
-            DebtCall::IsSettled { number } => (9, None, *number, false),
-            DebtCall::Keeps => (10, None, 0, false),
-        };
-        RawDebtCall {
+    /// A call of the open with this number.
+    pub(crate) fn of_open(kind: DebtKind, number: usize) -> DebtCall {
+        DebtCall {
             kind,
-            failure: of(failure),
+            failure: DONE,
             number,
-            flag,
+            flag: false,
         }
+    }
+
+    /// A call of a name.
+    pub(crate) fn of_name(kind: DebtKind) -> DebtCall {
+        DebtCall::of_open(kind, 0)
+    }
+
+    /// Sets whether the blob exists that is admitted, or whether the open that settles adds debt.
+    pub(crate) fn flag(mut self, flag: bool) -> DebtCall {
+        self.flag = flag;
+        self
+    }
+
+    /// Adds a failure. One with texts has no status, and the library refuses it.
+    pub(crate) fn failure(mut self, failure: Option<Error>) -> DebtCall {
+        self.failure = failure.map_or(DONE, |failure| failure.status().unwrap_or(u32::MAX));
+        self
     }
 }
 
@@ -103,9 +77,7 @@ impl DebtReply {
         match self.status {
             DONE => Ok(self),
             BLOB_ALREADY_OPEN => Err(already()),
-            BAD_CALL => Err(Error::Argument(
-                "a failure with texts isn't kept".to_owned(),
-            )),
+            BAD_CALL => Err(Error::argument("a failure with texts isn't kept")),
             other => Err(Error::of(other, "")),
         }
     }
@@ -114,38 +86,11 @@ impl DebtReply {
 #[cfg(test)]
 mod tests {
     use super::*;
-    use crate::foreign::tests::{header, upper};
+    use crate::foreign::tests::{check_kinds, header};
 
     #[test]
-    fn calls_and_failures_are_those_of_the_header() {
-        let header = header();
-        let (number, failure, dirty) = (0, None, false);
-        let calls = [
-            DebtCall::Admit { existing: false },
-            DebtCall::Release { number },
-            DebtCall::Settle {
-                number,
-                dirty,
-                failure: None,
-            },
-            DebtCall::Debt { number },
-            DebtCall::Clear { number, failure },
-            DebtCall::Fail {
-                number,
-                failure: Error::Closed,
-            },
-            DebtCall::Close { number },
-            DebtCall::Forget,
-            DebtCall::ForgetPartition,
-            DebtCall::IsSettled { number },
-            DebtCall::Keeps,
-        ];
-        for (at, call) in calls.iter().enumerate() {
-            let text = format!("{call:?}");
-            let name = format!("DEBT_{}", upper(text.split(' ').next().unwrap()));
-            assert_eq!(header.get(name.as_str()), Some(&call.raw().kind), "{name}");
-            assert_eq!(call.raw().kind as usize, at);
-        }
-        assert_eq!(header["E_BLOB_ALREADY_OPEN"], BLOB_ALREADY_OPEN);
+    fn kinds_are_those_of_the_header() {
+        check_kinds(&header(), "DEBT_", DebtKind::ALL);
+        assert_eq!(header()["E_BLOB_ALREADY_OPEN"], BLOB_ALREADY_OPEN);
     }
 }

@@ -11,14 +11,12 @@ impl Store {
     ///
     /// ```
     /// # use blobcrash::{Store, WriteOptions};
-    /// # fn main() -> Result<(), blobcrash::Error> {
     /// let store = Store::builder().image("p", b"b", b"CWIC\0\0\0\0abc").seed(7).open()?;
     /// let (blob, _) = store.open("p", b"b")?;
     /// blob.write_at(0, b"A", WriteOptions::SYNC)?;
     /// blob.write_at(1, b"B", WriteOptions::default())?;
     /// assert_eq!(store.raw_blob("p", b"b")?.unwrap(), b"CWIC\0\0\0\0Abc");
-    /// # Ok(())
-    /// # }
+    /// # Ok::<(), blobcrash::Error>(())
     /// ```
     pub fn raw_blob(&self, partition: &str, name: &[u8]) -> Result<Option<Vec<u8>>, Error> {
         let mut state = self.shared.lock();
@@ -30,15 +28,13 @@ impl Store {
     ///
     /// ```
     /// # use blobcrash::{Store, WriteOptions};
-    /// # fn main() -> Result<(), blobcrash::Error> {
     /// let store = Store::builder().seed(7).open()?;
     /// let (blob, _) = store.open("p", b"b")?;
     /// blob.write_at(0, b"abc", WriteOptions::default())?;
     /// assert_eq!(store.logical_blob("p", b"b")?.unwrap(), b"");
     /// blob.sync()?;
     /// assert_eq!(store.logical_blob("p", b"b")?.unwrap(), b"abc");
-    /// # Ok(())
-    /// # }
+    /// # Ok::<(), blobcrash::Error>(())
     /// ```
     pub fn logical_blob(&self, partition: &str, name: &[u8]) -> Result<Option<Vec<u8>>, Error> {
         let mut state = self.shared.lock();
@@ -57,8 +53,7 @@ impl Store {
     /// - `GenerationsExhausted`, `Memory`, `OutOfMemory`: the blob may be removed, or empty.
     ///
     /// ```
-    /// # use blobcrash::{Error, Store, header::{self, Layout}, storage::BlobVersion};
-    /// # fn main() -> Result<(), Error> {
+    /// # use blobcrash::{Store, header::{self, Layout}, storage::BlobVersion};
     /// let store = Store::builder().seed(7).open()?;
     /// let version = BlobVersion::new(0);
     /// let (mut raw, _) = header::create(&Layout::ALL, &(version..=version));
@@ -66,8 +61,7 @@ impl Store {
     /// store.set_raw_blob("p", b"b", &raw)?;
     /// assert_eq!(store.raw_blob("p", b"b")?, Some(raw));
     /// assert_eq!(store.open("p", b"b")?.1, 3);
-    /// # Ok(())
-    /// # }
+    /// # Ok::<(), blobcrash::Error>(())
     /// ```
     pub fn set_raw_blob(&self, partition: &str, name: &[u8], raw: &[u8]) -> Result<(), Error> {
         let any = BlobVersion::new(0)..=BlobVersion::new(u16::MAX);
@@ -75,8 +69,9 @@ impl Store {
         let is_whole = raw.len() as u64 >= Layout::V1.data_offset();
         let parsed = is_whole.then(|| header::parse(raw, raw.len() as u64, &first, &any));
         let Some(Ok((_, version, data_offset))) = parsed else {
-            let text = "a raw blob of a running store has a whole header of layout V1";
-            return Err(Error::Argument(text.to_owned()));
+            return Err(Error::argument(
+                "a raw blob of a running store has a whole header of layout V1",
+            ));
         };
         let mut state = self.shared.lock();
         if is_power_off(&mut state.session) {
@@ -92,13 +87,11 @@ impl Store {
     /// Returns the digest of all durable blobs, as `docs/FORMATS.md` defines it. Makes no draw and changes nothing.
     ///
     /// ```
-    /// # fn main() -> Result<(), blobcrash::Error> {
     /// let store = blobcrash::Store::builder().open()?;
     /// let empty = store.audit();
     /// store.open("p", b"b")?;
     /// assert_ne!(store.audit(), empty);
-    /// # Ok(())
-    /// # }
+    /// # Ok::<(), blobcrash::Error>(())
     /// ```
     #[must_use]
     pub fn audit(&self) -> [u8; 4] {

@@ -1,6 +1,6 @@
 use crate::foreign::{BAD_CALL, NO_MEMORY, NO_ROOM, UNPRINTED};
 use std::fmt;
-use std::io;
+use std::io::{self, ErrorKind};
 
 /// Why a call was refused. The storage's refusals have the names of their replies (`docs/FORMATS.md`).
 ///
@@ -8,14 +8,12 @@ use std::io;
 ///
 /// ```
 /// # use blobcrash::{Error, Store};
-/// # fn main() -> Result<(), Error> {
 /// let store = Store::builder().open()?;
 /// let (_blob, _) = store.open("p", b"b")?;
 /// let error = store.open("p", b"b").unwrap_err();
 /// assert_eq!(error, Error::BlobAlreadyOpen("p".to_owned(), "62".to_owned()));
 /// assert_eq!(error.to_string(), "blob already open: p/62");
-/// # Ok(())
-/// # }
+/// # Ok::<(), Error>(())
 /// ```
 #[derive(Clone, Debug, PartialEq, Eq)]
 #[non_exhaustive]
@@ -103,41 +101,58 @@ pub enum Error {
     Unknown(String),
 }
 
-/// The refusals without texts, by their statuses.
-pub(crate) const REFUSALS: [(u32, Error); 22] = [
-    (16, Error::OffsetOverflow),
-    (17, Error::BlobInsufficientLength),
-    (25, Error::Closed),
-    (26, Error::ReadFailed),
-    (27, Error::WriteFailed),
-    (28, Error::Injected),
-    (29, Error::Memory),
-    (30, Error::GenerationsExhausted),
-    (31, Error::NoHandle),
-    (32, Error::EmptyRange),
-    (64, Error::Exists),
-    (65, Error::NotFound),
-    (66, Error::NotEmpty),
-    (67, Error::IsDirectory),
-    (68, Error::NotDirectory),
-    (69, Error::NameTooLong),
-    (70, Error::InvalidName),
-    (71, Error::TooManyLinks),
-    (72, Error::StaleHandle("the file is from before a crash")),
-    (73, Error::NoSpace),
-    (74, Error::Loop),
-    (75, Error::Crashed),
+/// A status, its error, its message, and the kind of I/O error that a file system would report.
+type Refusal = (u32, Error, &'static str, ErrorKind);
+
+/// The refusals without texts.
+#[rustfmt::skip]
+static REFUSALS: [Refusal; 22] = [
+    (16, Error::OffsetOverflow, "offset overflow", ErrorKind::InvalidInput),
+    (17, Error::BlobInsufficientLength, "blob insufficient length", ErrorKind::UnexpectedEof),
+    (25, Error::Closed, "closed", ErrorKind::Other),
+    (26, Error::ReadFailed, "read failed", ErrorKind::Other),
+    (27, Error::WriteFailed, "write failed", ErrorKind::Other),
+    (28, Error::Injected, "injected storage fault", ErrorKind::Other),
+    (29, Error::Memory, "out of memory", ErrorKind::OutOfMemory),
+    (30, Error::GenerationsExhausted, "generations exhausted", ErrorKind::Other),
+    (31, Error::NoHandle, "no handle of this number", ErrorKind::Other),
+    (32, Error::EmptyRange, "empty range of versions", ErrorKind::InvalidInput),
+    (64, Error::Exists, "the name is taken", ErrorKind::AlreadyExists),
+    (65, Error::NotFound, "no such file or directory", ErrorKind::NotFound),
+    (66, Error::NotEmpty, "directory not empty", ErrorKind::DirectoryNotEmpty),
+    (67, Error::IsDirectory, "is a directory", ErrorKind::IsADirectory),
+    (68, Error::NotDirectory, "not a directory", ErrorKind::NotADirectory),
+    (69, Error::NameTooLong, "a name has more than 255 bytes", ErrorKind::InvalidInput),
+    (70, Error::InvalidName, "invalid name", ErrorKind::InvalidInput),
+    (71, Error::TooManyLinks, "too many links", ErrorKind::TooManyLinks),
+    (72, Error::StaleHandle("the file is from before a crash"), "stale handle", ErrorKind::StaleNetworkFileHandle),
+    (73, Error::NoSpace, "no space left", ErrorKind::StorageFull),
+    (74, Error::Loop, "a directory would be moved below itself", ErrorKind::InvalidInput),
+    (75, Error::Crashed, "the recovery of the last crash failed: crash again", ErrorKind::Other),
 ];
 
 impl Error {
     /// The error of a status that isn't `DONE`. `reply` is the line of the reply, which has the texts of some refusals.
     #[cold]
     pub(crate) fn of(status: u32, reply: &str) -> Error {
-        if let Some((_, error)) = REFUSALS.iter().find(|row| row.0 == status) {
+        if let Some((_, error, ..)) = REFUSALS.iter().find(|row| row.0 == status) {
             return error.clone();
         }
         Error::with_texts(status, reply)
             .unwrap_or_else(|| Error::Unknown(format!("status {status} {reply}")))
+    }
+
+    pub(crate) fn argument(text: &str) -> Error {
+        Error::Argument(text.to_owned())
+    }
+
+    /// The status of a refusal without texts.
+    pub(crate) fn status(&self) -> Option<u32> {
+        self.refusal().map(|row| row.0)
+    }
+
+    fn refusal(&self) -> Option<&'static Refusal> {
+        REFUSALS.iter().find(|row| row.1 == *self)
     }
 
     fn with_texts(status: u32, reply: &str) -> Option<Error> {
@@ -146,7 +161,7 @@ impl Error {
         // An empty text is printed as `-`, which is no hex and a partition name that isn't refused.
         let or_empty = |text: String| if text == "-" { String::new() } else { text };
         Some(match status {
-            BAD_CALL => Error::Argument("a number isn't allowed in this call".to_owned()),
+            BAD_CALL => Error::argument("a number isn't allowed in this call"),
             NO_MEMORY | NO_ROOM | UNPRINTED => Error::OutOfMemory,
             18 => Error::PartitionNameInvalid(or_empty(field()?)),
             19 => Error::PartitionMissing(field()?),
@@ -169,8 +184,6 @@ impl Error {
 impl fmt::Display for Error {
     fn fmt(&self, f: &mut fmt::Formatter<'_>) -> fmt::Result {
         match self {
-            Error::OffsetOverflow => f.write_str("offset overflow"),
-            Error::BlobInsufficientLength => f.write_str("blob insufficient length"),
             Error::PartitionNameInvalid(partition) => {
                 write!(f, "partition name invalid: {partition}")
             }
@@ -196,27 +209,7 @@ impl fmt::Display for Error {
                 f,
                 "blob version mismatch: expected {first}..={last}, found {found}"
             ),
-            Error::Closed => f.write_str("closed"),
-            Error::ReadFailed => f.write_str("read failed"),
-            Error::WriteFailed => f.write_str("write failed"),
-            Error::Injected => f.write_str("injected storage fault"),
-            Error::Memory | Error::OutOfMemory => f.write_str("out of memory"),
-            Error::GenerationsExhausted => f.write_str("generations exhausted"),
-            Error::Exists => f.write_str("the name is taken"),
-            Error::NotFound => f.write_str("no such file or directory"),
-            Error::NotEmpty => f.write_str("directory not empty"),
-            Error::IsDirectory => f.write_str("is a directory"),
-            Error::NotDirectory => f.write_str("not a directory"),
-            Error::NameTooLong => f.write_str("a name has more than 255 bytes"),
-            Error::InvalidName => f.write_str("invalid name"),
-            Error::TooManyLinks => f.write_str("too many links"),
-            Error::NoSpace => f.write_str("no space left"),
-            Error::Loop => f.write_str("a directory would be moved below itself"),
-            Error::Crashed => {
-                f.write_str("the recovery of the last crash failed: crash again")
-            }
-            Error::NoHandle => f.write_str("no handle of this number"),
-            Error::EmptyRange => f.write_str("empty range of versions"),
+            Error::OutOfMemory => f.write_str("out of memory"),
             Error::StaleHandle(why) => write!(f, "stale handle: {why}"),
             Error::PowerLoss => f.write_str(
                 "the power is off: let the store crash and reopen, by `restart` or `recover`",
@@ -228,6 +221,7 @@ impl fmt::Display for Error {
             Error::Argument(text) => f.write_str(text),
             Error::BadLine(line) => write!(f, "bad line: {line}"),
             Error::Unknown(line) => write!(f, "unknown reply: {line}"),
+            without_texts => f.write_str(without_texts.refusal().map_or("", |row| row.2)),
         }
     }
 }
@@ -249,32 +243,18 @@ impl std::error::Error for Error {}
 impl From<Error> for io::Error {
     fn from(error: Error) -> io::Error {
         let kind = match &error {
-            Error::BlobInsufficientLength => io::ErrorKind::UnexpectedEof,
-            Error::PartitionMissing(_) | Error::BlobMissing(..) | Error::NotFound => {
-                io::ErrorKind::NotFound
-            }
-            Error::OffsetOverflow
-            | Error::PartitionNameInvalid(_)
-            | Error::EmptyRange
-            | Error::NameTooLong
-            | Error::InvalidName
-            | Error::Loop
+            Error::PartitionMissing(_) | Error::BlobMissing(..) => ErrorKind::NotFound,
+            Error::PartitionNameInvalid(_)
             | Error::NeedsSeed
             | Error::Argument(_)
-            | Error::BadLine(_) => io::ErrorKind::InvalidInput,
+            | Error::BadLine(_) => ErrorKind::InvalidInput,
             Error::BlobCorrupt(..)
             | Error::BlobLayoutMismatch { .. }
-            | Error::BlobVersionMismatch { .. } => io::ErrorKind::InvalidData,
-            Error::BlobAlreadyOpen(..) => io::ErrorKind::ResourceBusy,
-            Error::Memory | Error::OutOfMemory => io::ErrorKind::OutOfMemory,
-            Error::Exists => io::ErrorKind::AlreadyExists,
-            Error::NotEmpty => io::ErrorKind::DirectoryNotEmpty,
-            Error::IsDirectory => io::ErrorKind::IsADirectory,
-            Error::NotDirectory => io::ErrorKind::NotADirectory,
-            Error::TooManyLinks => io::ErrorKind::TooManyLinks,
-            Error::NoSpace => io::ErrorKind::StorageFull,
-            Error::StaleHandle(_) => io::ErrorKind::StaleNetworkFileHandle,
-            _ => io::ErrorKind::Other,
+            | Error::BlobVersionMismatch { .. } => ErrorKind::InvalidData,
+            Error::BlobAlreadyOpen(..) => ErrorKind::ResourceBusy,
+            Error::OutOfMemory => ErrorKind::OutOfMemory,
+            Error::StaleHandle(_) => ErrorKind::StaleNetworkFileHandle,
+            other => other.refusal().map_or(ErrorKind::Other, |row| row.3),
         };
         io::Error::new(kind, error)
     }
@@ -288,52 +268,32 @@ mod tests {
     #[test]
     fn replies_are_parsed() {
         let text = str::to_owned;
-        let already = Error::BlobAlreadyOpen(text("partition"), text("626c6f62"));
-        let version = Error::BlobVersionMismatch {
-            expected: (3, 7),
-            found: 10,
-        };
-        let corrupt = Error::BlobCorrupt(
-            text("image"),
-            text("626c6f62"),
-            text("invalid header checksum"),
-        );
-        for (name, line, error) in [
-            ("INJECTED", "error Injected", Error::Injected),
-            (
-                "BLOB_ALREADY_OPEN",
-                "error BlobAlreadyOpen partition 626c6f62",
-                already,
-            ),
-            (
-                "BLOB_VERSION_MISMATCH",
-                "error BlobVersionMismatch 3 7 10",
-                version,
-            ),
-            (
-                "BLOB_CORRUPT",
-                "error BlobCorrupt image 626c6f62 invalid header checksum",
-                corrupt,
-            ),
-            (
-                "BLOB_MISSING",
-                "error BlobMissing p -",
-                Error::BlobMissing(text("p"), text("")),
-            ),
-            (
-                "PARTITION_MISSING",
-                "error PartitionMissing -",
-                Error::PartitionMissing(text("-")),
-            ),
-            (
-                "PARTITION_NAME_INVALID",
-                "error PartitionNameInvalid -",
-                Error::PartitionNameInvalid(text("")),
-            ),
-        ] {
+        let parses = |name: &str, line: &str, error: Error| {
             let status = header()[format!("E_{name}").as_str()];
             assert_eq!(Error::of(status, line), error);
-        }
+        };
+        parses("INJECTED", "error Injected", Error::Injected);
+        let already = Error::BlobAlreadyOpen(text("partition"), text("626c6f62"));
+        let line = "error BlobAlreadyOpen partition 626c6f62";
+        parses("BLOB_ALREADY_OPEN", line, already);
+        let (expected, found) = ((3, 7), 10);
+        let version = Error::BlobVersionMismatch { expected, found };
+        let line = "error BlobVersionMismatch 3 7 10";
+        parses("BLOB_VERSION_MISMATCH", line, version);
+        let reason = text("invalid header checksum");
+        let corrupt = Error::BlobCorrupt(text("image"), text("626c6f62"), reason);
+        let line = "error BlobCorrupt image 626c6f62 invalid header checksum";
+        parses("BLOB_CORRUPT", line, corrupt);
+        let missing = Error::BlobMissing(text("p"), text(""));
+        parses("BLOB_MISSING", "error BlobMissing p -", missing);
+        let missing = Error::PartitionMissing(text("-"));
+        parses("PARTITION_MISSING", "error PartitionMissing -", missing);
+        let invalid = Error::PartitionNameInvalid(text(""));
+        parses(
+            "PARTITION_NAME_INVALID",
+            "error PartitionNameInvalid -",
+            invalid,
+        );
         let unknown = Error::Unknown(text("status 15 ok"));
         assert_eq!(Error::of(15, "ok"), unknown);
     }
@@ -341,7 +301,7 @@ mod tests {
     #[test]
     fn refusals_are_those_of_the_headers() {
         let files = enumerators(include_str!("../../c/blobcrash_files.h"));
-        for (status, error) in REFUSALS {
+        for (status, error, ..) in &REFUSALS {
             let text = match error {
                 Error::StaleHandle(_) => "Stale".to_owned(),
                 other => format!("{other:?}"),
@@ -351,7 +311,7 @@ mod tests {
                 .get(format!("E_{name}").as_str())
                 .or(files.get(format!("F_{name}").as_str()))
                 .copied();
-            assert_eq!(found, Some(status), "{name}");
+            assert_eq!(found, Some(*status), "{name}");
         }
         // None is left out: seven have texts.
         let is_refusal = |name: &str| name.starts_with("E_");

@@ -150,11 +150,12 @@ impl Run<Store> {
 
 fn state_of(store: &Store, at: &'static Location<'static>, losses: u64) -> Result<State, Error> {
     let mut inner = store.shared.lock();
-    let Some(script) = &inner.session.script else {
-        let text = "a restart is compared by the script: the builder can't be `unrecorded`";
-        return Err(Error::Argument(text.to_owned()));
+    let Some(record) = &inner.session.record else {
+        return Err(Error::argument(
+            "a restart is compared by the script: the builder can't be `unrecorded`",
+        ));
     };
-    let text = script.calls();
+    let text = record.calls();
     let (mut names, mut crashes) = (BTreeSet::new(), 0);
     for line in text.lines() {
         match tokens(line)[..] {

@@ -1,6 +1,7 @@
 //! Every outcome of a small run.
 use crate::choices::{BOUND_IT, Choices};
 use crate::expecting::States;
+use crate::limits::Limited;
 use crate::path_text::choices_of;
 use crate::paths::Path;
 use crate::unsynced::Met;
@@ -48,6 +49,41 @@ pub struct Explored<T> {
     /// assert_eq!(visited.unwrap().to_string(), text);
     /// ```
     pub unkept: &'static str,
+}
+
+impl<T: Ord> Explored<T> {
+    /// What is visited before the first run.
+    pub(crate) fn new() -> Explored<T> {
+        Explored {
+            runs: 0,
+            outcomes: BTreeMap::new(),
+            is_complete: false,
+            met: 0,
+            unkept: "",
+        }
+    }
+
+    /// Counts a run. Returns `Failed` with its path if its body returned an error.
+    pub(crate) fn add<S: Limited, E>(
+        &mut self,
+        run: &Run<S>,
+        result: Result<T, E>,
+        path: impl FnOnce(&Run<S>) -> String,
+    ) -> Result<(), ExploreError<E>> {
+        self.runs += 1;
+        match result {
+            Ok(outcome) => *self.outcomes.entry(outcome).or_insert(0) += 1,
+            Err(error) => {
+                return Err(ExploreError::Failed {
+                    error,
+                    run: self.runs,
+                    path: Box::new(path(run)),
+                    script: run.script(),
+                });
+            }
+        }
+        Ok(())
+    }
 }
 
 impl<T> fmt::Display for Explored<T> {
@@ -287,38 +323,22 @@ impl<B: Explorable> Exploration<B> {
         }
         let (mut path, mut words) = (Path::below(choices_of(&self.under)?), WORDS);
         let builder = self.builder.prepared(None)?;
-        let mut visited = Explored {
-            runs: 0,
-            outcomes: BTreeMap::new(),
-            is_complete: false,
-            met: 0,
-            unkept: "",
-        };
+        let mut visited = Explored::new();
         let mut states = States::default();
         let mut met = Met::default();
         while visited.runs < self.limit {
-            let choices = Choices::new(path, self.losses, self.calls).with_states(states);
+            let mut choices = Choices::new(path, self.losses, self.calls);
+            choices.states = states;
             let run = Run::explored(&builder, choices, words, visited.runs + 1)?;
             let result = catch_unwind(AssertUnwindSafe(|| body(&run)));
             if run.choices(Choices::end) {
                 let (run, script, most) = (visited.runs + 1, run.script(), self.calls);
                 return Err(ExploreError::TooLong { run, most, script });
             }
-            states = run.choices(Choices::take_states);
-            if run.choices(|choices| choices.is_met()) {
-                visited.met += 1;
-                path = run.choices(|choices| std::mem::take(&mut choices.path));
-                if !path.end() {
-                    return Err(ExploreError::NotDeterministic);
-                }
-                if !path.advance() {
-                    visited.is_complete = true;
-                    break;
-                }
-                continue;
-            }
-            let result = result.unwrap_or_else(|panic| resume_unwind(panic));
-            if run.choices(|choices| choices.is_short()) {
+            states = run.choices(|choices| std::mem::take(&mut choices.states));
+            let is_met = run.choices(|choices| choices.is_met);
+            let result = (!is_met).then(|| result.unwrap_or_else(|panic| resume_unwind(panic)));
+            if !is_met && run.choices(|choices| choices.is_short) {
                 words *= 2;
                 path = run.choices(|choices| std::mem::take(&mut choices.path));
                 continue;
@@ -326,22 +346,14 @@ impl<B: Explorable> Exploration<B> {
             if run.choices(|choices| !choices.path.end()) {
                 return Err(ExploreError::NotDeterministic);
             }
-            visited.runs += 1;
-            met.add(run.met());
             match result {
-                Ok(outcome) => *visited.outcomes.entry(outcome).or_insert(0) += 1,
-                Err(error) => {
-                    let (path, script) = (
-                        run.choices(|choices| Box::new(choices.path_text())),
-                        run.script(),
-                    );
-                    return Err(ExploreError::Failed {
-                        error,
-                        run: visited.runs,
-                        path,
-                        script,
-                    });
+                Some(result) => {
+                    met.add(run.met());
+                    visited.add(&run, result, |run| {
+                        run.choices(|choices| choices.path_text())
+                    })?;
                 }
+                None => visited.met += 1,
             }
             path = run.choices(|choices| std::mem::take(&mut choices.path));
             if !path.advance() {
@@ -356,9 +368,8 @@ impl<B: Explorable> Exploration<B> {
 
 /// The error of an exploration without runs, which would check nothing.
 pub(crate) fn nothing_to_run<E>() -> ExploreError<E> {
-    ExploreError::Store(Error::Argument(
-        "there is nothing to run: no seeds, or a limit of 0 runs".to_owned(),
-    ))
+    let text = "there is nothing to run: no seeds, or a limit of 0 runs";
+    ExploreError::Store(Error::argument(text))
 }
 
 /// Calls `body` with each run of an [`Exploration`] without power losses, at most `limit` times. Errors as [`Exploration::visit`].

@@ -1,5 +1,6 @@
-//! The library as it is declared in `bindings/c/blobcrash.h`: its statuses, structs and functions. `library` and `paths` alone call them.
-use crate::debt_calls::{DebtReply, RawDebtCall};
+//! The library as it is declared in `bindings/c/blobcrash.h`: its statuses, structs and functions. `library`, `session` and `paths` alone
+//! call them.
+use crate::debt_calls::{DebtCall, DebtReply};
 use std::ffi::c_void;
 
 pub(crate) const DONE: u32 = 0;
@@ -27,6 +28,8 @@ pub(crate) const LAYOUT_MISMATCH: u32 = 50;
 pub(crate) const VERSION_MISMATCH: u32 = 51;
 pub(crate) const INVALID_CHECKSUM: u32 = 52;
 pub(crate) const INVALID_PADDING: u32 = 53;
+/// An open would create the blob.
+pub(crate) const TO_CREATE: u32 = 55;
 
 /// A session, which belongs to the library.
 #[repr(C)]
@@ -86,28 +89,44 @@ pub(crate) struct TypedReply {
     pub(crate) size: u64,
 }
 
-/// The kinds of calls.
-#[derive(Clone, Copy, Debug, PartialEq, Eq)]
-#[repr(u32)]
-pub(crate) enum Kind {
-    Open = 0,
-    OpenLoose = 1,
-    Admit = 2,
-    Close = 3,
-    Resize = 4,
-    Size = 5,
-    Sync = 6,
-    StartSync = 7,
-    Finish = 8,
-    RemoveBlob = 9,
-    RemovePartition = 10,
-    Scan = 11,
-    Crash = 12,
-    Reopen = 13,
-    Read = 14,
-    Write = 15,
-    WriteSync = 16,
-    Configure = 17,
+/// Declares kinds of calls, with the numbers that the C header gives them.
+macro_rules! kinds {
+    ($(#[$about:meta])* $name:ident { $($kind:ident = $number:literal,)* }) => {
+        $(#[$about])*
+        #[derive(Clone, Copy, Debug, PartialEq, Eq)]
+        #[repr(u32)]
+        pub(crate) enum $name { $($kind = $number,)* }
+
+        #[cfg(test)]
+        impl $name {
+            pub(crate) const ALL: &[(&str, u32)] = &[$((stringify!($kind), $number),)*];
+        }
+    };
+}
+pub(crate) use kinds;
+
+kinds! {
+    /// The kinds of calls.
+    Kind {
+        Open = 0,
+        OpenLoose = 1,
+        Admit = 2,
+        Close = 3,
+        Resize = 4,
+        Size = 5,
+        Sync = 6,
+        StartSync = 7,
+        Finish = 8,
+        RemoveBlob = 9,
+        RemovePartition = 10,
+        Scan = 11,
+        Crash = 12,
+        Reopen = 13,
+        Read = 14,
+        Write = 15,
+        WriteSync = 16,
+        Configure = 17,
+    }
 }
 
 /// A run of bytes of one write that a crash kept.
@@ -249,7 +268,7 @@ unsafe extern "C" {
     pub(crate) fn blobcrash_audit(session: *mut RawSession, into: *mut u8, capacity: usize) -> Ran;
     pub(crate) fn blobcrash_debt(
         session: *mut RawSession,
-        asked: *const RawDebtCall,
+        asked: *const DebtCall,
         partition: *const u8,
         partition_len: usize,
         name: *const u8,
@@ -290,6 +309,18 @@ unsafe extern "C" {
         raw_len: u64,
         accepts: *const Accepts,
     ) -> ParsedHeader;
+    pub(crate) fn blobcrash_resolve_header(
+        raw: *const u8,
+        len: usize,
+        raw_len: u64,
+        accepts: *const Accepts,
+    ) -> ParsedHeader;
+    pub(crate) fn blobcrash_create_header(
+        layout: u16,
+        version: u16,
+        into: *mut u8,
+        capacity: usize,
+    ) -> Ran;
     pub(crate) fn blobcrash_interrupted_creation(layout: u16, raw: *const u8, len: usize) -> bool;
     pub(crate) fn blobcrash_run(
         script: *const u8,
@@ -369,6 +400,7 @@ pub(crate) mod tests {
             ("H_VERSION_MISMATCH", VERSION_MISMATCH),
             ("H_INVALID_CHECKSUM", INVALID_CHECKSUM),
             ("H_INVALID_PADDING", INVALID_PADDING),
+            ("H_TO_CREATE", TO_CREATE),
         ] {
             assert_eq!(header.get(name), Some(&number), "{name}");
         }
@@ -376,34 +408,18 @@ pub(crate) mod tests {
         assert_eq!(refusals.map(|row| *row.1).min(), Some(FIRST_REFUSAL));
     }
 
-    #[test]
-    fn kinds() {
-        let header = header();
-        let kinds = [
-            Kind::Open,
-            Kind::OpenLoose,
-            Kind::Admit,
-            Kind::Close,
-            Kind::Resize,
-            Kind::Size,
-            Kind::Sync,
-            Kind::StartSync,
-            Kind::Finish,
-            Kind::RemoveBlob,
-            Kind::RemovePartition,
-            Kind::Scan,
-            Kind::Crash,
-            Kind::Reopen,
-            Kind::Read,
-            Kind::Write,
-            Kind::WriteSync,
-            Kind::Configure,
-        ];
-        for (at, kind) in kinds.into_iter().enumerate() {
-            let name = upper(&format!("{kind:?}"));
-            assert_eq!(header.get(name.as_str()), Some(&(kind as u32)), "{name}");
-            // None is left out.
-            assert_eq!(kind as usize, at);
+    /// Checks that these kinds have the numbers that a header gives their names after a prefix.
+    pub(crate) fn check_kinds(header: &BTreeMap<&str, u32>, prefix: &str, kinds: &[(&str, u32)]) {
+        for (kind, number) in kinds {
+            let name = format!("{prefix}{}", upper(kind));
+            assert_eq!(header.get(name.as_str()), Some(number), "{name}");
         }
+    }
+
+    #[test]
+    fn kinds_are_those_of_the_header() {
+        check_kinds(&header(), "", Kind::ALL);
+        // None is left out.
+        assert!((0..).zip(Kind::ALL).all(|(at, (_, number))| at == *number));
     }
 }

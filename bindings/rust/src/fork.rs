@@ -17,7 +17,6 @@ impl Store {
     ///
     /// ```
     /// # use blobcrash::{Store, WriteOptions};
-    /// # fn main() -> Result<(), blobcrash::Error> {
     /// let store = Store::builder().seed(7).open()?;
     /// let (blob, _) = store.open("p", b"b")?;
     /// blob.write_at(0, b"abc", WriteOptions::SYNC)?;
@@ -27,21 +26,19 @@ impl Store {
     ///     outcome.reopen()?;
     ///     assert_eq!(outcome.open("p", b"b")?.1, 3);
     /// }
-    /// # Ok(())
-    /// # }
+    /// # Ok::<(), blobcrash::Error>(())
     /// ```
     pub fn fork(&self) -> Result<Store, Error> {
         let mut state = self.shared.lock();
         let power = state.session.power();
-        let refused = |text: &str| Error::Argument(text.to_owned());
-        let Some(script) = &state.session.script else {
-            return Err(refused("a store without a script can't be forked"));
+        let Some(record) = &state.session.record else {
+            return Err(Error::argument("a store without a script can't be forked"));
         };
         if power.is_off || power.is_counting || state.limits.choices.is_some() {
             let text = "a store of an explored run, or with a limited power, can't be forked";
-            return Err(refused(text));
+            return Err(Error::argument(text));
         }
-        let text = script.text();
+        let text = record.text();
         // Only a line feed ends a line: `str::lines` would drop a carriage return, which is a part of a token.
         let lines: Vec<&str> = text.split_terminator('\n').collect();
         let is_first = |line: &&str| ["image", "words", "seed"].contains(&first_word(line));
@@ -50,15 +47,10 @@ impl Store {
         for line in &lines[first..] {
             session.call(line)?;
         }
-        session.script = Some(script.clone());
-        let forked = State::new(session, state.config(), Limits::default());
-        let shared = &self.shared;
-        let (has_draws, allow_stale) = (shared.has_draws, shared.allow_stale);
-        Ok(Store::of(Shared::new(
-            forked,
-            has_draws,
-            allow_stale,
-            shared.is_pushed,
-        )))
+        session.record = Some(record.clone());
+        let mut forked = State::new(session, state.config(), Limits::default());
+        (forked.allow_stale, forked.is_pushed) = (state.allow_stale, state.is_pushed);
+        let shared = Shared::new(forked, self.shared.has_draws);
+        Ok(Store { shared })
     }
 }

@@ -39,13 +39,11 @@ impl<T: Send + 'static> Handle<T> {
     ///
     /// ```
     /// # use blobcrash::storage::Handle;
-    /// # fn main() -> Result<(), blobcrash::Error> {
     /// let store = blobcrash::Store::builder().seed(7).open()?;
     /// let (blob, _) = store.open("p", b"b")?;
     /// let started = blob.start_sync()?;
     /// Handle::new(|| started.finish()).wait()?;
-    /// # Ok(())
-    /// # }
+    /// # Ok::<(), blobcrash::Error>(())
     /// ```
     pub fn new(finish: impl FnOnce() -> Result<T, Error> + Send + 'static) -> Handle<T> {
         Handle {

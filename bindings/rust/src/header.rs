@@ -11,9 +11,9 @@
 //! assert_eq!(resolved, Ok(Some((4, version, 4096))));
 //! ```
 use crate::Error;
-use crate::foreign::{self, Accepts, Kind};
-use crate::library::{self, Session};
-use crate::script::{hex, image_line};
+use crate::foreign::{self, Accepts, ParsedHeader};
+use crate::library;
+use crate::script::hex;
 use crate::storage::BlobVersion;
 use std::fmt;
 use std::ops::RangeInclusive;
@@ -228,14 +228,28 @@ pub fn parse(
     layouts: &RangeInclusive<Layout>,
     versions: &RangeInclusive<BlobVersion>,
 ) -> Result<(u64, BlobVersion, u64), HeaderError> {
-    let accepts = Accepts {
+    let parsed = library::parse_header(raw, raw_len, &accepts(layouts, versions));
+    let parsed = parsed.expect("`raw` has the header region");
+    found(&parsed, raw, raw_len, layouts, versions)
+}
+
+fn accepts(layouts: &RangeInclusive<Layout>, versions: &RangeInclusive<BlobVersion>) -> Accepts {
+    Accepts {
         oldest: layouts.start().layout_version(),
         newest: layouts.end().layout_version(),
         least: versions.start().get(),
         greatest: versions.end().get(),
-    };
-    let parsed = library::parse_header(raw, raw_len, &accepts);
-    let parsed = parsed.expect("`raw` has the header region");
+    }
+}
+
+/// Returns what the library found in a header.
+fn found(
+    parsed: &ParsedHeader,
+    raw: &[u8],
+    raw_len: u64,
+    layouts: &RangeInclusive<Layout>,
+    versions: &RangeInclusive<BlobVersion>,
+) -> Result<(u64, BlobVersion, u64), HeaderError> {
     let number = parsed.version as u16;
     let found = [raw[0], raw[1], raw[2], raw[3]];
     Err(match parsed.status {
@@ -283,18 +297,12 @@ pub fn create(
     assert!(!layouts.is_empty(), "blob layouts must be non-empty");
     assert!(!versions.is_empty(), "blob versions must be non-empty");
     let (layout, version) = (*layouts.end(), *versions.end());
-    let mut region = layout.magic().to_vec();
-    region.extend(layout.layout_version().to_be_bytes());
-    region.extend(version.get().to_be_bytes());
-    if layout == Layout::V1 {
-        region.extend(checksum(&region).to_be_bytes());
-        region.resize(REGION, 0);
-    }
-    (region, version)
+    let region = library::create_header(layout.layout_version(), version.get());
+    (region.expect("there is memory for a header"), version)
 }
 
 /// Resolves a blob's header. `raw` has the blob's first `min(raw_len, 4096)` bytes at least, and `raw_len` is the length of the whole
-/// blob. The library resolves it, in a session of its own.
+/// blob. The library resolves it.
 ///
 /// Returns the logical size, the version and the data offset, or `None` if an open would create the blob again: it is shorter than any
 /// header, or has what an interrupted creation leaves.
@@ -323,71 +331,25 @@ pub fn resolve(
     partition: &str,
     name: &[u8],
 ) -> Result<Option<(u64, BlobVersion, u64)>, Error> {
-    let needed = raw_len.min(REGION as u64) as usize;
-    let prefix = raw.get(..needed);
-    let mut image = prefix.expect("`raw` has the header region").to_vec();
-    // Of bytes after the region only their number counts, and this only in the size.
-    let more = raw_len - needed as u64;
-    image.extend((more > 0).then_some(0));
-    let found = found(&image).map_err(|error| match error {
-        Error::BlobCorrupt(_, _, reason) => {
-            Error::BlobCorrupt(partition.to_owned(), hex(name), reason)
-        }
-        other => other,
-    })?;
-    let Some((size, version)) = found else {
-        return Ok(None);
-    };
-    let data_offset = image.len() as u64 - size;
-    let [v0, v1] = [Layout::V0, Layout::V1];
-    let layout = if data_offset == v0.data_offset() {
-        v0
-    } else {
-        v1
-    };
-    if !layouts.contains(&layout) {
-        let expected = (layouts.start().to_string(), layouts.end().to_string());
-        let found = layout.to_string();
-        return Err(Error::BlobLayoutMismatch { expected, found });
+    let prefix = raw.get(..raw_len.min(REGION as u64) as usize);
+    let raw = prefix.expect("`raw` has the header region");
+    let parsed = library::resolve_header(raw, raw_len, &accepts(layouts, versions));
+    let parsed = parsed.expect("these are the layouts of the library");
+    match parsed.status {
+        foreign::TO_CREATE => return Ok(None),
+        foreign::NO_MEMORY => return Err(Error::OutOfMemory),
+        _ => {}
     }
-    if !versions.contains(&version) {
-        let expected = (versions.start().get(), versions.end().get());
-        let found = version.get();
-        return Err(Error::BlobVersionMismatch { expected, found });
-    }
-    Ok(Some((raw_len - data_offset, version, data_offset)))
-}
-
-/// Returns the size and the version that an open of this image finds, or `None` if it creates the blob again.
-fn found(image: &[u8]) -> Result<Option<(u64, BlobVersion)>, Error> {
-    let (size, version) = opened(image, u16::MAX)?;
-    if size > 0 || version != u16::MAX {
-        return Ok(Some((size, BlobVersion::new(version))));
-    }
-    // A blob that is created has the greatest version, which isn't the same the second time.
-    match opened(image, u16::MAX - 1) {
-        Err(Error::BlobVersionMismatch { .. }) => Ok(Some((0, BlobVersion::new(u16::MAX)))),
-        other => other.map(|_| None),
-    }
-}
-
-/// Opens an image for the versions up to the last one. Returns its size and version.
-fn opened(image: &[u8], last: u16) -> Result<(u64, u16), Error> {
-    let mut session = Session::open(&image_line("image", b"blob", image)?)?;
-    let reply = session.by_name(Kind::OpenLoose, "image", b"blob", [0, last])?;
-    Ok((reply.size, reply.version as u16))
-}
-
-/// The CRC32C of bytes.
-fn checksum(bytes: &[u8]) -> u32 {
-    let all = bytes.iter().fold(u32::MAX, |sum, byte| {
-        (0..8).fold(sum ^ u32::from(*byte), |sum, _| {
-            if sum & 1 == 1 {
-                sum >> 1 ^ 0x82F6_3B78
-            } else {
-                sum >> 1
-            }
-        })
-    });
-    !all
+    let resolved = found(&parsed, raw, raw_len, layouts, versions);
+    resolved.map(Some).map_err(|error| match error {
+        HeaderError::LayoutMismatch { expected, found } => Error::BlobLayoutMismatch {
+            expected: (expected.start().to_string(), expected.end().to_string()),
+            found: found.to_string(),
+        },
+        HeaderError::VersionMismatch { expected, found } => Error::BlobVersionMismatch {
+            expected: (expected.start().get(), expected.end().get()),
+            found: found.get(),
+        },
+        corrupt => Error::BlobCorrupt(partition.to_owned(), hex(name), corrupt.to_string()),
+    })
 }

@@ -6,7 +6,6 @@
 //! ```
 //! use blobcrash::{Config, PartialWriteMode, Probability, Store, WriteConfig, WriteOptions};
 //!
-//! # fn main() -> Result<(), blobcrash::Error> {
 //! let store = Store::builder()
 //!     .seed(7)
 //!     .config(Config::default().write(WriteConfig {
@@ -22,8 +21,7 @@
 //! let (log, size) = store.open("wal", b"0")?;
 //! assert!(size >= 6);
 //! assert_eq!(log.read_at(0, 6)?, b"record");
-//! # Ok(())
-//! # }
+//! # Ok::<(), blobcrash::Error>(())
 //! ```
 //!
 //! The layer itself is proved; this crate, which only calls it, is tested. Threads may share a [`Store`]: each call takes its lock.
@@ -59,10 +57,12 @@ mod path_text;
 mod paths;
 mod pending;
 mod power;
+mod record;
 mod replay;
 mod run;
 mod script;
 mod seeds;
+mod session;
 mod shared;
 mod shrink;
 pub mod storage;

@@ -1,59 +1,54 @@
-//! Safe functions over those of the library. No other file calls an `unsafe` function.
+//! Safe functions over those of the library that a store has alone, or that need no session. `unsafe` functions are called here, in
+//! `session` and in `paths`, and those of files in `files/library`.
 use crate::debt_calls::{DebtCall, DebtReply};
 use crate::foreign::*;
-use crate::limits::Recorded;
-use crate::script::{Script, first_word};
-use crate::{Error, Selections};
-use std::{mem, ptr};
+use crate::script::first_word;
+use crate::session::{self, Functions, Raw};
+use crate::{Error, Selections, record};
+use std::ptr;
 
-/// An open session of the library, which is closed when it is dropped.
-///
-/// `&mut self` prevents two calls at the same time. The session may be moved: the library keeps no address of it between calls.
-#[derive(Debug)]
-pub(crate) struct Session {
-    raw: RawSession,
-    reply: Vec<u8>,
-    /// The calls that were made, if they are recorded.
-    pub(crate) script: Option<Script>,
-    /// Whether a call wasn't made since the power went off.
-    has_lost: bool,
+/// A session of a store.
+pub(crate) type Session = session::Session<RawSession>;
+
+impl Raw for RawSession {
+    type Asked = Asked;
+    const CLOSED: RawSession = RawSession {
+        at: ptr::null_mut(),
+        is_open: false,
+    };
+    const FUNCTIONS: Functions<RawSession> = Functions {
+        open: blobcrash_open,
+        push_words: blobcrash_push_words,
+        words_left: blobcrash_words_left,
+        power: blobcrash_power,
+        power_on: blobcrash_power_on,
+        power_off_after: blobcrash_power_off_after,
+        kept_run: blobcrash_kept_run,
+        close: blobcrash_close,
+    };
 }
 
-// SAFETY: nothing of a session belongs to a thread. The library has no thread-local data and no global data that changes, and its
-// blocks come from the process's allocator, which any thread may call. Calls of one session are ordered: each takes `&mut self`.
-unsafe impl Send for Session {}
+impl record::Asked for Asked {
+    fn line(&self, partition: &[u8], name: &[u8]) -> String {
+        let mut line = line_of(self, partition, name);
+        // The library leaves these out, since an open without versions accepts 0 alone.
+        if self.kind <= Kind::OpenLoose as u32 && (self.first, self.last) == (0, 0) {
+            line.push_str(" 0 0");
+        }
+        line
+    }
+}
 
 /// A read of more bytes asks for the size of the blob before it allocates.
 const SMALL: usize = 65536;
 
 impl Session {
-    /// Opens a session with the lines before a script's calls.
-    pub(crate) fn open(preamble: &str) -> Result<Session, Error> {
-        let mut session = Session {
-            raw: RawSession {
-                at: ptr::null_mut(),
-                is_open: false,
-            },
-            reply: vec![0; 256],
-            script: None,
-            has_lost: false,
-        };
-        // SAFETY: the session is all zeros, and the text is borrowed for the call.
-        let ran = unsafe { blobcrash_open(&mut session.raw, preamble.as_ptr(), preamble.len()) };
-        match ran.status {
-            DONE => Ok(session),
-            BAD_LINE => {
-                let line = preamble.split('\n').nth(ran.line as usize - 1);
-                Err(Error::BadLine(line.unwrap_or_default().to_owned()))
-            }
-            _ => Err(Error::OutOfMemory),
-        }
-    }
-
     /// Makes the call of a line and returns its reply line.
     pub(crate) fn call(&mut self, line: &str) -> Result<&str, Error> {
         let ran = self.ran(line)?;
-        self.record(|script| script.push_line(line));
+        if let Some(record) = &mut self.record {
+            record.push_line(line);
+        }
         self.told(ran)
     }
 
@@ -122,8 +117,8 @@ impl Session {
     /// Records a typed call that was made. Returns its refusal.
     #[inline(always)]
     fn took(&mut self, status: u32, asked: Asked, of: &str, name: &[u8]) -> Result<(), Error> {
-        if self.script.is_some() && (status == DONE || status >= FIRST_REFUSAL) {
-            self.record(|script| script.push(asked, of.as_bytes(), name));
+        if self.record.is_some() && (status == DONE || status >= FIRST_REFUSAL) {
+            self.push(asked, of.as_bytes(), name);
         }
         if status == DONE {
             return Ok(());
@@ -144,19 +139,10 @@ impl Session {
             .map_or_else(|e| e, |reply| Error::of(status, reply))
     }
 
-    /// Notes the first call that isn't made since the power is off.
     #[cold]
-    fn lost_power(&mut self) -> Error {
-        if !mem::replace(&mut self.has_lost, true) && !self.power().has_crashed {
-            self.note("power loss");
-        }
-        Error::PowerLoss
-    }
-
-    #[cold]
-    fn record(&mut self, push: impl FnOnce(&mut Script)) {
-        if let Some(script) = &mut self.script {
-            push(script);
+    fn push(&mut self, asked: Asked, partition: &[u8], name: &[u8]) {
+        if let Some(record) = &mut self.record {
+            record.push(asked, partition, name, String::new());
         }
     }
 
@@ -238,13 +224,6 @@ impl Session {
         self.took(status, moved(Kind::Read, handle, offset, len), "", b"")
     }
 
-    /// Inserts words before those that the generator gives next.
-    pub(crate) fn push_words(&mut self, words: &[u64]) -> Result<(), Error> {
-        // SAFETY: as for `call`; the words are borrowed for the call.
-        let status = unsafe { blobcrash_push_words(&mut self.raw, words.as_ptr(), words.len()) };
-        (status == DONE).then_some(()).ok_or(Error::OutOfMemory)
-    }
-
     /// Makes a call of the session's registry of durability debt. `already` is the error of a name that is open.
     pub(crate) fn owe(
         &mut self,
@@ -253,11 +232,10 @@ impl Session {
         name: &[u8],
         already: impl FnOnce() -> Error,
     ) -> Result<DebtReply, Error> {
-        let asked = call.raw();
         let (of, of_len) = (partition.as_ptr(), partition.len());
         let raw = &mut self.raw;
         // SAFETY: as for `call`; the numbers and the names are borrowed for the call.
-        let reply = unsafe { blobcrash_debt(raw, &asked, of, of_len, name.as_ptr(), name.len()) };
+        let reply = unsafe { blobcrash_debt(raw, &call, of, of_len, name.as_ptr(), name.len()) };
         reply.taken(already)
     }
 
@@ -268,12 +246,8 @@ impl Session {
         name: &[u8],
         with_header: bool,
     ) -> Result<Option<Vec<u8>>, Error> {
-        let (of, of_len, named, named_len) = (
-            partition.as_ptr(),
-            partition.len(),
-            name.as_ptr(),
-            name.len(),
-        );
+        let (of, of_len) = (partition.as_ptr(), partition.len());
+        let (named, named_len) = (name.as_ptr(), name.len());
         let raw = &mut self.raw;
         // SAFETY: as for `call`; the texts and the buffer are borrowed for the call, and don't overlap.
         let copied = copied(SMALL, |at, capacity| unsafe {
@@ -294,15 +268,6 @@ impl Session {
             blobcrash_name(raw, index, at, room)
         });
         copied.map_err(|status| Error::of(status, ""))
-    }
-
-    /// Returns what a crash with this many rows, the last call, kept of each write.
-    pub(crate) fn kept(&mut self, rows: u64) -> Selections {
-        let raw = &mut self.raw;
-        // SAFETY: as for `call`.
-        selections(rows, |row, from| unsafe {
-            blobcrash_kept_run(raw, row, from)
-        })
     }
 
     /// Returns the digest of all durable blobs.
@@ -333,42 +298,6 @@ impl Session {
             return Err(Error::OutOfMemory);
         }
         Ok(std::str::from_utf8(&self.reply[..ran.len]).expect("replies to UTF-8 lines are UTF-8"))
-    }
-}
-
-impl Recorded for Session {
-    fn words_left(&mut self) -> Option<usize> {
-        // SAFETY: as for `call`.
-        let ran = unsafe { blobcrash_words_left(&mut self.raw) };
-        (ran.status != ENDLESS).then_some(ran.len)
-    }
-
-    fn note(&mut self, text: &str) {
-        if let Some(script) = &mut self.script {
-            for line in text.split('\n') {
-                script.push_line(&format!("# {line}"));
-            }
-        }
-    }
-
-    fn power(&mut self) -> PowerState {
-        // SAFETY: as for `call`.
-        unsafe { blobcrash_power(&mut self.raw) }
-    }
-
-    fn set_power(&mut self, calls: Option<u64>) {
-        self.has_lost = false;
-        // SAFETY: as for `call`.
-        unsafe {
-            blobcrash_power_on(&mut self.raw);
-            if let Some(calls) = calls {
-                blobcrash_power_off_after(&mut self.raw, calls);
-            }
-        }
-    }
-
-    fn has_lost(&self) -> bool {
-        self.has_lost
     }
 }
 
@@ -429,7 +358,9 @@ pub(crate) fn changes(kind: u32) -> bool {
 /// Returns the word of a number in a table, or an empty text.
 pub(crate) fn word(table: u32, number: u32) -> String {
     // SAFETY: the buffer is borrowed for the call.
-    text_of(16, |at, room| unsafe { blobcrash_word(table, number, at, room) })
+    text_of(16, |at, room| unsafe {
+        blobcrash_word(table, number, at, room)
+    })
 }
 
 /// Returns the kind of a line's call. Of a line that is none it is that of a setting.
@@ -454,32 +385,30 @@ pub(crate) fn selections(rows: u64, mut run: impl FnMut(usize, usize) -> KeptRun
     (0..rows as usize).map(&mut row).collect()
 }
 
-impl Drop for Session {
-    fn drop(&mut self) {
-        // SAFETY: the session is borrowed for the call, and isn't used again.
-        unsafe { blobcrash_close(&mut self.raw) }
-    }
+/// Runs a whole script and writes what a function of the library says of it to the start of a buffer.
+fn run_by(
+    function: unsafe extern "C" fn(*const u8, usize, *mut u8, usize) -> ScriptRan,
+    script: &[u8],
+    text: &mut [u8],
+) -> ScriptRan {
+    let (room, at) = (text.len(), text.as_mut_ptr());
+    // SAFETY: the script and the buffer are borrowed for the call, and don't overlap.
+    unsafe { function(script.as_ptr(), script.len(), at, room) }
 }
 
-/// Runs a whole script and writes its replies to the start of a buffer.
+/// Its replies.
 pub(crate) fn run(script: &[u8], replies: &mut [u8]) -> ScriptRan {
-    let (room, at) = (replies.len(), replies.as_mut_ptr());
-    // SAFETY: the script and the buffer are borrowed for the call, and don't overlap.
-    unsafe { blobcrash_run(script.as_ptr(), script.len(), at, room) }
+    run_by(blobcrash_run, script, replies)
 }
 
-/// Runs a whole script and writes its replies, with remarks between them, to the start of a buffer.
+/// Its replies, with remarks between them.
 pub(crate) fn explain(script: &[u8], text: &mut [u8]) -> ScriptRan {
-    let (room, at) = (text.len(), text.as_mut_ptr());
-    // SAFETY: the script and the buffer are borrowed for the call, and don't overlap.
-    unsafe { blobcrash_explain(script.as_ptr(), script.len(), at, room) }
+    run_by(blobcrash_explain, script, text)
 }
 
-/// Runs a whole script and writes its explanation as JSON to the start of a buffer.
+/// Its explanation as JSON.
 pub(crate) fn explain_json(script: &[u8], text: &mut [u8]) -> ScriptRan {
-    let (room, at) = (text.len(), text.as_mut_ptr());
-    // SAFETY: the script and the buffer are borrowed for the call, and don't overlap.
-    unsafe { blobcrash_explain_json(script.as_ptr(), script.len(), at, room) }
+    run_by(blobcrash_explain_json, script, text)
 }
 
 /// Parses a header region. `None` if the arguments aren't those of one.
@@ -487,6 +416,21 @@ pub(crate) fn parse_header(raw: &[u8], raw_len: u64, accepts: &Accepts) -> Optio
     // SAFETY: the bytes and the numbers are borrowed for the call.
     let parsed = unsafe { blobcrash_parse_header(raw.as_ptr(), raw.len(), raw_len, accepts) };
     (parsed.status != BAD_CALL).then_some(parsed)
+}
+
+/// Resolves a header region as an open does. `None` as for `parse_header`.
+pub(crate) fn resolve_header(raw: &[u8], raw_len: u64, accepts: &Accepts) -> Option<ParsedHeader> {
+    // SAFETY: as for `parse_header`.
+    let parsed = unsafe { blobcrash_resolve_header(raw.as_ptr(), raw.len(), raw_len, accepts) };
+    (parsed.status != BAD_CALL).then_some(parsed)
+}
+
+/// Returns the header region of a new blob with a layout and a version, or the status for which there is none.
+pub(crate) fn create_header(layout: u16, version: u16) -> Result<Vec<u8>, u32> {
+    // SAFETY: the buffer is borrowed for the call.
+    copied(8, |at, room| unsafe {
+        blobcrash_create_header(layout, version, at, room)
+    })
 }
 
 /// Returns whether an interrupted creation in a layout may have left these bytes of a whole blob.

@@ -61,22 +61,6 @@ pub struct Limits {
 }
 
 impl Limits {
-    /// The limits of an explored run.
-    pub(crate) fn of_choices(choices: Choices) -> Limits {
-        Limits {
-            choices: Some(choices),
-            ..Limits::default()
-        }
-    }
-
-    /// The limits of a seed's run.
-    pub(crate) fn of_seed(seed: u64) -> Limits {
-        Limits {
-            chooser: Some(seed),
-            ..Limits::default()
-        }
-    }
-
     /// Whether this is a run of a search, of which unsynced writes are followed.
     pub(crate) fn is_search(&self) -> bool {
         self.choices.is_some() || self.chooser.is_some()
@@ -94,27 +78,21 @@ impl Limits {
 
     /// Turns the power off before a call that may change what a crash leaves, if the path of an explored run does so.
     pub(crate) fn permit(&mut self, session: &mut dyn Recorded, changes: impl FnOnce() -> bool) {
-        let has_losses = self.choices.as_ref().is_some_and(Choices::has_losses);
+        let has_losses = |choices: &Choices| choices.losses > 0;
+        let has_losses = self.choices.as_ref().is_some_and(has_losses);
         if !has_losses || session.power().is_off || !changes() {
             return;
         }
-        self.count_draws(session);
+        self.count_draws(0, session);
         if self.choices.as_mut().is_some_and(Choices::power_fails) {
             session.set_power(Some(0));
         }
     }
 
-    /// Counts the draws that an explored run has made.
-    pub(crate) fn count_draws(&mut self, session: &mut dyn Recorded) {
+    /// Counts the draws that an explored run has made. If `sizes` isn't 0, the last one drew one of that many.
+    pub(crate) fn count_draws(&mut self, sizes: u64, session: &mut dyn Recorded) {
         if let (Some(choices), Some(left)) = (&mut self.choices, session.words_left()) {
-            choices.count(left);
-        }
-    }
-
-    /// Counts the draws that an explored run has made, if the last one drew a size among `among`.
-    pub(crate) fn count_size(&mut self, among: u64, session: &mut dyn Recorded) {
-        if let (Some(choices), Some(left)) = (&mut self.choices, session.words_left()) {
-            choices.count_size(left, among);
+            choices.count(left, sizes);
         }
     }
 
@@ -122,14 +100,14 @@ impl Limits {
     pub(crate) fn choose(&mut self, branches: usize, session: &mut dyn Recorded) -> usize {
         // Without an error to return, a run that is too long goes on while a panic unwinds.
         let _ = self.count_call();
-        self.count_draws(session);
+        self.count_draws(0, session);
         let branch = match (&mut self.choices, &mut self.chooser) {
             (Some(choices), _) => choices.take(Kind::Branch, branches),
             (None, Some(state)) => (next(state) % branches as u64) as usize,
             (None, None) => 0,
         };
         session.note(&format!("choose({branches}) is {branch}"));
-        if self.choices.as_ref().is_some_and(Choices::is_long) {
+        if self.choices.as_ref().is_some_and(|choices| choices.is_long) {
             let _ = too_long();
         }
         branch

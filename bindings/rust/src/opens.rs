@@ -2,7 +2,7 @@
 use crate::buffers::{IoBufs, IoBufsMut};
 use crate::storage::{Blob, BlobVersion, Handle, ReadOptions, WriteOptions};
 use crate::{Error, Store};
-use std::sync::{Mutex, PoisonError};
+use std::sync::{Mutex, MutexGuard, PoisonError};
 
 /// A registry of names, each of which has at most one open handle. It is apart from the storage that the handles are of, as the one in
 /// a wrapper of a storage. The registry is the library's: it keeps the names in a store of its own.
@@ -75,10 +75,7 @@ impl Opens {
         name: &[u8],
         open: impl FnOnce() -> Result<(B, u64, BlobVersion), Error>,
     ) -> Result<(Opened<B>, u64, BlobVersion), Error> {
-        let _namespace = self
-            .namespace
-            .lock()
-            .unwrap_or_else(PoisonError::into_inner);
+        let _namespace = self.lock();
         let registered = self.names.open(partition, name);
         let (inner, size, version) = open()?;
         let (name, _) = registered?;
@@ -106,14 +103,16 @@ impl Opens {
         name: Option<&[u8]>,
         call: impl FnOnce() -> Result<T, Error>,
     ) -> Result<T, Error> {
-        let _namespace = self
-            .namespace
-            .lock()
-            .unwrap_or_else(PoisonError::into_inner);
+        let _namespace = self.lock();
         let replaced = call()?;
         // Without faults a removal is refused only if the name doesn't exist, and then it isn't open.
         let _ = self.names.remove(partition, name);
         Ok(replaced)
+    }
+
+    fn lock(&self) -> MutexGuard<'_, ()> {
+        let namespace = self.namespace.lock();
+        namespace.unwrap_or_else(PoisonError::into_inner)
     }
 }
 

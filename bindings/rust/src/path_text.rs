@@ -24,8 +24,13 @@ fn token_of(choice: &Choice) -> String {
     }
 }
 
-/// A word as the line `words` of a script has it.
-pub(crate) fn word_text(word: u64) -> String {
+/// Words as the line `words` of a script has them.
+pub(crate) fn words_text(words: &[u64]) -> String {
+    let words: Vec<String> = words.iter().copied().map(word_text).collect();
+    words.join(" ")
+}
+
+fn word_text(word: u64) -> String {
     if word == u64::MAX {
         return "max".to_owned();
     }

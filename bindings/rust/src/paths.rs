@@ -54,21 +54,18 @@ impl Path {
         chosen.branch as usize
     }
 
-    /// Makes the draws up to here choices of the run, where `left` words are left.
-    pub(crate) fn count(&mut self, left: usize) {
-        self.reserve(self.explorer.given.saturating_sub(left));
-        let (at, capacity) = (self.choices.as_mut_ptr(), self.choices.len());
-        // SAFETY: as for `choose`.
-        unsafe { blobcrash_explorer_count(&mut self.explorer, at, capacity, left) };
-    }
-
-    /// Makes draws choices as `count` does, if the last one drew a size among `among`.
-    pub(crate) fn count_size(&mut self, left: usize, among: u64) {
+    /// Makes the draws up to here choices of the run, where `left` words are left. If `sizes` isn't 0, the last one drew one of that many.
+    pub(crate) fn count(&mut self, left: usize, sizes: u64) {
         self.reserve(self.explorer.given.saturating_sub(left));
         let (explorer, capacity) = (&mut self.explorer, self.choices.len());
         let at = self.choices.as_mut_ptr();
         // SAFETY: as for `choose`.
-        unsafe { blobcrash_explorer_count_size(explorer, at, capacity, left, among) };
+        unsafe {
+            match sizes {
+                0 => blobcrash_explorer_count(explorer, at, capacity, left),
+                _ => blobcrash_explorer_count_size(explorer, at, capacity, left, sizes),
+            }
+        };
     }
 
     /// Ends the run. Returns whether it made the choices of the path, and no fewer.

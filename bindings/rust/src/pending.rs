@@ -1,6 +1,6 @@
 //! The registry of durability debt: what closed handles leave.
 use crate::Error;
-use crate::debt_calls::{DebtCall, DebtReply};
+use crate::debt_calls::{DebtCall, DebtKind, DebtReply};
 use crate::library::Session;
 use crate::script::hex;
 use std::future::Future;
@@ -16,9 +16,8 @@ type Key = (String, Vec<u8>);
 /// A clone is the same registry. Threads may share it.
 ///
 /// ```
-/// use blobcrash::{Error, Pending};
+/// use blobcrash::Pending;
 ///
-/// # fn main() -> Result<(), Error> {
 /// let pending = Pending::new()?;
 /// let (first, _, owes) = pending.admit("p", b"b", false)?;
 /// assert!(!owes);
@@ -30,8 +29,7 @@ type Key = (String, Vec<u8>);
 /// assert_eq!(second.debt(), Ok(true));
 /// second.clear(Ok(()));
 /// assert_eq!(second.debt(), Ok(false));
-/// # Ok(())
-/// # }
+/// # Ok::<(), blobcrash::Error>(())
 /// ```
 #[derive(Clone, Debug)]
 pub struct Pending {
@@ -111,7 +109,7 @@ impl Pending {
         existing: bool,
     ) -> Result<(Generation, Option<Receiver>, bool), Error> {
         let already = || Error::BlobAlreadyOpen(partition.to_owned(), hex(name));
-        let call = DebtCall::Admit { existing };
+        let call = DebtCall::of_name(DebtKind::Admit).flag(existing);
         let reply = self.lock().session.owe(call, partition, name, already)?;
         let generation = Generation {
             pending: self.clone(),
@@ -144,12 +142,9 @@ impl Pending {
             Arc::ptr_eq(&self.state, &sender.pending.state),
             "a sender of another registry"
         );
-        let number = sender.number;
-        let call = DebtCall::Settle {
-            number,
-            dirty,
-            failure,
-        };
+        let call = DebtCall::of_open(DebtKind::Settle, sender.number)
+            .flag(dirty)
+            .failure(failure);
         let (partition, name) = &sender.key;
         let mut state = self.lock();
         let settled = state.session.owe(call, partition, name, || Error::Closed);
@@ -171,11 +166,11 @@ impl Pending {
     /// # drop(old);
     /// ```
     pub fn forget(&self, partition: &str, name: Option<&[u8]>) {
-        let call = match name {
-            Some(_) => DebtCall::Forget,
-            None => DebtCall::ForgetPartition,
+        let kind = match name {
+            Some(_) => DebtKind::Forget,
+            None => DebtKind::ForgetPartition,
         };
-        let forgotten = self.asked(call, partition, name.unwrap_or_default());
+        let forgotten = self.asked(kind, partition, name.unwrap_or_default());
         forgotten.expect("a name can be forgotten");
     }
 
@@ -191,12 +186,13 @@ impl Pending {
     /// ```
     #[must_use]
     pub fn keeps(&self, partition: &str, name: &[u8]) -> bool {
-        let asked = self.asked(DebtCall::Keeps, partition, name);
+        let asked = self.asked(DebtKind::Keeps, partition, name);
         asked.expect("a name can be looked up")
     }
 
-    fn asked(&self, call: DebtCall, partition: &str, name: &[u8]) -> Result<bool, Error> {
+    fn asked(&self, kind: DebtKind, partition: &str, name: &[u8]) -> Result<bool, Error> {
         let mut state = self.lock();
+        let call = DebtCall::of_name(kind);
         let reply = state.session.owe(call, partition, name, || Error::Closed)?;
         Ok(reply.flag)
     }
@@ -231,9 +227,7 @@ impl Generation {
     /// # pending.settle(sender.unwrap(), false, None);
     /// ```
     pub fn release(&self) -> Result<Option<Sender>, Error> {
-        let reply = self.owe(DebtCall::Release {
-            number: self.number,
-        })?;
+        let reply = self.owe(self.call(DebtKind::Release))?;
         Ok(reply.flag.then(|| Sender {
             pending: self.pending.clone(),
             key: self.key.clone(),
@@ -250,9 +244,7 @@ impl Generation {
     /// assert_eq!(open.debt(), Ok(false));
     /// ```
     pub fn debt(&self) -> Result<bool, Error> {
-        let reply = self.owe(DebtCall::Debt {
-            number: self.number,
-        })?;
+        let reply = self.owe(self.call(DebtKind::Debt))?;
         Ok(reply.flag)
     }
 
@@ -270,9 +262,7 @@ impl Generation {
     /// assert_eq!(open.debt(), Err(Error::ReadFailed));
     /// ```
     pub fn clear(&self, outcome: Result<(), Error>) {
-        let number = self.number;
-        let failure = outcome.err();
-        let cleared = self.owe(DebtCall::Clear { number, failure });
+        let cleared = self.owe(self.call(DebtKind::Clear).failure(outcome.err()));
         cleared.expect("a failure has no texts");
     }
 
@@ -288,9 +278,12 @@ impl Generation {
     /// assert_eq!(open.debt(), Err(Error::WriteFailed));
     /// ```
     pub fn fail(&self, failure: Error) {
-        let number = self.number;
-        let kept = self.owe(DebtCall::Fail { number, failure });
+        let kept = self.owe(self.call(DebtKind::Fail).failure(Some(failure)));
         kept.expect("a failure has no texts");
+    }
+
+    fn call(&self, kind: DebtKind) -> DebtCall {
+        DebtCall::of_open(kind, self.number)
     }
 
     fn owe(&self, call: DebtCall) -> Result<DebtReply, Error> {
@@ -301,8 +294,7 @@ impl Generation {
 
 impl Drop for Generation {
     fn drop(&mut self) {
-        let number = self.number;
-        let closed = self.owe(DebtCall::Close { number });
+        let closed = self.owe(self.call(DebtKind::Close));
         debug_assert!(closed.is_ok(), "an open is closed once");
     }
 }
@@ -328,8 +320,7 @@ impl Receiver {
     }
 
     fn is_settled_in(&self, state: &mut State) -> bool {
-        let number = self.number;
-        let call = DebtCall::IsSettled { number };
+        let call = DebtCall::of_open(DebtKind::IsSettled, self.number);
         let asked = state.session.owe(call, "", b"", || Error::Closed);
         asked.expect("a predecessor is of this registry").flag
     }

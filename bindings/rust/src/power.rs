@@ -26,7 +26,6 @@ impl Store {
     ///
     /// ```
     /// # use blobcrash::{Error, Store, WriteOptions};
-    /// # fn main() -> Result<(), Error> {
     /// let store = Store::builder().seed(7).open()?;
     /// store.crash_after(2)?;
     /// let (blob, _) = store.open("p", b"b")?;
@@ -34,8 +33,7 @@ impl Store {
     /// assert_eq!(blob.write_at(7, b"lost", WriteOptions::SYNC), Err(Error::PowerLoss));
     /// store.restart()?;
     /// assert_eq!(store.open("p", b"b")?.1, 7);
-    /// # Ok(())
-    /// # }
+    /// # Ok::<(), Error>(())
     /// ```
     pub fn crash_after(&self, calls: u64) -> Result<(), Error> {
         cut_after(&mut self.shared.lock().session, calls)
@@ -44,12 +42,10 @@ impl Store {
     /// Returns whether the power is off.
     ///
     /// ```
-    /// # fn main() -> Result<(), blobcrash::Error> {
     /// let store = blobcrash::Store::builder().open()?;
     /// store.crash_after(0)?;
     /// assert!(store.scan("p").is_err() && store.is_power_off());
-    /// # Ok(())
-    /// # }
+    /// # Ok::<(), blobcrash::Error>(())
     /// ```
     #[must_use]
     pub fn is_power_off(&self) -> bool {
@@ -60,8 +56,7 @@ impl Store {
     /// of a restart.
     ///
     /// ```
-    /// # use blobcrash::{Error, Store};
-    /// # fn main() -> Result<(), Error> {
+    /// # use blobcrash::Store;
     /// let store = Store::builder().open()?;
     /// store.crash_after(1)?;
     /// let mut steps = 0;
@@ -71,8 +66,7 @@ impl Store {
     ///     store.open("p", b"b").map(drop)
     /// })?;
     /// assert_eq!(steps, 2);
-    /// # Ok(())
-    /// # }
+    /// # Ok::<(), blobcrash::Error>(())
     /// ```
     pub fn recover<T, E: From<Error>>(
         &self,

@@ -1,7 +1,7 @@
 //! A run that is made again, by choices that are given.
 use crate::foreign::Choice;
 use crate::limits::next;
-use crate::path_text::{text_of, word_text};
+use crate::path_text::{text_of, words_text};
 use crate::paths::{Kind, words_of};
 
 /// What decides a run: the words of its draws, what `choose` returns, and before each power loss how many calls have power. Further draws
@@ -129,8 +129,7 @@ impl Replay {
         if self.is_plain {
             return text_of(&self.taken);
         }
-        let words: Vec<String> = self.words().iter().copied().map(word_text).collect();
-        format!("words {}", words.join(" "))
+        format!("words {}", words_text(self.words()))
     }
 
     fn pick(&mut self, of: u64) -> u64 {

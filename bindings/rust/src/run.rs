@@ -1,7 +1,7 @@
 //! One run of an exploration, or of a seed.
 use crate::choices::Choices;
 use crate::limits::{Limited, Limits};
-use crate::path_text::word_text;
+use crate::path_text::words_text;
 use crate::unsynced::Met;
 use crate::{Error, Store};
 use std::ops::Deref;
@@ -69,8 +69,11 @@ impl<S: Limited> Run<S> {
         number: u64,
     ) -> Result<Run<S>, Error> {
         let words = choices.words(words);
-        let opened = builder.made(&words, Limits::of_choices(choices))?;
-        Ok(Run { opened, number })
+        let limits = Limits {
+            choices: Some(choices),
+            ..Limits::default()
+        };
+        Ok(Run::new(builder.made(&words, limits)?, number))
     }
 
     /// Returns a number below `branches`. An exploration tries every one, together with the outcomes of the draws. With
@@ -104,7 +107,7 @@ impl<S: Limited> Run<S> {
     #[must_use]
     pub fn script(&self) -> String {
         let all = self.opened.record();
-        let words = self.choices(|choices| (!choices.is_short()).then(|| drawn_line(choices)));
+        let words = self.choices(|choices| (!choices.is_short).then(|| drawn_line(choices)));
         match words {
             // The first line of the record has the words that were given.
             Some(words) => words + all.split_once('\n').map_or("", |(_, calls)| calls),
@@ -120,7 +123,7 @@ impl<S: Limited> Run<S> {
     /// Counts the last draws, and returns what `read` takes from the choices.
     pub(crate) fn choices<T: Default>(&self, read: impl FnOnce(&mut Choices) -> T) -> T {
         self.opened.with_limits(|limits, session| {
-            limits.count_draws(session);
+            limits.count_draws(0, session);
             limits.choices.as_mut().map(read).unwrap_or_default()
         })
     }
@@ -128,12 +131,10 @@ impl<S: Limited> Run<S> {
 
 /// Returns the line with the words of a run's draws. It is empty if there are none.
 fn drawn_line(choices: &Choices) -> String {
-    let words = choices.drawn();
-    if words.is_empty() {
-        return String::new();
+    match choices.drawn().as_slice() {
+        [] => String::new(),
+        words => format!("words {}\n", words_text(words)),
     }
-    let texts = words.into_iter().map(word_text);
-    format!("words {}\n", texts.collect::<Vec<_>>().join(" "))
 }
 
 /// If a body panics, its script is printed.

@@ -3,7 +3,6 @@ use crate::explore::nothing_to_run;
 use crate::limits::Limits;
 use crate::unsynced::Met;
 use crate::{Explorable, ExploreError, Explored, Run};
-use std::collections::BTreeMap;
 use std::ops::Range;
 
 /// Calls `body` with a new store, or new [`files`](crate::files), for each seed. The seed decides every draw and every [`Run::choose`].
@@ -36,33 +35,18 @@ pub fn seeds<B: Explorable, T: Ord, E>(
     if seeds.is_empty() {
         return Err(nothing_to_run());
     }
-    let mut visited = Explored {
-        runs: 0,
-        outcomes: BTreeMap::new(),
-        is_complete: false,
-        met: 0,
-        unkept: "",
-    };
+    let mut visited = Explored::new();
     let mut met = Met::default();
     for seed in seeds {
-        visited.runs += 1;
         let builder = builder.prepared(Some(seed))?;
-        let run = Run::new(builder.made(&[], Limits::of_seed(seed))?, visited.runs);
+        let limits = Limits {
+            chooser: Some(seed),
+            ..Limits::default()
+        };
+        let run = Run::new(builder.made(&[], limits)?, visited.runs + 1);
         let result = body(&run);
         met.add(run.met());
-        match result {
-            Ok(outcome) => *visited.outcomes.entry(outcome).or_insert(0) += 1,
-            Err(error) => {
-                let (path, script) = (Box::new(format!("seed {seed}")), run.script());
-                let run = visited.runs;
-                return Err(ExploreError::Failed {
-                    error,
-                    run,
-                    path,
-                    script,
-                });
-            }
-        }
+        visited.add(&run, result, |_| format!("seed {seed}"))?;
     }
     visited.unkept = met.note();
     Ok(visited)

@@ -1,4 +1,5 @@
-//! What a store shares with its clones, its blobs and its started syncs: one session, which a lock protects.
+//! What a store shares with its clones, its blobs and its started syncs, and files with their clones and open files: a session, which a
+//! lock protects.
 use crate::foreign::{Kind, TypedReply};
 use crate::library::{Session, changes, kind_of};
 use crate::limits::{Limits, Recorded};
@@ -10,16 +11,15 @@ use std::hash::{DefaultHasher, Hash, Hasher};
 use std::sync::atomic::{AtomicBool, Ordering};
 use std::sync::{Arc, Mutex, MutexGuard, OnceLock, PoisonError};
 
-/// A store's state, with what doesn't change.
+/// The state of a store or of files.
 #[derive(Debug)]
-pub(crate) struct Shared {
-    state: Mutex<State>,
+pub(crate) struct Shared<S> {
+    state: Mutex<S>,
+    /// Whether there is a seed or a word.
     pub(crate) has_draws: bool,
-    pub(crate) allow_stale: bool,
-    pub(crate) is_pushed: bool,
 }
 
-/// What calls change.
+/// The state of a store.
 #[derive(Debug)]
 pub(crate) struct State {
     pub(crate) session: Session,
@@ -33,6 +33,8 @@ pub(crate) struct State {
     pub(crate) limits: Limits,
     /// Whether nothing is to be done before a call.
     permits_all: bool,
+    pub(crate) allow_stale: bool,
+    pub(crate) is_pushed: bool,
 }
 
 /// A resize that an explored run makes.
@@ -99,19 +101,15 @@ impl Opened {
     }
 }
 
-impl Shared {
-    pub(crate) fn new(state: State, has_draws: bool, allow_stale: bool, is_pushed: bool) -> Shared {
-        Shared {
-            state: Mutex::new(state),
-            has_draws,
-            allow_stale,
-            is_pushed,
-        }
+impl<S> Shared<S> {
+    pub(crate) fn new(state: S, has_draws: bool) -> Arc<Shared<S>> {
+        let state = Mutex::new(state);
+        Arc::new(Shared { state, has_draws })
     }
 
     /// Takes the lock. A panic of another thread leaves a state that can be used: a session has made a call or not.
     #[inline]
-    pub(crate) fn lock(&self) -> MutexGuard<'_, State> {
+    pub(crate) fn lock(&self) -> MutexGuard<'_, S> {
         self.state.lock().unwrap_or_else(PoisonError::into_inner)
     }
 }
@@ -126,6 +124,8 @@ impl State {
             is_unset: false,
             permits_all: limits.choices.is_none(),
             limits,
+            allow_stale: false,
+            is_pushed: false,
         }
     }
 
@@ -186,7 +186,7 @@ impl State {
         if let Some(now) = self.session.tracked_size(handle) {
             if now != from && now != to {
                 self.limits
-                    .count_size(from.abs_diff(to) - 1, &mut self.session);
+                    .count_draws(from.abs_diff(to) - 1, &mut self.session);
             }
         }
     }

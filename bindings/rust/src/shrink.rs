@@ -76,8 +76,9 @@ pub fn shrink<B: Explorable, T, E>(
     body: impl FnMut(&Run<B::Opened>) -> Result<T, E>,
 ) -> Result<Shrunk<E>, Error> {
     let ExploreError::Failed { error, path, .. } = failed else {
-        let text = "only a run that failed can be made smaller";
-        return Err(Error::Argument(text.to_owned()));
+        return Err(Error::argument(
+            "only a run that failed can be made smaller",
+        ));
     };
     let mut search = Search {
         builder: builder.prepared(None)?,
@@ -102,28 +103,18 @@ pub fn shrink<B: Explorable, T, E>(
         }
         is_least = true;
     }
-    let Made {
-        error,
-        path,
-        script,
-        ..
-    } = made;
     Ok(Shrunk {
-        error,
-        path,
-        script,
         runs: search.runs,
         is_least,
+        ..made.shrunk
     })
 }
 
 /// A run that failed, and what decided it.
 struct Made<E> {
-    error: E,
     given: Given,
     calls: u64,
-    path: String,
-    script: String,
+    shrunk: Shrunk<E>,
 }
 
 impl<E> Made<E> {
@@ -190,7 +181,7 @@ impl<B: Explorable, T, E, F: FnMut(&Run<B::Opened>) -> Result<T, E>> Search<B, F
                 return Ok(None);
             }
             let result = result.unwrap_or_else(|panic| resume_unwind(panic));
-            if run.choices(|choices| choices.is_short()) {
+            if run.choices(|choices| choices.is_short) {
                 self.words *= 2;
                 continue;
             }
@@ -198,12 +189,18 @@ impl<B: Explorable, T, E, F: FnMut(&Run<B::Opened>) -> Result<T, E>> Search<B, F
                 .err()
                 .filter(|error| discriminant(error) == self.kind);
             return Ok(error.map(|error| Made {
-                error,
-                given: run
-                    .choices(|choices| choices.replay().map(Replay::decided).unwrap_or_default()),
-                calls: run.choices(|choices| choices.calls()),
-                path: run.choices(|choices| choices.path_text()),
-                script: run.script(),
+                given: run.choices(|choices| {
+                    let replay = choices.replay.as_ref();
+                    replay.map(Replay::decided).unwrap_or_default()
+                }),
+                calls: run.choices(|choices| choices.calls),
+                shrunk: Shrunk {
+                    error,
+                    path: run.choices(|choices| choices.path_text()),
+                    script: run.script(),
+                    runs: self.runs,
+                    is_least: false,
+                },
             }));
         }
     }

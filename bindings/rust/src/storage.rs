@@ -30,38 +30,25 @@ pub use crate::handle::Handle;
 /// The version of a blob, which the application chooses.
 ///
 /// ```
-/// use blobcrash::storage::BlobVersion;
+/// use blobcrash::storage::{BlobVersion, DEFAULT_BLOB_VERSION};
 ///
 /// assert_eq!(BlobVersion::new(7).get(), 7);
+/// assert_eq!(BlobVersion::new(0), DEFAULT_BLOB_VERSION);
 /// ```
 #[derive(Clone, Copy, Debug, Default, PartialEq, Eq, PartialOrd, Ord, Hash)]
 pub struct BlobVersion(u16);
 
 /// The version that [`Storage::open`] accepts and creates.
-///
-/// ```
-/// assert_eq!(blobcrash::storage::DEFAULT_BLOB_VERSION.get(), 0);
-/// ```
 pub const DEFAULT_BLOB_VERSION: BlobVersion = BlobVersion::new(0);
 
 impl BlobVersion {
     /// Returns the version with this number.
-    ///
-    /// ```
-    /// # use blobcrash::storage::{BlobVersion, DEFAULT_BLOB_VERSION};
-    /// assert_eq!(BlobVersion::new(0), DEFAULT_BLOB_VERSION);
-    /// ```
     #[must_use]
     pub const fn new(version: u16) -> BlobVersion {
         BlobVersion(version)
     }
 
     /// Returns the version's number.
-    ///
-    /// ```
-    /// # use blobcrash::storage::BlobVersion;
-    /// assert_eq!(BlobVersion::new(3).get(), 3);
-    /// ```
     #[must_use]
     pub const fn get(self) -> u16 {
         self.0
@@ -138,14 +125,12 @@ pub trait Storage: Clone + Send + Sync + 'static {
 ///     to.write_at(0, bytes.coalesce().freeze(), WriteOptions::default())?;
 ///     to.start_sync().wait()
 /// }
-/// # fn main() -> Result<(), Error> {
 /// let store = blobcrash::Store::builder().seed(7).open()?;
 /// let (a, b) = (store.open("p", b"a")?.0, store.open("p", b"b")?.0);
 /// a.resize(3)?;
 /// copy(&a, &b, 3)?;
 /// assert_eq!(b.size()?, 3);
-/// # Ok(())
-/// # }
+/// # Ok::<(), Error>(())
 /// ```
 pub trait Blob: Send + Sync + 'static {
     /// Returns exactly `len` bytes at a logical offset. Errors as [`crate::Blob::read_at`].

@@ -9,12 +9,10 @@ use std::sync::Arc;
 /// What a crash chose: for each write with draws its number and, byte by byte, whether it was kept.
 ///
 /// ```
-/// # fn main() -> Result<(), blobcrash::Error> {
 /// let store = blobcrash::Store::builder().seed(7).open()?;
 /// let selections: blobcrash::Selections = store.crash()?;
 /// assert!(selections.is_empty());
-/// # Ok(())
-/// # }
+/// # Ok::<(), blobcrash::Error>(())
 /// ```
 pub type Selections = Vec<(u64, Vec<bool>)>;
 
@@ -26,7 +24,6 @@ pub type Selections = Vec<(u64, Vec<bool>)>;
 /// ```
 /// use blobcrash::{Store, WriteOptions};
 ///
-/// # fn main() -> Result<(), blobcrash::Error> {
 /// let store = Store::builder().seed(7).open()?;
 /// let (blob, size) = store.open("partition", b"name")?;
 /// assert_eq!(size, 0);
@@ -36,29 +33,20 @@ pub type Selections = Vec<(u64, Vec<bool>)>;
 /// let (_blob, size) = store.open("partition", b"name")?;
 /// assert_eq!(size, 7);
 /// assert_eq!(store.scan("partition")?, [b"name"]);
-/// # Ok(())
-/// # }
+/// # Ok::<(), blobcrash::Error>(())
 /// ```
 #[derive(Clone, Debug)]
 pub struct Store {
-    pub(crate) shared: Arc<Shared>,
+    pub(crate) shared: Arc<Shared<State>>,
 }
 
 impl Store {
-    pub(crate) fn of(shared: Shared) -> Store {
-        Store {
-            shared: Arc::new(shared),
-        }
-    }
-
     /// Returns what a store begins with: no blob, no fault, and a generator that needs a seed or words if a rate draws.
     ///
     /// ```
-    /// # fn main() -> Result<(), blobcrash::Error> {
     /// let store = blobcrash::Store::builder().seed(7).open()?;
     /// assert_eq!(store.script(), "seed 7\n");
-    /// # Ok(())
-    /// # }
+    /// # Ok::<(), blobcrash::Error>(())
     /// ```
     pub fn builder() -> Builder {
         Builder::default()
@@ -74,13 +62,11 @@ impl Store {
     ///
     /// ```
     /// # use blobcrash::{Error, Store};
-    /// # fn main() -> Result<(), Error> {
     /// let store = Store::builder().open()?;
     /// let (_blob, size) = store.open("p", b"b")?;
     /// assert_eq!(size, 0);
     /// assert!(matches!(store.open("p", b"b"), Err(Error::BlobAlreadyOpen(..))));
-    /// # Ok(())
-    /// # }
+    /// # Ok::<(), Error>(())
     /// ```
     pub fn open(&self, partition: &str, name: &[u8]) -> Result<(Blob, u64), Error> {
         self.open_versioned(partition, name, 0..=0)
@@ -90,12 +76,10 @@ impl Store {
     /// `EmptyRange` if there is no version.
     ///
     /// ```
-    /// # fn main() -> Result<(), blobcrash::Error> {
     /// let store = blobcrash::Store::builder().open()?;
     /// assert_eq!(store.open_versioned("p", b"b", 2..=4)?.0.version(), 4);
     /// assert_eq!(store.open_versioned("p", b"b", 0..=9)?.0.version(), 4);
-    /// # Ok(())
-    /// # }
+    /// # Ok::<(), blobcrash::Error>(())
     /// ```
     pub fn open_versioned(
         &self,
@@ -110,12 +94,10 @@ impl Store {
     /// never `BlobAlreadyOpen`.
     ///
     /// ```
-    /// # fn main() -> Result<(), blobcrash::Error> {
     /// let store = blobcrash::Store::builder().open()?;
     /// let (_blob, _) = store.open("p", b"b")?;
     /// assert!(store.open_loose("p", b"b", 0..=0).is_ok());
-    /// # Ok(())
-    /// # }
+    /// # Ok::<(), blobcrash::Error>(())
     /// ```
     pub fn open_loose(
         &self,
@@ -129,11 +111,9 @@ impl Store {
     /// Drops what is pending of a blob, so that no crash applies it. A name that doesn't exist has nothing pending.
     ///
     /// ```
-    /// # fn main() -> Result<(), blobcrash::Error> {
     /// let store = blobcrash::Store::builder().open()?;
     /// store.admit("p", b"b")?;
-    /// # Ok(())
-    /// # }
+    /// # Ok::<(), blobcrash::Error>(())
     /// ```
     pub fn admit(&self, partition: &str, name: &[u8]) -> Result<(), Error> {
         let mut state = self.shared.lock();
@@ -148,14 +128,12 @@ impl Store {
     ///
     /// ```
     /// # use blobcrash::{Error, Store};
-    /// # fn main() -> Result<(), Error> {
     /// let store = Store::builder().open()?;
     /// drop(store.open("p", b"b")?);
     /// store.remove("p", Some(b"b"))?;
     /// store.remove("p", None)?;
     /// assert_eq!(store.remove("p", None), Err(Error::PartitionMissing("p".to_owned())));
-    /// # Ok(())
-    /// # }
+    /// # Ok::<(), Error>(())
     /// ```
     pub fn remove(&self, partition: &str, name: Option<&[u8]>) -> Result<(), Error> {
         let kind = match name {
@@ -172,13 +150,11 @@ impl Store {
     /// `Memory`.
     ///
     /// ```
-    /// # fn main() -> Result<(), blobcrash::Error> {
     /// let store = blobcrash::Store::builder().open()?;
     /// drop(store.open("p", b"b")?);
     /// drop(store.open("p", b"a")?);
     /// assert_eq!(store.scan("p")?, [b"a", b"b"]);
-    /// # Ok(())
-    /// # }
+    /// # Ok::<(), blobcrash::Error>(())
     /// ```
     pub fn scan(&self, partition: &str) -> Result<Vec<Vec<u8>>, Error> {
         let mut state = self.shared.lock();
@@ -192,7 +168,6 @@ impl Store {
     ///
     /// ```
     /// # use blobcrash::{Config, PartialWriteMode, Probability, Store, WriteConfig, WriteOptions};
-    /// # fn main() -> Result<(), blobcrash::Error> {
     /// let half = Config::default().write(WriteConfig {
     ///     failure_rate: Probability::ZERO,
     ///     retention_rate: Probability::new(1, 2).unwrap(),
@@ -202,8 +177,7 @@ impl Store {
     /// let (blob, _) = store.open("p", b"b")?;
     /// blob.write_at(0, b"abc", WriteOptions::default())?;
     /// assert_eq!(store.crash()?, [(0, vec![true, false, false])]);
-    /// # Ok(())
-    /// # }
+    /// # Ok::<(), blobcrash::Error>(())
     /// ```
     pub fn crash(&self) -> Result<Selections, Error> {
         crash(&mut self.shared.lock())
@@ -212,13 +186,11 @@ impl Store {
     /// Builds the store again from what is durable. Every handle is then stale, and no name is open.
     ///
     /// ```
-    /// # fn main() -> Result<(), blobcrash::Error> {
     /// let store = blobcrash::Store::builder().open()?;
     /// let (_blob, _) = store.open("p", b"b")?;
     /// store.reopen()?;
     /// assert!(store.open("p", b"b").is_ok());
-    /// # Ok(())
-    /// # }
+    /// # Ok::<(), blobcrash::Error>(())
     /// ```
     pub fn reopen(&self) -> Result<(), Error> {
         reopen(&mut self.shared.lock())
@@ -228,14 +200,12 @@ impl Store {
     /// `crash`.
     ///
     /// ```
-    /// # fn main() -> Result<(), blobcrash::Error> {
     /// let store = blobcrash::Store::builder().open()?;
     /// let (blob, _) = store.open("p", b"b")?;
     /// store.restart()?;
     /// assert!(blob.is_stale());
     /// assert!(store.open("p", b"b").is_ok());
-    /// # Ok(())
-    /// # }
+    /// # Ok::<(), blobcrash::Error>(())
     /// ```
     pub fn restart(&self) -> Result<Selections, Error> {
         let mut state = self.shared.lock();
@@ -254,14 +224,12 @@ impl Store {
     ///
     /// ```
     /// # use blobcrash::{Config, Error, Probability, Store};
-    /// # fn main() -> Result<(), Error> {
     /// let store = Store::builder().seed(7).open()?;
     /// store.configure(Config::default().scan(Probability::ONE))?;
     /// assert_eq!(store.scan("p"), Err(Error::Injected));
     /// store.configure(Config::default())?;
     /// assert!(matches!(store.scan("p"), Err(Error::PartitionMissing(_))));
-    /// # Ok(())
-    /// # }
+    /// # Ok::<(), Error>(())
     /// ```
     pub fn configure(&self, config: Config) -> Result<(), Error> {
         config.check()?;
@@ -276,13 +244,11 @@ impl Store {
     /// their numbers alone. Returns `BadLine` if the text isn't one line that is a call, a comment or empty; no call is then made.
     ///
     /// ```
-    /// # fn main() -> Result<(), blobcrash::Error> {
     /// let store = blobcrash::Store::builder().open()?;
     /// assert_eq!(store.call("open p 62")?, "opened 0 0 0");
     /// assert_eq!(store.call("read 0 0 1")?, "error BlobInsufficientLength");
     /// assert!(store.call("frob").is_err());
-    /// # Ok(())
-    /// # }
+    /// # Ok::<(), blobcrash::Error>(())
     /// ```
     pub fn call(&self, line: &str) -> Result<String, Error> {
         one_line(line)?;
@@ -297,12 +263,10 @@ impl Store {
     /// Adds a comment to the script, a line for each of the text's.
     ///
     /// ```
-    /// # fn main() -> Result<(), blobcrash::Error> {
     /// let store = blobcrash::Store::builder().open()?;
     /// store.note("the log is full");
     /// assert_eq!(store.script(), "# the log is full\n");
-    /// # Ok(())
-    /// # }
+    /// # Ok::<(), blobcrash::Error>(())
     /// ```
     pub fn note(&self, text: &str) {
         self.shared.lock().session.note(text);
@@ -311,20 +275,16 @@ impl Store {
     /// Returns the lines of all calls, and notes: a script that makes the same calls again. Empty for a store that is `unrecorded`.
     ///
     /// ```
-    /// # fn main() -> Result<(), Box<dyn std::error::Error>> {
     /// let store = blobcrash::Store::builder().seed(7).open()?;
     /// store.note("a comment");
     /// store.crash()?;
     /// assert_eq!(store.script(), "seed 7\n# a comment\ncrash\n");
     /// assert_eq!(blobcrash::run_script(store.script().as_bytes())?, b"crashed\n");
-    /// # Ok(())
-    /// # }
+    /// # Ok::<(), Box<dyn std::error::Error>>(())
     /// ```
     #[must_use]
     pub fn script(&self) -> String {
-        let state = self.shared.lock();
-        let script = state.session.script.as_ref();
-        script.map(|script| script.text()).unwrap_or_default()
+        self.shared.lock().session.script()
     }
 
     fn opened(
@@ -342,22 +302,25 @@ impl Store {
         };
         let mut state = self.shared.lock();
         let reply = state.by_name(kind, partition, name, [first, last])?;
-        let (handle, size) = (reply.number, reply.size);
-        let version = u16::try_from(reply.version).expect("a version has 16 bits");
-        let opened = Arc::new(Opened::new(partition, name, self.shared.allow_stale));
+        let handle = reply.number;
+        let opened = Arc::new(Opened::new(partition, name, state.allow_stale));
         if kind == Kind::Open {
             state.limits.unsynced.sync(opened.key);
         }
         state.insert(handle, &opened);
-        drop(state);
-        let shared = Arc::clone(&self.shared);
-        Ok((Blob::new(shared, opened, handle, version), size))
+        let blob = Blob {
+            shared: Arc::clone(&self.shared),
+            opened,
+            handle,
+            version: u16::try_from(reply.version).expect("a version has 16 bits"),
+        };
+        Ok((blob, reply.size))
     }
 }
 
 fn crash(state: &mut State) -> Result<Selections, Error> {
     let rows = state.by_number(Kind::Crash, 0, 0)?.size;
-    let selections = state.session.kept(rows);
+    let selections = state.session.kept_writes(rows);
     state.has_crashed();
     Ok(selections)
 }

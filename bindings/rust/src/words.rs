@@ -14,29 +14,29 @@ impl Store {
     ///
     /// ```
     /// # use blobcrash::{Config, Error, Probability, Store};
-    /// # fn main() -> Result<(), Error> {
     /// let half = Config::default().scan(Probability::new(1, 2).unwrap());
     /// let store = Store::builder().config(half).pushed().open()?;
     /// store.push_words(&[u64::MAX, 0])?;
     /// assert!(matches!(store.scan("p"), Err(Error::PartitionMissing(_))));
     /// assert_eq!(store.scan("p"), Err(Error::Injected));
-    /// # Ok(())
-    /// # }
+    /// # Ok::<(), Error>(())
     /// ```
     pub fn push_words(&self, words: &[u64]) -> Result<(), Error> {
-        if !self.shared.is_pushed {
-            let text = "words are pushed into a store that `Builder::pushed` makes";
-            return Err(Error::Argument(text.to_owned()));
-        }
         let mut state = self.shared.lock();
+        if !state.is_pushed {
+            return Err(Error::argument(
+                "words are pushed into a store that `Builder::pushed` makes",
+            ));
+        }
         let left = state.session.words_left().unwrap_or(0);
         if left == 0 {
-            let text = "calls took more words than were pushed for them";
-            return Err(Error::Argument(text.to_owned()));
+            return Err(Error::argument(
+                "calls took more words than were pushed for them",
+            ));
         }
         state.session.push_words(words)?;
-        if let Some(script) = &mut state.session.script {
-            script.push_words(words, left);
+        if let Some(record) = &mut state.session.record {
+            record.push_words(words, left);
         }
         Ok(())
     }
@@ -46,13 +46,11 @@ impl Store {
     ///
     /// ```
     /// # use blobcrash::{Config, Probability, Store};
-    /// # fn main() -> Result<(), blobcrash::Error> {
     /// let half = Config::default().scan(Probability::new(1, 2).unwrap());
     /// let store = Store::builder().config(half).words(&[0, 0, 1]).open()?;
     /// assert!(store.scan("p").is_err());
     /// assert_eq!(store.words_left(), Some(2));
-    /// # Ok(())
-    /// # }
+    /// # Ok::<(), blobcrash::Error>(())
     /// ```
     #[must_use]
     pub fn words_left(&self) -> Option<usize> {

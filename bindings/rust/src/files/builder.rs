@@ -1,10 +1,11 @@
 use super::Files;
 use super::library::Session;
-use super::record::Record;
-use super::state::{Shared, State};
+use super::state::State;
 use crate::foreign::PROFILES;
 use crate::library::word;
 use crate::limits::Limits;
+use crate::record::Record;
+use crate::shared::Shared;
 use crate::unsynced::TORN_WRITES;
 use crate::{Config, Error, Explorable, Probability};
 use std::fmt;
@@ -14,6 +15,7 @@ use std::fmt;
 /// ```
 /// # use blobcrash::files::Profile;
 /// assert_eq!(Profile::default(), Profile::Ext4);
+/// assert_eq!(Profile::ALL.len(), 4);
 /// ```
 #[derive(Clone, Copy, Debug, Default, PartialEq, Eq, PartialOrd, Ord, Hash)]
 pub enum Profile {
@@ -36,11 +38,6 @@ impl fmt::Display for Profile {
 
 impl Profile {
     /// All profiles, from the one that promises most.
-    ///
-    /// ```
-    /// # use blobcrash::files::Profile;
-    /// assert_eq!(Profile::ALL.len(), 4);
-    /// ```
     pub const ALL: [Profile; 4] = [Profile::Ext4, Profile::Xfs, Profile::Btrfs, Profile::Posix];
 }
 
@@ -48,13 +45,11 @@ impl Profile {
 ///
 /// ```
 /// # use blobcrash::{Probability, files::{Edits, Files}};
-/// # fn main() -> Result<(), blobcrash::Error> {
 /// let files = Files::builder().edits(Edits::Any).words(&[u64::MAX, 0]).open()?;
 /// files.create_dir("/lost")?;
 /// files.create_dir("/kept")?;
 /// assert_eq!(files.crash()?.edits, [false, true]);
-/// # Ok(())
-/// # }
+/// # Ok::<(), blobcrash::Error>(())
 /// ```
 #[derive(Clone, Copy, Debug, PartialEq, Eq, Hash)]
 pub enum Edits {
@@ -68,11 +63,6 @@ pub enum Edits {
 }
 
 /// What a sync of a file that fails does to the bytes that it was to make durable.
-///
-/// ```
-/// # use blobcrash::files::FailedSync;
-/// assert_eq!(FailedSync::default(), FailedSync::Keeps);
-/// ```
 #[derive(Clone, Copy, Debug, Default, PartialEq, Eq, Hash)]
 pub enum FailedSync {
     /// They stay unsynced. A later sync may make them durable.
@@ -83,11 +73,6 @@ pub enum FailedSync {
 }
 
 /// Whether a sync that returns `Ok` has made anything durable.
-///
-/// ```
-/// # use blobcrash::files::Syncs;
-/// assert_eq!(Syncs::default(), Syncs::Honest);
-/// ```
 #[derive(Clone, Copy, Debug, Default, PartialEq, Eq, Hash)]
 pub enum Syncs {
     /// It has.
@@ -98,11 +83,6 @@ pub enum Syncs {
 }
 
 /// Which bytes of a write that fails are written.
-///
-/// ```
-/// # use blobcrash::files::FailedWrite;
-/// assert_eq!(FailedWrite::default(), FailedWrite::ByMode);
-/// ```
 #[derive(Clone, Copy, Debug, Default, PartialEq, Eq, Hash)]
 pub enum FailedWrite {
     /// Those that the mode of writes selects.
@@ -142,11 +122,9 @@ impl Builder {
     /// Sets the profile.
     ///
     /// ```
-    /// # fn main() -> Result<(), blobcrash::Error> {
     /// # use blobcrash::files::{Files, Profile};
     /// let files = Files::builder().profile(Profile::Posix).seed(7).open()?;
-    /// # Ok(())
-    /// # }
+    /// # Ok::<(), blobcrash::Error>(())
     /// ```
     pub fn profile(mut self, profile: Profile) -> Builder {
         self.profile = profile;
@@ -160,12 +138,10 @@ impl Builder {
     ///
     /// ```
     /// # use blobcrash::{Config, Error, Probability, files::Files};
-    /// # fn main() -> Result<(), Error> {
     /// let never = Config::default().open(Probability::ONE);
     /// let files = Files::builder().config(never).seed(7).open()?;
     /// assert_eq!(files.create("/f").err(), Some(Error::Injected));
-    /// # Ok(())
-    /// # }
+    /// # Ok::<(), Error>(())
     /// ```
     pub fn config(mut self, config: Config) -> Builder {
         self.base = self.base.config(config);
@@ -176,13 +152,11 @@ impl Builder {
     ///
     /// ```
     /// # use blobcrash::{Probability, files::Files};
-    /// # fn main() -> Result<(), blobcrash::Error> {
     /// let files = Files::builder().keep(Probability::ZERO).seed(7).open()?;
     /// files.create_dir("/d")?;
     /// files.crash()?;
     /// assert!(!files.exists("/d")?);
-    /// # Ok(())
-    /// # }
+    /// # Ok::<(), blobcrash::Error>(())
     /// ```
     pub fn keep(mut self, rate: Probability) -> Builder {
         self.keep = Some(rate);
@@ -193,12 +167,10 @@ impl Builder {
     ///
     /// ```
     /// # use blobcrash::{Error, files::Files};
-    /// # fn main() -> Result<(), Error> {
     /// let files = Files::builder().space(4, 1).seed(7).open()?;
     /// assert_eq!(files.write("/f", b"abcde"), Err(Error::NoSpace));
     /// assert_eq!(files.create("/g").err(), Some(Error::NoSpace));
-    /// # Ok(())
-    /// # }
+    /// # Ok::<(), Error>(())
     /// ```
     pub fn space(mut self, bytes: u64, files: u64) -> Builder {
         self.space = Some([bytes, files]);
@@ -210,7 +182,6 @@ impl Builder {
     /// ```
     /// # use blobcrash::{Config, Error, Probability, files::{FailedSync, Files}};
     /// # use std::io::Write;
-    /// # fn main() -> std::io::Result<()> {
     /// let files = Files::builder().failed_sync(FailedSync::Drops).seed(7).open()?;
     /// files.configure(Config::default().sync(Probability::ONE))?;
     /// let mut file = files.create("/f")?;
@@ -218,8 +189,7 @@ impl Builder {
     /// assert_eq!(file.sync_all(), Err(Error::Injected));
     /// assert_eq!(file.metadata()?.len(), 3);
     /// assert_eq!(files.read("/f")?, b"");
-    /// # Ok(())
-    /// # }
+    /// # Ok::<(), std::io::Error>(())
     /// ```
     pub fn failed_sync(mut self, does: FailedSync) -> Builder {
         self.failed_sync = does;
@@ -230,14 +200,12 @@ impl Builder {
     ///
     /// ```
     /// # use blobcrash::{Probability, files::{Files, Syncs}};
-    /// # fn main() -> Result<(), blobcrash::Error> {
     /// let files = Files::builder().syncs(Syncs::Lie).keep(Probability::ZERO).open()?;
     /// files.create_dir("/d")?;
     /// files.sync()?;
     /// files.crash()?;
     /// assert!(!files.exists("/d")?);
-    /// # Ok(())
-    /// # }
+    /// # Ok::<(), blobcrash::Error>(())
     /// ```
     pub fn syncs(mut self, syncs: Syncs) -> Builder {
         self.syncs = syncs;
@@ -248,10 +216,8 @@ impl Builder {
     ///
     /// ```
     /// # use blobcrash::files::{FailedWrite, Files};
-    /// # fn main() -> Result<(), blobcrash::Error> {
     /// let files = Files::builder().failed_write(FailedWrite::Prefix).seed(7).open()?;
-    /// # Ok(())
-    /// # }
+    /// # Ok::<(), blobcrash::Error>(())
     /// ```
     pub fn failed_write(mut self, writes: FailedWrite) -> Builder {
         self.failed_write = writes;
@@ -262,11 +228,9 @@ impl Builder {
     ///
     /// ```
     /// # use blobcrash::files::{Edits, Files, Profile};
-    /// # fn main() -> Result<(), blobcrash::Error> {
     /// let files = Files::builder().profile(Profile::Btrfs).edits(Edits::Any).seed(7).open()?;
     /// assert!(files.script().contains("profile btrfs\nedits any\n"));
-    /// # Ok(())
-    /// # }
+    /// # Ok::<(), blobcrash::Error>(())
     /// ```
     pub fn edits(mut self, edits: Edits) -> Builder {
         self.edits = Some(edits);
@@ -288,12 +252,10 @@ impl Builder {
     ///
     /// ```
     /// # use blobcrash::files::Files;
-    /// # fn main() -> Result<(), blobcrash::Error> {
     /// let files = Files::builder().words(&[u64::MAX]).open()?;
     /// files.create_dir("/d")?;
     /// assert_eq!(files.crash()?.edits, [false]);
-    /// # Ok(())
-    /// # }
+    /// # Ok::<(), blobcrash::Error>(())
     /// ```
     pub fn words(mut self, words: &[u64]) -> Builder {
         self.base = self.base.words(words);
@@ -304,10 +266,8 @@ impl Builder {
     ///
     /// ```
     /// # use blobcrash::files::Files;
-    /// # fn main() -> Result<(), blobcrash::Error> {
     /// assert!(Files::builder().seed(7).open()?.script().starts_with("seed 7\n"));
-    /// # Ok(())
-    /// # }
+    /// # Ok::<(), blobcrash::Error>(())
     /// ```
     pub fn seed(mut self, seed: u64) -> Builder {
         self.base = self.base.seed(seed);
@@ -318,13 +278,11 @@ impl Builder {
     ///
     /// ```
     /// # use blobcrash::{Error, files::Files};
-    /// # fn main() -> Result<(), Error> {
     /// let files = Files::builder().lines(&["seed 7", "config read 1 1"]).open();
     /// assert!(files.is_ok());
     /// let refused = Files::builder().lines(&["frob"]).seed(7).open();
     /// assert_eq!(refused.err(), Some(Error::BadLine("frob".to_owned())));
-    /// # Ok(())
-    /// # }
+    /// # Ok::<(), Error>(())
     /// ```
     pub fn lines(mut self, lines: &[&str]) -> Builder {
         self.base = self.base.lines(lines);
@@ -335,10 +293,8 @@ impl Builder {
     ///
     /// ```
     /// # use blobcrash::files::Files;
-    /// # fn main() -> Result<(), blobcrash::Error> {
     /// assert_eq!(Files::builder().unrecorded().seed(7).open()?.script(), "");
-    /// # Ok(())
-    /// # }
+    /// # Ok::<(), blobcrash::Error>(())
     /// ```
     pub fn unrecorded(mut self) -> Builder {
         self.base = self.base.unrecorded();
@@ -382,15 +338,15 @@ impl Builder {
             .space
             .map(|[bytes, files]| format!("space {bytes} {files}"));
         self.base.lines.push(format!("profile {}", self.profile));
-        let edits = self.edits.map(|edits| match edits {
+        let switches = self.switches();
+        self.base.lines.extend(self.edits.map(|edits| match edits {
             Edits::Prefix => "edits prefix".to_owned(),
             Edits::Any => "edits any".to_owned(),
             Edits::Logged => "edits logged".to_owned(),
-        });
-        self.base.lines.extend(edits);
-        let switches = self.switches();
-        let settings = keep.into_iter().chain(space).chain(switches);
-        self.base.lines.extend(settings);
+        }));
+        self.base
+            .lines
+            .extend(keep.into_iter().chain(space).chain(switches));
         self.base.complete()
     }
 }
@@ -413,6 +369,7 @@ impl Explorable for Builder {
         state.syncs_lie = self.syncs == Syncs::Lie;
         let settings = self.base.settings.unwrap_or_default();
         state.limits.unsynced.set(&settings);
-        Ok(Files::of(Shared::new(state, self.base.has_draws)))
+        let shared = Shared::new(state, self.base.has_draws);
+        Ok(Files { shared })
     }
 }

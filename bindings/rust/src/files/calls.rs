@@ -1,9 +1,10 @@
 //! The calls of a file system.
 use super::foreign::Kind;
-use super::state::{Shared, State};
+use super::state::State;
 use super::{Builder, DirEntry, File, FileType, Metadata, OpenOptions, bytes_of};
 use crate::Error;
 use crate::limits::{Limited, Limits, Recorded};
+use crate::shared::Shared;
 use std::path::Path;
 use std::sync::{Arc, MutexGuard};
 
@@ -19,10 +20,8 @@ use std::sync::{Arc, MutexGuard};
 /// - `Memory`, `OutOfMemory`, and `Crashed` if the recovery of the last crash failed.
 ///
 /// ```
-/// use blobcrash::Error;
 /// use blobcrash::files::Files;
 ///
-/// # fn main() -> Result<(), Error> {
 /// let files = Files::builder().seed(7).open()?;
 /// files.create_dir("/d")?;
 /// files.write("/d/f", b"durable")?;
@@ -31,30 +30,21 @@ use std::sync::{Arc, MutexGuard};
 /// files.sync_directory("/d")?;
 /// files.crash()?;
 /// assert!(files.read_dir("/d")?.is_empty());
-/// # Ok(())
-/// # }
+/// # Ok::<(), blobcrash::Error>(())
 /// ```
 #[derive(Clone, Debug)]
 pub struct Files {
-    pub(crate) shared: Arc<Shared>,
+    pub(crate) shared: Arc<Shared<State>>,
 }
 
 impl Files {
-    pub(crate) fn of(shared: Shared) -> Files {
-        Files {
-            shared: Arc::new(shared),
-        }
-    }
-
     /// Returns what a file system begins with: no file, no call that fails, and a generator that needs a seed or words. A crash keeps
     /// nothing of an unsynced write before [`Builder::config`] says what.
     ///
     /// ```
-    /// # fn main() -> Result<(), blobcrash::Error> {
     /// let files = blobcrash::files::Files::builder().seed(7).open()?;
     /// assert!(files.read_dir("/")?.is_empty());
-    /// # Ok(())
-    /// # }
+    /// # Ok::<(), blobcrash::Error>(())
     /// ```
     pub fn builder() -> Builder {
         Builder::default()
@@ -71,11 +61,9 @@ impl Files {
     /// Returns options for opening a file, none of which is set.
     ///
     /// ```
-    /// # fn main() -> Result<(), blobcrash::Error> {
     /// # let files = blobcrash::files::Files::builder().seed(7).open()?;
     /// let log = files.options().append(true).create(true).open("/log")?;
-    /// # Ok(())
-    /// # }
+    /// # Ok::<(), blobcrash::Error>(())
     /// ```
     pub fn options(&self) -> OpenOptions {
         OpenOptions::of(self)
@@ -85,13 +73,11 @@ impl Files {
     ///
     /// ```
     /// # use blobcrash::Error;
-    /// # fn main() -> Result<(), Error> {
     /// # let files = blobcrash::files::Files::builder().seed(7).open()?;
     /// assert_eq!(files.open("/f").err(), Some(Error::NotFound));
     /// files.write("/f", b"abc")?;
     /// assert_eq!(files.open("/f")?.metadata()?.len(), 3);
-    /// # Ok(())
-    /// # }
+    /// # Ok::<(), Error>(())
     /// ```
     pub fn open(&self, path: impl AsRef<Path>) -> Result<File, Error> {
         self.options().read(true).open(path)
@@ -102,13 +88,11 @@ impl Files {
     ///
     /// ```
     /// # use std::io::Write;
-    /// # fn main() -> std::io::Result<()> {
     /// # let files = blobcrash::files::Files::builder().seed(7).open()?;
     /// files.create("/f")?.write_all(b"abc")?;
     /// files.create("/f")?.write_all(b"d")?;
     /// assert_eq!(files.read("/f")?, b"d");
-    /// # Ok(())
-    /// # }
+    /// # Ok::<(), std::io::Error>(())
     /// ```
     pub fn create(&self, path: impl AsRef<Path>) -> Result<File, Error> {
         let mut options = self.options();
@@ -119,12 +103,10 @@ impl Files {
     ///
     /// ```
     /// # use blobcrash::Error;
-    /// # fn main() -> Result<(), Error> {
     /// # let files = blobcrash::files::Files::builder().seed(7).open()?;
     /// files.create_new("/f")?;
     /// assert_eq!(files.create_new("/f").err(), Some(Error::Exists));
-    /// # Ok(())
-    /// # }
+    /// # Ok::<(), Error>(())
     /// ```
     pub fn create_new(&self, path: impl AsRef<Path>) -> Result<File, Error> {
         let mut options = self.options();
@@ -134,12 +116,10 @@ impl Files {
     /// Returns the bytes of a file. Errors as `open` and as a read.
     ///
     /// ```
-    /// # fn main() -> Result<(), blobcrash::Error> {
     /// # let files = blobcrash::files::Files::builder().seed(7).open()?;
     /// files.write("/f", b"abc")?;
     /// assert_eq!(files.read("/f")?, b"abc");
-    /// # Ok(())
-    /// # }
+    /// # Ok::<(), blobcrash::Error>(())
     /// ```
     pub fn read(&self, path: impl AsRef<Path>) -> Result<Vec<u8>, Error> {
         let mut bytes = Vec::new();
@@ -150,13 +130,11 @@ impl Files {
     /// Writes a whole file, as by `create` and a write. Errors as of these: some of the bytes may be written.
     ///
     /// ```
-    /// # fn main() -> Result<(), blobcrash::Error> {
     /// # let files = blobcrash::files::Files::builder().seed(7).open()?;
     /// files.write("/f", "abc")?;
     /// files.write("/f", b"d")?;
     /// assert_eq!(files.read("/f")?, b"d");
-    /// # Ok(())
-    /// # }
+    /// # Ok::<(), blobcrash::Error>(())
     /// ```
     pub fn write(&self, path: impl AsRef<Path>, contents: impl AsRef<[u8]>) -> Result<(), Error> {
         self.create(path)?
@@ -167,7 +145,6 @@ impl Files {
     /// Returns what is in a directory, sorted by the bytes of the names.
     ///
     /// ```
-    /// # fn main() -> Result<(), blobcrash::Error> {
     /// # let files = blobcrash::files::Files::builder().seed(7).open()?;
     /// files.create_dir("/d")?;
     /// files.write("/d/b", b"")?;
@@ -175,8 +152,7 @@ impl Files {
     /// let entries = files.read_dir("/d")?;
     /// let names: Vec<_> = entries.iter().map(|entry| entry.path()).collect();
     /// assert_eq!(names, ["/d/a", "/d/b"].map(std::path::PathBuf::from));
-    /// # Ok(())
-    /// # }
+    /// # Ok::<(), blobcrash::Error>(())
     /// ```
     pub fn read_dir(&self, path: impl AsRef<Path>) -> Result<Vec<DirEntry>, Error> {
         let names = self.lock().list(bytes_of(&path))?;
@@ -189,11 +165,9 @@ impl Files {
     /// Returns whether a file or a directory has this path.
     ///
     /// ```
-    /// # fn main() -> Result<(), blobcrash::Error> {
     /// # let files = blobcrash::files::Files::builder().seed(7).open()?;
     /// assert!(files.exists("/")? && !files.exists("/f")?);
-    /// # Ok(())
-    /// # }
+    /// # Ok::<(), blobcrash::Error>(())
     /// ```
     pub fn exists(&self, path: impl AsRef<Path>) -> Result<bool, Error> {
         match self.metadata(path) {
@@ -206,13 +180,11 @@ impl Files {
     /// Returns the number, the kind and the size of a file or a directory.
     ///
     /// ```
-    /// # fn main() -> Result<(), blobcrash::Error> {
     /// # let files = blobcrash::files::Files::builder().seed(7).open()?;
     /// files.write("/f", b"abc")?;
     /// assert_eq!(files.metadata("/f")?.len(), 3);
     /// assert!(files.metadata("/")?.is_dir());
-    /// # Ok(())
-    /// # }
+    /// # Ok::<(), blobcrash::Error>(())
     /// ```
     pub fn metadata(&self, path: impl AsRef<Path>) -> Result<Metadata, Error> {
         self.lock().metadata(bytes_of(&path))
@@ -221,14 +193,12 @@ impl Files {
     /// Makes the changes of a directory's names durable, and those that the profile adds: as `fsync` of a directory. Makes no draw.
     ///
     /// ```
-    /// # fn main() -> Result<(), blobcrash::Error> {
     /// # let files = blobcrash::files::Files::builder().seed(7).open()?;
     /// files.create_dir("/d")?;
     /// files.sync_directory("/")?;
     /// files.crash()?;
     /// assert!(files.exists("/d")?);
-    /// # Ok(())
-    /// # }
+    /// # Ok::<(), blobcrash::Error>(())
     /// ```
     pub fn sync_directory(&self, path: impl AsRef<Path>) -> Result<(), Error> {
         self.by_path(Kind::SyncDirectory, path)
@@ -237,14 +207,12 @@ impl Files {
     /// Makes the bytes of all files and all names durable: as `sync`. Errors: `Injected` of the layer's syncs, after some of them.
     ///
     /// ```
-    /// # fn main() -> Result<(), blobcrash::Error> {
     /// # let files = blobcrash::files::Files::builder().seed(7).open()?;
     /// files.write("/f", b"abc")?;
     /// files.sync()?;
     /// files.crash()?;
     /// assert_eq!(files.read("/f")?, b"abc");
-    /// # Ok(())
-    /// # }
+    /// # Ok::<(), blobcrash::Error>(())
     /// ```
     pub fn sync(&self) -> Result<(), Error> {
         self.lock().by_number(Kind::SyncAll, 0).map(drop)

@@ -7,14 +7,12 @@ use crate::{Config, Error, Selections};
 /// What a crash kept.
 ///
 /// ```
-/// # fn main() -> Result<(), blobcrash::Error> {
 /// let files = blobcrash::files::Files::builder().words(&[0, u64::MAX]).open()?;
 /// files.create_dir("/a")?;
 /// files.create_dir("/b")?;
 /// assert_eq!(files.crash()?.edits, [true, false]);
 /// assert!(files.exists("/a")? && !files.exists("/b")?);
-/// # Ok(())
-/// # }
+/// # Ok::<(), blobcrash::Error>(())
 /// ```
 #[derive(Clone, Debug, Default, PartialEq, Eq)]
 pub struct Crash {
@@ -32,7 +30,6 @@ pub struct Crash {
 /// ```
 /// # use blobcrash::files::Place;
 /// # use blobcrash::{Config, PartialWriteMode, Probability, WriteConfig};
-/// # fn main() -> Result<(), blobcrash::Error> {
 /// let kept = WriteConfig {
 ///     failure_rate: Probability::ZERO,
 ///     retention_rate: Probability::ONE,
@@ -45,8 +42,7 @@ pub struct Crash {
 /// let (edit, write) = (Place { inode: None, offset: 0 }, Place { inode, offset: 0 });
 /// // The zeros by which the file grows are a write of their own.
 /// assert_eq!(files.crash()?.places, [edit, write, write]);
-/// # Ok(())
-/// # }
+/// # Ok::<(), blobcrash::Error>(())
 /// ```
 #[derive(Clone, Copy, Debug, PartialEq, Eq, Hash)]
 pub struct Place {
@@ -61,14 +57,12 @@ impl Files {
     /// call.
     ///
     /// ```
-    /// # fn main() -> Result<(), blobcrash::Error> {
     /// # let files = blobcrash::files::Files::builder().seed(7).open()?;
     /// files.write("/f", b"abc")?;
     /// files.settle()?;
     /// assert!(files.crash()?.edits.is_empty());
     /// assert_eq!(files.read("/f")?, b"abc");
-    /// # Ok(())
-    /// # }
+    /// # Ok::<(), blobcrash::Error>(())
     /// ```
     pub fn settle(&self) -> Result<(), Error> {
         self.lock().by_number(Kind::Settle, 0).map(drop)
@@ -78,14 +72,12 @@ impl Files {
     /// unsynced. The power doesn't fail at this call.
     ///
     /// ```
-    /// # fn main() -> Result<(), blobcrash::Error> {
     /// # let files = blobcrash::files::Files::builder().seed(7).open()?;
     /// files.create_dir("/d")?;
     /// files.commit()?;
     /// assert!(files.crash()?.edits.is_empty());
     /// assert!(files.exists("/d")?);
-    /// # Ok(())
-    /// # }
+    /// # Ok::<(), blobcrash::Error>(())
     /// ```
     pub fn commit(&self) -> Result<(), Error> {
         self.lock().by_number(Kind::Commit, 0).map(drop)
@@ -96,13 +88,11 @@ impl Files {
     /// Errors: `Memory`. If the recovery ran out of it, all other calls return `Crashed` until a crash is `Ok`.
     ///
     /// ```
-    /// # fn main() -> Result<(), blobcrash::Error> {
     /// # let files = blobcrash::files::Files::builder().seed(7).open()?;
     /// files.create_dir("/d")?;
     /// let kept = files.crash()?.edits;
     /// assert_eq!(kept, [files.exists("/d")?]);
-    /// # Ok(())
-    /// # }
+    /// # Ok::<(), blobcrash::Error>(())
     /// ```
     pub fn crash(&self) -> Result<Crash, Error> {
         self.lock().crash()
@@ -111,11 +101,9 @@ impl Files {
     /// Crashes, as [`Store::restart`](crate::Store::restart) does: a crash of files recovers them too.
     ///
     /// ```
-    /// # fn main() -> Result<(), blobcrash::Error> {
     /// # let files = blobcrash::files::Files::builder().seed(7).open()?;
     /// assert_eq!(files.restart()?, Default::default());
-    /// # Ok(())
-    /// # }
+    /// # Ok::<(), blobcrash::Error>(())
     /// ```
     pub fn restart(&self) -> Result<Crash, Error> {
         self.crash()
@@ -129,7 +117,6 @@ impl Files {
     ///
     /// ```
     /// # use blobcrash::Error;
-    /// # fn main() -> Result<(), Error> {
     /// # let files = blobcrash::files::Files::builder().seed(7).open()?;
     /// files.crash_after(1)?;
     /// files.create_dir("/a")?;
@@ -137,8 +124,7 @@ impl Files {
     /// assert!(files.is_power_off());
     /// files.crash()?;
     /// assert!(!files.exists("/b")?);
-    /// # Ok(())
-    /// # }
+    /// # Ok::<(), Error>(())
     /// ```
     pub fn crash_after(&self, calls: u64) -> Result<(), Error> {
         cut_after(&mut self.lock().session, calls)
@@ -147,12 +133,10 @@ impl Files {
     /// Returns whether the power is off.
     ///
     /// ```
-    /// # fn main() -> Result<(), blobcrash::Error> {
     /// # let files = blobcrash::files::Files::builder().seed(7).open()?;
     /// files.crash_after(0)?;
     /// assert!(files.sync().is_err() && files.is_power_off());
-    /// # Ok(())
-    /// # }
+    /// # Ok::<(), blobcrash::Error>(())
     /// ```
     #[must_use]
     pub fn is_power_off(&self) -> bool {
@@ -162,8 +146,6 @@ impl Files {
     /// Crashes, calls `step` and returns what that returns. Does both again if the power fails meanwhile. Returns the error of a crash.
     ///
     /// ```
-    /// # use blobcrash::Error;
-    /// # fn main() -> Result<(), Error> {
     /// # let files = blobcrash::files::Files::builder().seed(7).open()?;
     /// files.crash_after(1)?;
     /// let mut steps = 0;
@@ -173,8 +155,7 @@ impl Files {
     ///     files.create("/b").map(drop)
     /// })?;
     /// assert_eq!(steps, 2);
-    /// # Ok(())
-    /// # }
+    /// # Ok::<(), blobcrash::Error>(())
     /// ```
     pub fn recover<T, E: From<Error>>(
         &self,
@@ -198,13 +179,11 @@ impl Files {
     ///
     /// ```
     /// # use blobcrash::{Config, Error, Probability};
-    /// # fn main() -> Result<(), Error> {
     /// # let files = blobcrash::files::Files::builder().seed(7).open()?;
     /// let file = files.create("/f")?;
     /// files.configure(Config::default().sync(Probability::ONE))?;
     /// assert_eq!(file.sync_all(), Err(Error::Injected));
-    /// # Ok(())
-    /// # }
+    /// # Ok::<(), Error>(())
     /// ```
     pub fn configure(&self, config: Config) -> Result<(), Error> {
         config.check()?;
@@ -218,12 +197,10 @@ impl Files {
     /// Adds a comment to the record, a line for each of the text's.
     ///
     /// ```
-    /// # fn main() -> Result<(), blobcrash::Error> {
     /// # let files = blobcrash::files::Files::builder().seed(7).open()?;
     /// files.note("the log is full");
     /// assert!(files.script().ends_with("# the log is full\n"));
-    /// # Ok(())
-    /// # }
+    /// # Ok::<(), blobcrash::Error>(())
     /// ```
     pub fn note(&self, text: &str) {
         self.lock().session.note(text);
@@ -233,33 +210,27 @@ impl Files {
     /// descriptor a call opened, or why it was refused, and what a crash kept. Empty for files that are `unrecorded`.
     ///
     /// ```
-    /// # fn main() -> Result<(), blobcrash::Error> {
     /// let files = blobcrash::files::Files::builder().seed(7).open()?;
     /// files.write("/f", b"abc")?;
     /// files.rename("/f", "/g")?;
     /// let begin = "seed 7\nprofile ext4\n";
     /// let calls = "create /f # is 0\nwrite 0 0 616263\nclose 0\nrename /f /g\n";
     /// assert_eq!(files.script(), begin.to_owned() + calls);
-    /// # Ok(())
-    /// # }
+    /// # Ok::<(), blobcrash::Error>(())
     /// ```
     #[must_use]
     pub fn script(&self) -> String {
-        let state = self.lock();
-        let record = state.session.record.as_ref();
-        record.map(|record| record.text()).unwrap_or_default()
+        self.lock().session.script()
     }
 
     /// Returns how many of the given words are left, up to the last one that isn't zero, or `None` if there is a seed.
     ///
     /// ```
-    /// # fn main() -> Result<(), blobcrash::Error> {
     /// let files = blobcrash::files::Files::builder().words(&[0, 0, 1]).open()?;
     /// files.create_dir("/d")?;
     /// files.crash()?;
     /// assert_eq!(files.words_left(), Some(2));
-    /// # Ok(())
-    /// # }
+    /// # Ok::<(), blobcrash::Error>(())
     /// ```
     #[must_use]
     pub fn words_left(&self) -> Option<usize> {

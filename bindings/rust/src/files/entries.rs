@@ -7,12 +7,10 @@ use std::path::{Path, PathBuf};
 /// Whether something is a file or a directory.
 ///
 /// ```
-/// # fn main() -> Result<(), blobcrash::Error> {
 /// # let files = blobcrash::files::Files::builder().seed(7).open()?;
 /// files.create_dir("/d")?;
 /// assert!(files.read_dir("/")?[0].file_type().is_dir());
-/// # Ok(())
-/// # }
+/// # Ok::<(), blobcrash::Error>(())
 /// ```
 #[derive(Clone, Copy, Debug, PartialEq, Eq, Hash)]
 pub struct FileType {
@@ -40,15 +38,13 @@ impl FileType {
 /// The number, the kind and the size of a file or a directory.
 ///
 /// ```
-/// # fn main() -> Result<(), blobcrash::Error> {
 /// # let files = blobcrash::files::Files::builder().seed(7).open()?;
 /// let file = files.create("/f")?;
 /// file.set_len(3)?;
 /// let metadata = file.metadata()?;
 /// assert!(metadata.is_file() && metadata.len() == 3);
 /// assert_eq!(files.metadata("/f")?, metadata);
-/// # Ok(())
-/// # }
+/// # Ok::<(), blobcrash::Error>(())
 /// ```
 #[derive(Clone, Debug, PartialEq, Eq)]
 #[must_use]
@@ -102,15 +98,13 @@ impl Metadata {
 /// A name in a directory.
 ///
 /// ```
-/// # fn main() -> Result<(), blobcrash::Error> {
 /// # let files = blobcrash::files::Files::builder().seed(7).open()?;
 /// files.create_dir("/d")?;
 /// files.create("/d/f")?;
 /// let entry = &files.read_dir("/d")?[0];
 /// assert_eq!((entry.file_name(), entry.path()), ("f".into(), "/d/f".into()));
 /// assert_eq!(entry.ino(), files.metadata("/d/f")?.ino());
-/// # Ok(())
-/// # }
+/// # Ok::<(), blobcrash::Error>(())
 /// ```
 #[derive(Clone, Debug, PartialEq, Eq)]
 pub struct DirEntry {

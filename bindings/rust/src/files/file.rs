@@ -18,7 +18,6 @@ use std::sync::atomic::{AtomicU64, Ordering};
 /// use std::io::{Read, Seek, Write};
 /// use std::os::unix::fs::FileExt;
 ///
-/// # fn main() -> std::io::Result<()> {
 /// # let files = blobcrash::files::Files::builder().seed(7).open()?;
 /// let mut file = files.create_new("/f")?;
 /// file.write_all(b"record")?;
@@ -31,50 +30,31 @@ use std::sync::atomic::{AtomicU64, Ordering};
 /// files.crash()?;
 /// assert_eq!(files.read("/f")?, b"recodd");
 /// assert!(file.metadata().is_err());
-/// # Ok(())
-/// # }
+/// # Ok::<(), std::io::Error>(())
 /// ```
 #[derive(Debug)]
 pub struct File {
-    files: Files,
-    descriptor: u64,
+    pub(crate) files: Files,
+    pub(crate) descriptor: u64,
     /// How many crashes there were when the file was opened.
-    life: u64,
-    position: AtomicU64,
-    reads: bool,
-    writes: bool,
-    appends: bool,
+    pub(crate) life: u64,
+    pub(crate) position: AtomicU64,
+    pub(crate) reads: bool,
+    pub(crate) writes: bool,
+    pub(crate) appends: bool,
 }
 
 impl File {
-    pub(crate) fn new(
-        files: &Files,
-        (descriptor, life): (u64, u64),
-        (reads, writes, appends): (bool, bool, bool),
-    ) -> File {
-        File {
-            files: files.clone(),
-            descriptor,
-            life,
-            position: AtomicU64::new(0),
-            reads,
-            writes,
-            appends,
-        }
-    }
-
     /// Truncates the file to a length, or extends it by zeros. The length is durable when the file is synced.
     ///
     /// Errors: `Argument` if the file isn't open for writing; `NoSpace` beyond a limit of bytes; `OffsetOverflow`; `Injected`, which
     /// may leave a length between the two if the file gets shorter.
     ///
     /// ```
-    /// # fn main() -> Result<(), blobcrash::Error> {
     /// # let files = blobcrash::files::Files::builder().seed(7).open()?;
     /// files.create("/f")?.set_len(2)?;
     /// assert_eq!(files.read("/f")?, [0, 0]);
-    /// # Ok(())
-    /// # }
+    /// # Ok::<(), blobcrash::Error>(())
     /// ```
     pub fn set_len(&self, len: u64) -> Result<(), Error> {
         let mut state = self.writable()?;
@@ -88,15 +68,13 @@ impl File {
     ///
     /// ```
     /// # use std::io::Write;
-    /// # fn main() -> std::io::Result<()> {
     /// # let files = blobcrash::files::Files::builder().seed(7).open()?;
     /// let mut file = files.create("/f")?;
     /// file.write_all(b"abc")?;
     /// file.sync_all()?;
     /// files.crash()?;
     /// assert_eq!(files.read("/f")?, b"abc");
-    /// # Ok(())
-    /// # }
+    /// # Ok::<(), std::io::Error>(())
     /// ```
     pub fn sync_all(&self) -> Result<(), Error> {
         self.by_number(Kind::Sync)
@@ -105,11 +83,9 @@ impl File {
     /// Makes the file's bytes and size durable: as `fdatasync`. Errors as `sync_all`.
     ///
     /// ```
-    /// # fn main() -> Result<(), blobcrash::Error> {
     /// # let files = blobcrash::files::Files::builder().seed(7).open()?;
     /// files.create("/f")?.sync_data()?;
-    /// # Ok(())
-    /// # }
+    /// # Ok::<(), blobcrash::Error>(())
     /// ```
     pub fn sync_data(&self) -> Result<(), Error> {
         self.by_number(Kind::SyncData)
@@ -118,11 +94,9 @@ impl File {
     /// Returns the number and the size of the file.
     ///
     /// ```
-    /// # fn main() -> Result<(), blobcrash::Error> {
     /// # let files = blobcrash::files::Files::builder().seed(7).open()?;
     /// assert_eq!(files.create("/f")?.metadata()?.len(), 0);
-    /// # Ok(())
-    /// # }
+    /// # Ok::<(), blobcrash::Error>(())
     /// ```
     pub fn metadata(&self) -> Result<Metadata, Error> {
         let mut state = self.usable()?;
@@ -139,11 +113,9 @@ impl File {
     /// Returns the number of the file's descriptor, by which lines of the record name it.
     ///
     /// ```
-    /// # fn main() -> Result<(), blobcrash::Error> {
     /// # let files = blobcrash::files::Files::builder().seed(7).open()?;
     /// assert_ne!(files.create("/f")?.descriptor(), files.create("/g")?.descriptor());
-    /// # Ok(())
-    /// # }
+    /// # Ok::<(), blobcrash::Error>(())
     /// ```
     #[must_use]
     pub fn descriptor(&self) -> u64 {
@@ -166,16 +138,14 @@ impl File {
 
     fn readable(&self) -> Result<MutexGuard<'_, State>, Error> {
         if !self.reads {
-            let text = "the file isn't open for reading";
-            return Err(Error::Argument(text.to_owned()));
+            return Err(Error::argument("the file isn't open for reading"));
         }
         self.usable()
     }
 
     fn writable(&self) -> Result<MutexGuard<'_, State>, Error> {
         if !self.writes {
-            let text = "the file isn't open for writing";
-            return Err(Error::Argument(text.to_owned()));
+            return Err(Error::argument("the file isn't open for writing"));
         }
         self.usable()
     }
@@ -262,8 +232,7 @@ impl Seek for &File {
             SeekFrom::End(by) => (self.size()?, by),
         };
         let at = from.checked_add_signed(by);
-        let text = "a position is from 0 to 2^64 - 1";
-        let at = at.ok_or_else(|| Error::Argument(text.to_owned()))?;
+        let at = at.ok_or_else(|| Error::argument("a position is from 0 to 2^64 - 1"))?;
         self.position.store(at, Ordering::Relaxed);
         Ok(at)
     }

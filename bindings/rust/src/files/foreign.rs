@@ -1,5 +1,5 @@
-//! The files of the library as they are declared in `bindings/c/blobcrash_files.h`. `library` alone calls the functions.
-use crate::foreign::{KeptRun, PowerState, Ran, ScriptRan};
+//! The files of the library as they are declared in `bindings/c/blobcrash_files.h`. `library` and `session` alone call the functions.
+use crate::foreign::{KeptRun, PowerState, Ran, ScriptRan, kinds};
 use std::ffi::c_void;
 
 /// Files, which belong to the library.
@@ -14,7 +14,7 @@ pub(crate) struct RawFiles {
 #[repr(C)]
 #[derive(Clone, Copy, Debug)]
 pub(crate) struct RawCall {
-    pub(crate) kind: u32,
+    pub(crate) kind: Kind,
     pub(crate) number: u64,
     pub(crate) first: u64,
     pub(crate) last: u64,
@@ -29,33 +29,33 @@ pub(crate) struct Reply {
     pub(crate) size: u64,
 }
 
-/// The kinds of calls that this crate makes.
-#[derive(Clone, Copy, Debug, PartialEq, Eq)]
-#[repr(u32)]
-pub(crate) enum Kind {
-    Create = 0,
-    Open = 1,
-    OpenTruncated = 2,
-    Link = 3,
-    Unlink = 4,
-    Rename = 5,
-    MakeDirectory = 6,
-    RemoveDirectory = 7,
-    List = 8,
-    SyncDirectory = 9,
-    Find = 10,
-    Close = 32,
-    Truncate = 33,
-    Size = 34,
-    Sync = 35,
-    SyncData = 36,
-    InodeOf = 37,
-    Read = 38,
-    Write = 39,
-    SyncAll = 48,
-    Settle = 49,
-    Crash = 50,
-    Commit = 52,
+kinds! {
+    /// The kinds of calls that this crate makes.
+    Kind {
+        Create = 0,
+        Open = 1,
+        OpenTruncated = 2,
+        Link = 3,
+        Unlink = 4,
+        Rename = 5,
+        MakeDirectory = 6,
+        RemoveDirectory = 7,
+        List = 8,
+        SyncDirectory = 9,
+        Find = 10,
+        Close = 32,
+        Truncate = 33,
+        Size = 34,
+        Sync = 35,
+        SyncData = 36,
+        InodeOf = 37,
+        Read = 38,
+        Write = 39,
+        SyncAll = 48,
+        Settle = 49,
+        Crash = 50,
+        Commit = 52,
+    }
 }
 
 unsafe extern "C" {
@@ -129,38 +129,11 @@ unsafe extern "C" {
 #[cfg(test)]
 mod tests {
     use super::*;
-    use crate::foreign::tests::{enumerators, upper};
+    use crate::foreign::tests::{check_kinds, enumerators};
 
     #[test]
     fn kinds_are_those_of_the_header() {
         let header = enumerators(include_str!("../../../c/blobcrash_files.h"));
-        for kind in [
-            Kind::Create,
-            Kind::Open,
-            Kind::OpenTruncated,
-            Kind::Link,
-            Kind::Unlink,
-            Kind::Rename,
-            Kind::MakeDirectory,
-            Kind::RemoveDirectory,
-            Kind::List,
-            Kind::SyncDirectory,
-            Kind::Find,
-            Kind::Close,
-            Kind::Truncate,
-            Kind::Size,
-            Kind::Sync,
-            Kind::SyncData,
-            Kind::InodeOf,
-            Kind::Read,
-            Kind::Write,
-            Kind::SyncAll,
-            Kind::Settle,
-            Kind::Crash,
-            Kind::Commit,
-        ] {
-            let name = format!("F_{}", upper(&format!("{kind:?}")));
-            assert_eq!(header.get(name.as_str()), Some(&(kind as u32)), "{name}");
-        }
+        check_kinds(&header, "F_", Kind::ALL);
     }
 }

@@ -1,27 +1,45 @@
 //! Safe functions over those of the library for files. No other file of this module calls an `unsafe` function.
 use super::crash::{Crash, Place};
 use super::foreign::*;
-use super::record::{Call, Record};
-use crate::foreign::{BAD_LINE, CHANGES, DONE, ENDLESS, NO_MEMORY, POWER_LOSS, PowerState, Ran};
-use crate::library::{copied, selections, text_of};
+use super::record::Call;
+use crate::Error;
+use crate::foreign::{BAD_LINE, CHANGES, DONE, NO_MEMORY, POWER_LOSS, Ran};
+use crate::library::{copied, text_of};
 use crate::limits::Recorded;
-use crate::{Error, Selections};
-use std::{mem, ptr};
+use crate::record::Asked;
+use crate::session::{self, Functions, Raw};
+use std::ptr;
 
-/// Open files of the library, which are closed when this is dropped.
-///
-/// `&mut self` prevents two calls at the same time. It may be moved: the library keeps no address of it between calls.
-#[derive(Debug)]
-pub(crate) struct Session {
-    raw: RawFiles,
-    /// The calls that were made, if they are recorded.
-    pub(crate) record: Option<Record>,
-    /// Whether a call wasn't made since the power went off.
-    has_lost: bool,
+/// A session of files.
+pub(crate) type Session = session::Session<RawFiles>;
+
+impl Raw for RawFiles {
+    type Asked = RawCall;
+    const CLOSED: RawFiles = RawFiles {
+        at: ptr::null_mut(),
+        is_open: false,
+    };
+    const FUNCTIONS: Functions<RawFiles> = Functions {
+        open: blobcrash_files_open,
+        push_words: blobcrash_files_push_words,
+        words_left: blobcrash_files_words_left,
+        power: blobcrash_files_power,
+        power_on: blobcrash_files_power_on,
+        power_off_after: blobcrash_files_power_off_after,
+        kept_run: blobcrash_files_kept_run,
+        close: blobcrash_files_close,
+    };
 }
 
-// SAFETY: as for a session of a store.
-unsafe impl Send for Session {}
+impl Asked for RawCall {
+    fn line(&self, path: &[u8], to: &[u8]) -> String {
+        let (at, len) = (path.as_ptr(), path.len());
+        // SAFETY: the call, the paths and the buffer are borrowed for the call, and don't overlap.
+        text_of(96 + 4 * len + 4 * to.len(), |into, room| unsafe {
+            blobcrash_files_line_of(self, at, len, to.as_ptr(), to.len(), into, room)
+        })
+    }
+}
 
 /// The longest name in bytes.
 const NAME_MAX: usize = 255;
@@ -30,37 +48,6 @@ const NAME_MAX: usize = 255;
 pub(crate) type Name = (Vec<u8>, u64, bool);
 
 impl Session {
-    /// Opens an empty file system.
-    pub(crate) fn open(preamble: &str) -> Result<Session, Error> {
-        let mut session = Session {
-            raw: RawFiles {
-                at: ptr::null_mut(),
-                is_open: false,
-            },
-            record: None,
-            has_lost: false,
-        };
-        let (at, len) = (preamble.as_ptr(), preamble.len());
-        // SAFETY: the files are all zeros, and the text is borrowed for the call.
-        let ran = unsafe { blobcrash_files_open(&mut session.raw, at, len) };
-        match ran.status {
-            DONE => Ok(session),
-            BAD_LINE => {
-                let line = preamble.split('\n').nth(ran.line as usize - 1);
-                Err(Error::BadLine(line.unwrap_or_default().to_owned()))
-            }
-            _ => Err(Error::OutOfMemory),
-        }
-    }
-
-    /// Inserts words before those that the generator gives next.
-    pub(crate) fn push_words(&mut self, words: &[u64]) -> Result<(), Error> {
-        let (at, count) = (words.as_ptr(), words.len());
-        // SAFETY: as for `configure`; the words are borrowed for the call.
-        let status = unsafe { blobcrash_files_push_words(&mut self.raw, at, count) };
-        self.done(status)
-    }
-
     /// Makes a setting.
     pub(crate) fn configure(&mut self, setting: &str) -> Result<(), Error> {
         let (at, len) = (setting.as_ptr(), setting.len());
@@ -82,11 +69,11 @@ impl Session {
 
     /// Makes a call, and doesn't record it.
     pub(crate) fn apply(&mut self, call: &Call<'_>) -> Result<Reply, Error> {
-        let asked = call.raw();
         let (path, len) = (call.path.as_ptr(), call.path.len());
         let (to, to_len) = (call.to.as_ptr(), call.to.len());
         // SAFETY: as for `configure`; the numbers and the paths are borrowed for the call.
-        let reply = unsafe { blobcrash_files_apply(&mut self.raw, &asked, path, len, to, to_len) };
+        let reply =
+            unsafe { blobcrash_files_apply(&mut self.raw, &call.asked, path, len, to, to_len) };
         self.done(reply.status).map(|()| reply)
     }
 
@@ -96,7 +83,7 @@ impl Session {
         // SAFETY: as for `configure`; the bytes are borrowed for the call.
         let status = unsafe { blobcrash_files_write(&mut self.raw, file, offset, at, len) };
         let outcome = self.done(status);
-        let call = Call::moved(Kind::Write, file, [offset, 0], bytes);
+        let call = Call::of_bytes(Kind::Write, file, [offset, 0], bytes);
         self.push(&call, outcome.as_ref().map(|()| None));
         outcome
     }
@@ -107,7 +94,7 @@ impl Session {
         // SAFETY: as for `configure`; the buffer is borrowed for the call.
         let ran = unsafe { blobcrash_files_read(&mut self.raw, file, offset, at, capacity) };
         let outcome = self.done(ran.status);
-        let call = Call::moved(Kind::Read, file, [offset, capacity as u64], b"");
+        let call = Call::of_bytes(Kind::Read, file, [offset, capacity as u64], b"");
         self.push(&call, outcome.as_ref().map(|()| None));
         outcome.map(|()| ran.len.min(capacity))
     }
@@ -121,14 +108,6 @@ impl Session {
         }
     }
 
-    /// Notes the first call that isn't made since the power is off.
-    fn lost_power(&mut self) -> Error {
-        if !mem::replace(&mut self.has_lost, true) {
-            self.note("power loss");
-        }
-        Error::PowerLoss
-    }
-
     /// Returns `PowerLoss` if the power is off.
     pub(crate) fn check_power(&mut self) -> Result<(), Error> {
         if self.power().is_off {
@@ -137,10 +116,18 @@ impl Session {
         Ok(())
     }
 
+    /// Records a call that was made. A comment says which file it opened, or why it was refused.
     fn push(&mut self, call: &Call<'_>, outcome: Result<Option<u64>, &Error>) {
-        if let (Some(record), true) = (&mut self.record, outcome != Err(&Error::PowerLoss)) {
-            record.push_call(call, outcome);
-        }
+        let Some(record) = &mut self.record else {
+            return;
+        };
+        let remark = match outcome {
+            Ok(Some(number)) => format!(" # is {number}"),
+            Ok(None) => String::new(),
+            Err(Error::PowerLoss) => return,
+            Err(error) => format!(" # is {error:?}"),
+        };
+        record.push(call.asked, call.path, call.to, remark);
     }
 
     /// Returns the name with an index of the last call, a `List`, or `None` if it has no such name.
@@ -165,24 +152,13 @@ impl Session {
     pub(crate) fn kept(&mut self, reply: &Reply) -> Crash {
         Crash {
             writes: self.kept_writes(reply.size),
-            edits: self.kept_edits(reply.number),
-            places: self.kept_places(reply.size),
+            edits: (0..reply.number as usize)
+                .map(|edit| self.kept_edit(edit))
+                .collect(),
+            places: (0..reply.size as usize)
+                .map(|row| self.kept_place(row))
+                .collect(),
         }
-    }
-
-    /// Returns which bytes of each pending write the last call, a `Crash`, kept.
-    fn kept_writes(&mut self, rows: u64) -> Selections {
-        let raw = &mut self.raw;
-        // SAFETY: as for `configure`.
-        selections(rows, |row, from| unsafe {
-            blobcrash_files_kept_run(raw, row, from)
-        })
-    }
-
-    /// Returns where each of these writes of the last call, a `Crash`, was.
-    fn kept_places(&mut self, rows: u64) -> Vec<Place> {
-        let rows = 0..rows as usize;
-        rows.map(|row| self.kept_place(row)).collect()
     }
 
     fn kept_place(&mut self, row: usize) -> Place {
@@ -194,12 +170,6 @@ impl Session {
         }
     }
 
-    /// Returns whether the last call, a `Crash`, kept each unsettled edit.
-    fn kept_edits(&mut self, edits: u64) -> Vec<bool> {
-        let edits = 0..edits as usize;
-        edits.map(|edit| self.kept_edit(edit)).collect()
-    }
-
     fn kept_edit(&mut self, edit: usize) -> bool {
         // SAFETY: as for `configure`.
         let ran = unsafe { blobcrash_files_kept_edit(&mut self.raw, edit) };
@@ -207,58 +177,8 @@ impl Session {
     }
 }
 
-impl Recorded for Session {
-    fn words_left(&mut self) -> Option<usize> {
-        // SAFETY: as for `configure`.
-        let ran = unsafe { blobcrash_files_words_left(&mut self.raw) };
-        (ran.status != ENDLESS).then_some(ran.len)
-    }
-
-    fn note(&mut self, text: &str) {
-        if let Some(record) = &mut self.record {
-            record.note(text);
-        }
-    }
-
-    fn power(&mut self) -> PowerState {
-        // SAFETY: as for `configure`.
-        unsafe { blobcrash_files_power(&mut self.raw) }
-    }
-
-    fn set_power(&mut self, calls: Option<u64>) {
-        self.has_lost = false;
-        // SAFETY: as for `configure`.
-        unsafe {
-            blobcrash_files_power_on(&mut self.raw);
-            if let Some(calls) = calls {
-                blobcrash_files_power_off_after(&mut self.raw, calls);
-            }
-        }
-    }
-
-    fn has_lost(&self) -> bool {
-        self.has_lost
-    }
-}
-
-/// Returns the line of a call.
-pub(crate) fn line_of(asked: &RawCall, path: &[u8], to: &[u8]) -> String {
-    let (at, len) = (path.as_ptr(), path.len());
-    // SAFETY: the call, the paths and the buffer are borrowed for the call, and don't overlap.
-    text_of(96 + 4 * len + 4 * to.len(), |into, room| unsafe {
-        blobcrash_files_line_of(asked, at, len, to.as_ptr(), to.len(), into, room)
-    })
-}
-
 /// Returns whether what a crash leaves may differ after a call.
 pub(crate) fn changes(kind: Kind) -> bool {
     // SAFETY: the function takes a number.
     unsafe { blobcrash_files_effect(kind as u32) & CHANGES != 0 }
-}
-
-impl Drop for Session {
-    fn drop(&mut self) {
-        // SAFETY: the files are borrowed for the call, and aren't used again.
-        unsafe { blobcrash_files_close(&mut self.raw) }
-    }
 }

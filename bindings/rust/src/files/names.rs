@@ -25,15 +25,13 @@ impl Files {
     ///
     /// ```
     /// # use blobcrash::Error;
-    /// # fn main() -> Result<(), Error> {
     /// # let files = blobcrash::files::Files::builder().seed(7).open()?;
     /// files.write("/new", b"new")?;
     /// files.write("/f", b"old")?;
     /// files.rename("/new", "/f")?;
     /// assert_eq!(files.read("/f")?, b"new");
     /// assert_eq!(files.rename("/new", "/f"), Err(Error::NotFound));
-    /// # Ok(())
-    /// # }
+    /// # Ok::<(), Error>(())
     /// ```
     pub fn rename(&self, from: impl AsRef<Path>, to: impl AsRef<Path>) -> Result<(), Error> {
         self.by_paths((Kind::Rename, 0), from, to)
@@ -44,14 +42,12 @@ impl Files {
     ///
     /// ```
     /// # use blobcrash::Error;
-    /// # fn main() -> Result<(), Error> {
     /// # let files = blobcrash::files::Files::builder().seed(7).open()?;
     /// files.write("/a", b"a")?;
     /// files.write("/b", b"b")?;
     /// assert_eq!(files.rename_no_replace("/a", "/b"), Err(Error::Exists));
     /// files.rename_no_replace("/a", "/c")?;
-    /// # Ok(())
-    /// # }
+    /// # Ok::<(), Error>(())
     /// ```
     pub fn rename_no_replace(
         &self,
@@ -64,14 +60,12 @@ impl Files {
     /// Lets two files or directories change their names, in one step, as `renameat2` with `RENAME_EXCHANGE`. Errors as `rename`.
     ///
     /// ```
-    /// # fn main() -> Result<(), blobcrash::Error> {
     /// # let files = blobcrash::files::Files::builder().seed(7).open()?;
     /// files.write("/a", b"a")?;
     /// files.write("/b", b"b")?;
     /// files.exchange("/a", "/b")?;
     /// assert_eq!(files.read("/a")?, b"b");
-    /// # Ok(())
-    /// # }
+    /// # Ok::<(), blobcrash::Error>(())
     /// ```
     pub fn exchange(&self, from: impl AsRef<Path>, to: impl AsRef<Path>) -> Result<(), Error> {
         self.by_paths((Kind::Rename, 2), from, to)
@@ -80,14 +74,12 @@ impl Files {
     /// Gives a file a second name. Errors: `NotFound`, `IsDirectory`, `Exists`, `TooManyLinks`.
     ///
     /// ```
-    /// # fn main() -> Result<(), blobcrash::Error> {
     /// # let files = blobcrash::files::Files::builder().seed(7).open()?;
     /// files.write("/f", b"abc")?;
     /// files.hard_link("/f", "/g")?;
     /// files.remove_file("/f")?;
     /// assert_eq!(files.read("/g")?, b"abc");
-    /// # Ok(())
-    /// # }
+    /// # Ok::<(), blobcrash::Error>(())
     /// ```
     pub fn hard_link(
         &self,
@@ -101,13 +93,11 @@ impl Files {
     ///
     /// ```
     /// # use blobcrash::Error;
-    /// # fn main() -> Result<(), Error> {
     /// # let files = blobcrash::files::Files::builder().seed(7).open()?;
     /// files.write("/f", b"abc")?;
     /// files.remove_file("/f")?;
     /// assert_eq!(files.remove_file("/f"), Err(Error::NotFound));
-    /// # Ok(())
-    /// # }
+    /// # Ok::<(), Error>(())
     /// ```
     pub fn remove_file(&self, path: impl AsRef<Path>) -> Result<(), Error> {
         self.by_path(Kind::Unlink, path)
@@ -117,12 +107,10 @@ impl Files {
     ///
     /// ```
     /// # use blobcrash::Error;
-    /// # fn main() -> Result<(), Error> {
     /// # let files = blobcrash::files::Files::builder().seed(7).open()?;
     /// files.create_dir("/d")?;
     /// assert_eq!(files.create_dir("/d"), Err(Error::Exists));
-    /// # Ok(())
-    /// # }
+    /// # Ok::<(), Error>(())
     /// ```
     pub fn create_dir(&self, path: impl AsRef<Path>) -> Result<(), Error> {
         self.by_path(Kind::MakeDirectory, path)
@@ -132,13 +120,11 @@ impl Files {
     /// were made before an error stay.
     ///
     /// ```
-    /// # fn main() -> Result<(), blobcrash::Error> {
     /// # let files = blobcrash::files::Files::builder().seed(7).open()?;
     /// files.create_dir_all("/a/b/c")?;
     /// files.create_dir_all("/a/b/c")?;
     /// assert!(files.metadata("/a/b")?.is_dir());
-    /// # Ok(())
-    /// # }
+    /// # Ok::<(), blobcrash::Error>(())
     /// ```
     pub fn create_dir_all(&self, path: impl AsRef<Path>) -> Result<(), Error> {
         let path = bytes_of(&path);
@@ -159,13 +145,11 @@ impl Files {
     ///
     /// ```
     /// # use blobcrash::Error;
-    /// # fn main() -> Result<(), Error> {
     /// # let files = blobcrash::files::Files::builder().seed(7).open()?;
     /// files.create_dir_all("/a/b")?;
     /// assert_eq!(files.remove_dir("/a"), Err(Error::NotEmpty));
     /// files.remove_dir("/a/b")?;
-    /// # Ok(())
-    /// # }
+    /// # Ok::<(), Error>(())
     /// ```
     pub fn remove_dir(&self, path: impl AsRef<Path>) -> Result<(), Error> {
         self.by_path(Kind::RemoveDirectory, path)

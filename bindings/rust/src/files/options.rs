@@ -2,13 +2,13 @@ use super::foreign::Kind;
 use super::{File, Files, bytes_of};
 use crate::Error;
 use std::path::Path;
+use std::sync::atomic::AtomicU64;
 
 /// How a file is opened: the options of `std::fs::OpenOptions`.
 ///
 /// ```
 /// use std::io::{Read, Write};
 ///
-/// # fn main() -> std::io::Result<()> {
 /// # let files = blobcrash::files::Files::builder().seed(7).open()?;
 /// let mut log = files.options().read(true).append(true).create(true).open("/log")?;
 /// log.write_all(b"record")?;
@@ -17,8 +17,7 @@ use std::path::Path;
 /// let mut text = String::new();
 /// log.read_to_string(&mut text)?;
 /// assert_eq!(text, ", another");
-/// # Ok(())
-/// # }
+/// # Ok::<(), std::io::Error>(())
 /// ```
 #[derive(Clone, Debug)]
 #[must_use = "`open` opens the file"]
@@ -86,12 +85,10 @@ impl OpenOptions {
     ///
     /// ```
     /// # use blobcrash::Error;
-    /// # fn main() -> Result<(), Error> {
     /// # let files = blobcrash::files::Files::builder().seed(7).open()?;
     /// assert!(matches!(files.options().create(true).open("/f"), Err(Error::Argument(_))));
     /// files.options().write(true).create_new(true).open("/f")?;
-    /// # Ok(())
-    /// # }
+    /// # Ok::<(), Error>(())
     /// ```
     pub fn open(&self, path: impl AsRef<Path>) -> Result<File, Error> {
         self.check()?;
@@ -103,11 +100,15 @@ impl OpenOptions {
             (false, true) => Kind::OpenTruncated,
             (false, false) => Kind::Open,
         };
-        let descriptor = state.by_path(kind, path)?.number;
-        let life = state.life;
-        drop(state);
-        let may = (self.read, self.write || self.append, self.append);
-        Ok(File::new(&self.files, (descriptor, life), may))
+        Ok(File {
+            files: self.files.clone(),
+            descriptor: state.by_path(kind, path)?.number,
+            life: state.life,
+            position: AtomicU64::new(0),
+            reads: self.read,
+            writes: self.write || self.append,
+            appends: self.append,
+        })
     }
 
     fn check(&self) -> Result<(), Error> {
@@ -122,6 +123,6 @@ impl OpenOptions {
         } else {
             return Ok(());
         };
-        Err(Error::Argument(text.to_owned()))
+        Err(Error::argument(text))
     }
 }

@@ -1,20 +1,13 @@
-//! What files share with their clones and their open files: one session, which a lock protects.
+//! The state of files: their session, and what they know of it.
 use super::crash::Crash;
-use super::foreign::{Kind, Reply};
+use super::foreign::{Kind, RawCall, Reply};
 use super::library::{Name, Session, changes};
-use super::record::{Call, Record};
+use super::record::Call;
 use crate::limits::Limits;
+use crate::record::Record;
 use crate::{Config, Error};
-use std::sync::{Mutex, MutexGuard, PoisonError};
 
-/// The state of files, with what doesn't change.
-#[derive(Debug)]
-pub(crate) struct Shared {
-    state: Mutex<State>,
-    pub(crate) has_draws: bool,
-}
-
-/// What calls change.
+/// The state of files.
 #[derive(Debug)]
 pub(crate) struct State {
     pub(crate) session: Session,
@@ -25,20 +18,6 @@ pub(crate) struct State {
     /// How many crashes there were. A file of an earlier life is stale.
     pub(crate) life: u64,
     pub(crate) syncs_lie: bool,
-}
-
-impl Shared {
-    pub(crate) fn new(state: State, has_draws: bool) -> Shared {
-        Shared {
-            state: Mutex::new(state),
-            has_draws,
-        }
-    }
-
-    /// Takes the lock. A panic of another thread leaves a state that can be used: a session has made a call or not.
-    pub(crate) fn lock(&self) -> MutexGuard<'_, State> {
-        self.state.lock().unwrap_or_else(PoisonError::into_inner)
-    }
 }
 
 impl State {
@@ -65,13 +44,14 @@ impl State {
 
     /// Makes a call.
     pub(crate) fn call(&mut self, call: &Call<'_>) -> Result<Reply, Error> {
-        self.permit(call.kind)?;
-        let inode = match call.kind {
-            Kind::Sync | Kind::SyncData => self.searched_inode(call.number),
+        self.permit(call.asked.kind)?;
+        let RawCall { kind, number, .. } = call.asked;
+        let inode = match kind {
+            Kind::Sync | Kind::SyncData => self.searched_inode(number),
             _ => None,
         };
         let reply = self.session.call(call)?;
-        match (call.kind, inode) {
+        match (kind, inode) {
             (_, Some(inode)) if !self.syncs_lie => self.limits.unsynced.sync(inode),
             (Kind::SyncAll, _) if !self.syncs_lie => self.limits.unsynced.clear(),
             (Kind::Settle, _) => self.limits.unsynced.clear(),
@@ -169,11 +149,11 @@ impl State {
 
     fn setting(&mut self, line: &str) -> Result<(), Error> {
         self.session.configure(line)?;
-        self.record(|record| record.push(line.to_owned()));
+        self.record(|record| record.push_line(line));
         Ok(())
     }
 
-    fn record(&mut self, push: impl FnOnce(&mut Record)) {
+    fn record(&mut self, push: impl FnOnce(&mut Record<RawCall>)) {
         if let Some(record) = &mut self.session.record {
             push(record);
         }
