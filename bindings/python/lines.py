@@ -5,7 +5,7 @@ prints."""
 import sys
 
 from blobcrash import BadLine, Library, Program, run
-from blobcrash.layers import explained
+from blobcrash.whole_scripts import explained
 
 
 def is_preamble(line):

@@ -42,7 +42,7 @@ def explained(program, script):
 def by_library(script):
     """As `explained`. With a library of an earlier version the replies alone."""
     from blobcrash import BadLine, LibraryMissing, run
-    from blobcrash.layers import explained_as_json
+    from blobcrash.whole_scripts import explained_as_json
 
     try:
         return explained_as_json(script).decode(), "", 0
