@@ -46,15 +46,18 @@ def main(arguments):
     first = int(arguments[arguments.index("--from") + 1]) if "--from" in arguments else 0
     run = functools.partial(log.broken_script, forgets_sync=forgets_sync, by=way())
     broken = {}
+    # Ctrl-C is looked at between two seeds: an interrupt inside the pool may keep one of its locks, and then the pool never ends.
+    interrupts = []
+    signal.signal(signal.SIGINT, lambda *_: interrupts.append(True))
     with multiprocessing.Pool(initializer=leave_interrupts) as pool:
         runs = pool.imap(run, range(first, count), chunksize=8)
-        try:
-            for seed, script in enumerate(blobcrash.counted(runs, count - first, "seeds"), first):
-                broken[seed] = script
-        except KeyboardInterrupt:
-            print(f"{len(broken)} seeds of {count - first}; to go on: --from {first + len(broken)}", file=sys.stderr)
+        for seed, script in enumerate(blobcrash.counted(runs, count - first, "seeds"), first):
+            broken[seed] = script
+            if interrupts:
+                break
     failing = [seed for seed in broken if broken[seed] is not None]
     if len(broken) < count - first:
+        print(f"{len(broken)} seeds of {count - first}; to go on: --from {first + len(broken)}", file=sys.stderr)
         print(f"{len(broken)} seeds, {len(failing)} fail: {failing[:9]}")
         return 130
     if not failing:

@@ -229,7 +229,7 @@ def test_checks(work):
     check("--since", set(rest[:-1]) == {f"crash after line {line}" for line in (7, 8, 9)} < set(whole), rest)
     ran = on_terminal([sys.executable, os.path.join(TOP, "examples", "seeds.py"), "100000"], work, until=" of 100000, ")
     shown = re.search(r"(\d+) seeds of 100000; to go on: --from (\d+)", ran.shown)
-    check("examples/seeds.py", ran.status == 130 and shown and shown[1] == shown[2] and ran.out == f"{shown[1]} seeds, 0 fail: []\n", ran.shown[-300:])
+    check("examples/seeds.py", ran.status == 130 and shown and shown[1] == shown[2] and ran.out == f"{shown[1]} seeds, 0 fail: []\n", (ran.status, ran.out, ran.shown[-300:]))
     check("no traceback, no message of a worker", "Traceback" not in ran.shown and "output failed" not in ran.shown, ran.shown[-500:])
 
 
