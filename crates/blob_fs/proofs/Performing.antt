@@ -23,7 +23,7 @@ use Rattle.blob_fs.specs.Errors.{OnlyMemoryRefuses}
 use Rattle.blob_fs.specs.Files.{AddsTold, Commits, FindsKept, FindsTold, GivesTold, KeepsNames, KeepsOptions, KeepsTold, MakesEdit, MayResize, MayResizeSome, MayTruncate, SameNames, SettlesSome, SettlesSomeOf, SyncsAll, SyncsData, SyncsDirectory, SyncsFile, fresh_inode, inode_opened, names_of, syncs_of}
 use Rattle.blob_fs.specs.Fixed.{FindsFixed, FixesAll, FixesFile, FixesFound, KeepsFixed, KeepsFixedBut, KeepsSpared}
 use Rattle.blob_fs.specs.Noted.{HasSize, NotesTruncation}
-use Rattle.blob_fs.specs.Paths.{CreatesAt, FreesAt, IsBound, LinksAt, Lists, MakesDirectoryAt, OpensPath, RenamesPath, SyncsPath}
+use Rattle.blob_fs.specs.Paths.{CreatesAt, FreesAt, IsBound, KeepsFixedBeside, LinksAt, Lists, MakesDirectoryAt, OpensPath, RenamesPath, SyncsPath}
 use Rattle.blob_fs.specs.Performs.{Effect, IsBinding, Performs, RepliesFound, crash_reply, done_reply, found_reply, inode_reply, names_reply, opened_reply, size_reply, tree_reply}
 use Rattle.blob_fs.specs.Places.{FindsPlaces}
 use Rattle.blob_fs.specs.Reads.{ShowsWrite}
@@ -40,55 +40,55 @@ performed act act' reply fs fs' same h = subst (λ (a : Act). Performs a reply f
 
 -- By the result.
 
-pub creates : {R : Type 0} (r : Result Descriptor FsError) (path : List ℕ) (fs fs' : FileSystem R) → OnOk r (CreatesAt path fs fs') → OnErr r (Leaves fs fs')
+pub creates : {R : Type 0} (r : Result Descriptor FsError) (path : List ℕ) (fs fs' : FileSystem R) → OnOk r (CreatesAt path fs fs') → OnErr r (Leaves fs fs') → KeepsFixed fs fs'
     → Effect (acts.Create path) (opened_reply r) fs fs'
-creates (Ok x) path fs fs' made refused = made
-creates (Err e) path fs fs' made refused = refused
+creates (Ok x) path fs fs' made refused fixed = (fixed, made)
+creates (Err e) path fs fs' made refused fixed = (fixed, refused)
 
-pub unlinks : {R : Type 0} (r : Result (Unit {0}) FsError) (path : List ℕ) (fs fs' : FileSystem R) → OnOk r (FreesAt path fs fs') → OnErr r (Leaves fs fs')
+pub unlinks : {R : Type 0} (r : Result (Unit {0}) FsError) (path : List ℕ) (fs fs' : FileSystem R) → OnOk r (FreesAt path fs fs') → OnErr r (Leaves fs fs') → KeepsFixed fs fs'
     → Effect (acts.Unlink path) (done_reply r) fs fs'
-unlinks (Ok x) path fs fs' made refused = made
-unlinks (Err e) path fs fs' made refused = refused
+unlinks (Ok x) path fs fs' made refused fixed = (fixed, made)
+unlinks (Err e) path fs fs' made refused fixed = (fixed, refused)
 
-pub makes_directory : {R : Type 0} (r : Result (Unit {0}) FsError) (path : List ℕ) (fs fs' : FileSystem R) → OnOk r (MakesDirectoryAt path fs fs') → OnErr r (Leaves fs fs')
+pub makes_directory : {R : Type 0} (r : Result (Unit {0}) FsError) (path : List ℕ) (fs fs' : FileSystem R) → OnOk r (MakesDirectoryAt path fs fs') → OnErr r (Leaves fs fs') → KeepsFixed fs fs'
     → Effect (acts.MakeDirectory path) (done_reply r) fs fs'
-makes_directory (Ok x) path fs fs' made refused = made
-makes_directory (Err e) path fs fs' made refused = refused
+makes_directory (Ok x) path fs fs' made refused fixed = (fixed, made)
+makes_directory (Err e) path fs fs' made refused fixed = (fixed, refused)
 
-pub removes_directory : {R : Type 0} (r : Result (Unit {0}) FsError) (path : List ℕ) (fs fs' : FileSystem R) → OnOk r (FreesAt path fs fs') → OnErr r (Leaves fs fs')
+pub removes_directory : {R : Type 0} (r : Result (Unit {0}) FsError) (path : List ℕ) (fs fs' : FileSystem R) → OnOk r (FreesAt path fs fs') → OnErr r (Leaves fs fs') → KeepsFixed fs fs'
     → Effect (acts.RemoveDirectory path) (done_reply r) fs fs'
-removes_directory (Ok x) path fs fs' made refused = made
-removes_directory (Err e) path fs fs' made refused = refused
+removes_directory (Ok x) path fs fs' made refused fixed = (fixed, made)
+removes_directory (Err e) path fs fs' made refused fixed = (fixed, refused)
 
-pub links : {R : Type 0} (r : Result (Unit {0}) FsError) (path to : List ℕ) (fs fs' : FileSystem R) → OnOk r (LinksAt path to fs fs') → OnErr r (Leaves fs fs')
+pub links : {R : Type 0} (r : Result (Unit {0}) FsError) (path to : List ℕ) (fs fs' : FileSystem R) → OnOk r (LinksAt path to fs fs') → OnErr r (Leaves fs fs') → KeepsFixed fs fs'
     → Effect (acts.Link path to) (done_reply r) fs fs'
-links (Ok x) path to fs fs' made refused = made
-links (Err e) path to fs fs' made refused = refused
+links (Ok x) path to fs fs' made refused fixed = (fixed, made)
+links (Err e) path to fs fs' made refused fixed = (fixed, refused)
 
-pub renames : {R : Type 0} (r : Result (Unit {0}) FsError) (path to : List ℕ) (how : Rename) (fs fs' : FileSystem R) → OnOk r (RenamesPath how path to fs fs') → OnErr r (Leaves fs fs')
+pub renames : {R : Type 0} (r : Result (Unit {0}) FsError) (path to : List ℕ) (how : Rename) (fs fs' : FileSystem R) → OnOk r (RenamesPath how path to fs fs') → OnErr r (Leaves fs fs') → KeepsFixed fs fs'
     → Effect (acts.Move path to how) (done_reply r) fs fs'
-renames (Ok x) path to how fs fs' made refused = made
-renames (Err e) path to how fs fs' made refused = refused
+renames (Ok x) path to how fs fs' made refused fixed = (fixed, made)
+renames (Err e) path to how fs fs' made refused fixed = (fixed, refused)
 
-pub opens : {R : Type 0} (r : Result Descriptor FsError) (path : List ℕ) (fs fs' : FileSystem R) → KeepsNames fs fs' → KeepsTold fs fs' → IfOk r (λ f. OpensPath path fs f fs')
+pub opens : {R : Type 0} (r : Result Descriptor FsError) (path : List ℕ) (fs fs' : FileSystem R) → KeepsNames fs fs' → KeepsTold fs fs' → KeepsFixed fs fs' → IfOk r (λ f. OpensPath path fs f fs')
     → Effect (acts.Open path) (opened_reply r) fs fs'
-opens (Ok x) path fs fs' names told opened = ((names, told), opened)
-opens (Err e) path fs fs' names told opened = ((names, told), tt)
+opens (Ok x) path fs fs' names told fixed opened = (((names, told), fixed), opened)
+opens (Err e) path fs fs' names told fixed opened = (((names, told), fixed), tt)
 
-pub opens_truncated : {R : Type 0} (r : Result Descriptor FsError) (path : List ℕ) (fs fs' : FileSystem R) → KeepsNames fs fs' → MayResizeSome fs fs'
+pub opens_truncated : {R : Type 0} (r : Result Descriptor FsError) (path : List ℕ) (fs fs' : FileSystem R) → KeepsNames fs fs' → MayResizeSome fs fs' → KeepsFixedBeside path fs fs'
     → Effect (acts.OpenTruncated path) (opened_reply r) fs fs'
-opens_truncated (Ok x) path fs fs' names told = (names, told, tt)
-opens_truncated (Err e) path fs fs' names told = (names, told, tt)
+opens_truncated (Ok x) path fs fs' names told fixed = (names, told, fixed, tt)
+opens_truncated (Err e) path fs fs' names told fixed = (names, told, fixed, tt)
 
 pub lists : {R : Type 0} (r : Result (Vec (Vec ℕ Global × Binding) Global) FsError) (path : List ℕ) (fs : FileSystem R) → IfOk r (λ found. Lists (names_of fs) path found.items)
     → Effect (acts.ListNames path) (names_reply r) fs fs
 lists (Ok x) path fs found = (refl, found)
 lists (Err e) path fs found = (refl, tt)
 
-pub syncs_directory : {R : Type 0} (r : Result (Unit {0}) FsError) (path : List ℕ) (fs fs' : FileSystem R) → KeepsNames fs fs' → SettlesSomeOf fs fs' → OnOk r (syncs_of fs ≡ Honest → SyncsPath path fs fs')
+pub syncs_directory : {R : Type 0} (r : Result (Unit {0}) FsError) (path : List ℕ) (fs fs' : FileSystem R) → KeepsNames fs fs' → SettlesSomeOf fs fs' → OnOk r (syncs_of fs ≡ Honest → SyncsPath path fs fs') → KeepsFixed fs fs'
     → Effect (acts.SyncDirectory path) (done_reply r) fs fs'
-syncs_directory (Ok x) path fs fs' names some settled = ((names, some), settled)
-syncs_directory (Err e) path fs fs' names some settled = ((names, some), tt)
+syncs_directory (Ok x) path fs fs' names some settled fixed = ((names, some), fixed, settled)
+syncs_directory (Err e) path fs fs' names some settled fixed = ((names, some), fixed, tt)
 
 pub creates_at : {R : Type 0} (r : Result Descriptor FsError) (d : ℕ) (name : List ℕ) (fs fs' : FileSystem R) → OnOk r (names_of fs (entry d name) ≡ None) → OnOk r (MakesEdit (binds d name (file (fresh_inode fs))) fs fs') → OnErr r (SameNames fs fs') → OnOk r (AddsTold (binds d name (file (fresh_inode fs))) fs fs') → OnErr r (KeepsTold fs fs') → KeepsFixed fs fs'
     → Effect (acts.CreateAt d name) (opened_reply r) fs fs'
@@ -196,10 +196,10 @@ pub tells_inode : {R : Type 0} (r : Result ℕ FsError) (f : Descriptor) (fs : F
 tells_inode (Ok x) f fs inode = (refl, inode)
 tells_inode (Err e) f fs inode = (refl, tt)
 
-pub walks : {R : Type 0} (r : Result (Vec TreeEntry Global) FsError) (fs fs' : FileSystem R) → KeepsNames fs fs' → KeepsTold fs fs'
+pub walks : {R : Type 0} (r : Result (Vec TreeEntry Global) FsError) (fs fs' : FileSystem R) → KeepsNames fs fs' → KeepsTold fs fs' → KeepsFixed fs fs'
     → Effect acts.Tree (tree_reply r) fs fs'
-walks (Ok x) fs fs' names told = ((names, told), tt)
-walks (Err e) fs fs' names told = ((names, told), tt)
+walks (Ok x) fs fs' names told fixed = (((names, told), fixed), tt)
+walks (Err e) fs fs' names told fixed = (((names, told), fixed), tt)
 
 pub crashes : {R : Type 0} (r : Result Crash FsError) (fs fs' : FileSystem R) → IfOk r (λ crash. FindsKept fs crash.rows fs') → OnOk r (FindsTold fs fs') → OnOk r (GivesTold fs') → IfOk r (λ crash. FindsBytes fs crash fs') → OnOk r (FindsKnown fs fs') → IfOk r (λ crash. FindsEdits fs crash) → OnOk r (HasNoOrphan fs') → OnOk r (FindsFixed fs fs') → OnOk r (FixesFound fs fs') → IfOk r (λ crash. FindsPlaces fs crash.rows crash.places.items) → OnErr r (KeepsNames fs fs') → OnErr r (KeepsTold fs fs') → OnlyMemoryRefuses fs' r
     → Effect acts.Crash (crash_reply r) fs fs'

@@ -1,5 +1,5 @@
 -- What the calls by paths do: what the calls by directory do, at the place of the path.
-use Rattle.std.specs.Prelude.{◌≡◌, ℕ, List, Some, Vec}
+use Rattle.std.specs.Prelude.{◌≡◌, ◌≢◌, ◌<◌, ◌^◌, ℕ, List, Some, Vec}
 use Rattle.std.specs.Global.{Global}
 use Rattle.blob_directory.specs.declared.edit.Binding.{Binding}
 use Rattle.blob_directory.specs.Names.{Edit, Names, binds, directory_at, entry, file, frees}
@@ -10,6 +10,7 @@ use Rattle.blob_fs.specs.declared.file_system.FileSystem.{FileSystem}
 use Rattle.blob_fs.specs.declared.renames.Rename.{Rename}
 use Rattle.blob_fs.specs.Calls.{Makes, RenamesAt}
 use Rattle.blob_fs.specs.Files.{SyncsDirectory, fresh_inode, inode_opened, names_of}
+use Rattle.blob_fs.specs.Fixed.{IsFixed}
 
 -- what a path is bound to
 pub record IsBound (names : Names) (path : List ℕ) (to : Binding) : Type 0 where
@@ -23,6 +24,11 @@ pub record OpensPath {R : Type 0} (path : List ℕ) (fs : FileSystem R) (f : Des
   pub to : Binding
   pub bound : IsBound (names_of fs) path to
   pub opened : inode_opened fs' f ≡ Some to.inode
+
+-- each fixed byte stays fixed, but in what a path is bound to
+abbrev pub KeepsFixedBeside : {R : Type 0} → List ℕ → FileSystem R → FileSystem R → Type 0
+KeepsFixedBeside path fs fs' = (inode at byte : ℕ) → inode < 2 ^ 64 → ((to : Binding) → IsBound (names_of fs) path to → inode ≢ to.inode)
+    → IsFixed fs inode at byte → IsFixed fs' inode at byte
 
 -- the edit of the name that a path has, in the directory that it leads to
 pub record MakesAt {R : Type 0} (path : List ℕ) (edit : ℕ → List ℕ → Edit) (fs fs' : FileSystem R) : Type 0 where

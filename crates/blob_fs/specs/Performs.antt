@@ -17,7 +17,7 @@ use Rattle.blob_fs.specs.Errors.{IsExhaustedError, next_number}
 use Rattle.blob_fs.specs.Files.{Commits, FindsKept, FindsTold, GivesTold, KeepsNames, KeepsOptions, KeepsTold, MayResize, MayResizeSome, MayTruncate, SameNames, SettlesSome, SyncsAll, SyncsData, SyncsDirectory, SyncsFile, fresh_inode, inode_opened, journaled_of, names_of, syncs_of}
 use Rattle.blob_fs.specs.Fixed.{FindsFixed, FixesAll, FixesFile, FixesFound, KeepsFixed, KeepsFixedBut, KeepsSpared}
 use Rattle.blob_fs.specs.Noted.{HasSize, NotesTruncation}
-use Rattle.blob_fs.specs.Paths.{CreatesAt, FreesAt, IsBound, LinksAt, Lists, MakesDirectoryAt, OpensPath, RenamesPath, SyncsPath}
+use Rattle.blob_fs.specs.Paths.{CreatesAt, FreesAt, IsBound, KeepsFixedBeside, LinksAt, Lists, MakesDirectoryAt, OpensPath, RenamesPath, SyncsPath}
 use Rattle.blob_fs.specs.Places.{FindsPlaces}
 use Rattle.blob_fs.specs.Reads.{ShowsWrite}
 use Rattle.blob_fs.specs.Writes.{RecordsWrite, failed_write_of, writes_zeros}
@@ -110,16 +110,18 @@ FailsToCrash error fs fs' = KeepsEdits fs fs' × IsExhaustedError (next_number (
 
 -- what a call with this reply does to names, edits, fixed bytes and descriptors
 abbrev pub Effect : {R : Type 0} → Act → Reply → FileSystem R → FileSystem R → Type 0
-Effect (acts.Create path) reply fs fs' = IsOpened reply (λ f. CreatesAt path fs fs') (Leaves fs fs')
-Effect (acts.Open path) reply fs fs' = KeepsEdits fs fs' × IsOpened reply (λ f. OpensPath path fs f fs') (Unit {0})
-Effect (acts.OpenTruncated path) reply fs fs' = KeepsNames fs fs' × MayResizeSome fs fs' × IsOpened reply (λ f. Unit {0}) (Unit {0})
-Effect (acts.Link path to) reply fs fs' = IsDone reply (LinksAt path to fs fs') (Leaves fs fs')
-Effect (acts.Unlink path) reply fs fs' = IsDone reply (FreesAt path fs fs') (Leaves fs fs')
-Effect (acts.Move path to how) reply fs fs' = IsDone reply (RenamesPath how path to fs fs') (Leaves fs fs')
-Effect (acts.MakeDirectory path) reply fs fs' = IsDone reply (MakesDirectoryAt path fs fs') (Leaves fs fs')
-Effect (acts.RemoveDirectory path) reply fs fs' = IsDone reply (FreesAt path fs fs') (Leaves fs fs')
+Effect (acts.Create path) reply fs fs' = KeepsFixed fs fs' × IsOpened reply (λ f. CreatesAt path fs fs') (Leaves fs fs')
+Effect (acts.Open path) reply fs fs' = KeepsAll fs fs' × IsOpened reply (λ f. OpensPath path fs f fs') (Unit {0})
+Effect (acts.OpenTruncated path) reply fs fs' =
+    KeepsNames fs fs' × MayResizeSome fs fs' × KeepsFixedBeside path fs fs' × IsOpened reply (λ f. Unit {0}) (Unit {0})
+Effect (acts.Link path to) reply fs fs' = KeepsFixed fs fs' × IsDone reply (LinksAt path to fs fs') (Leaves fs fs')
+Effect (acts.Unlink path) reply fs fs' = KeepsFixed fs fs' × IsDone reply (FreesAt path fs fs') (Leaves fs fs')
+Effect (acts.Move path to how) reply fs fs' = KeepsFixed fs fs' × IsDone reply (RenamesPath how path to fs fs') (Leaves fs fs')
+Effect (acts.MakeDirectory path) reply fs fs' = KeepsFixed fs fs' × IsDone reply (MakesDirectoryAt path fs fs') (Leaves fs fs')
+Effect (acts.RemoveDirectory path) reply fs fs' = KeepsFixed fs fs' × IsDone reply (FreesAt path fs fs') (Leaves fs fs')
 Effect (acts.ListNames path) reply fs fs' = (fs' ≡ fs) × IsNames reply (λ found. Lists (names_of fs) path found) (Unit {0})
-Effect (acts.SyncDirectory path) reply fs fs' = MaySettleIn fs fs' × IsDone reply (syncs_of fs ≡ Honest → SyncsPath path fs fs') (Unit {0})
+Effect (acts.SyncDirectory path) reply fs fs' =
+    MaySettleIn fs fs' × KeepsFixed fs fs' × IsDone reply (syncs_of fs ≡ Honest → SyncsPath path fs fs') (Unit {0})
 Effect (acts.Find path) reply fs fs' = (fs' ≡ fs) × IsBinding reply (λ to. IsBound (names_of fs) path to) (Unit {0})
 Effect (acts.CreateAt d name) reply fs fs' = KeepsFixed fs fs' × IsOpened reply (λ f. Binds d name (file (fresh_inode fs)) fs fs') (Leaves fs fs')
 Effect (acts.MakeDirectoryAt d name) reply fs fs' =
@@ -156,7 +158,7 @@ Effect acts.SyncAll reply fs fs' =
 Effect acts.Settle reply fs fs' = MaySettle fs fs' × KeepsFixed fs fs' × IsDone reply (SyncsAll fs fs' × FixesAll fs fs') (Unit {0})
 Effect acts.Commit reply fs fs' = SameNames fs fs' × KeepsFixed fs fs' × IsDone reply (Commits fs fs') (SettlesSome fs fs')
 Effect acts.Crash reply fs fs' = IsCrashed reply (λ crash. Crashes crash fs fs') (λ error. FailsToCrash error fs fs')
-Effect acts.Tree reply fs fs' = KeepsEdits fs fs' × IsTree reply
+Effect acts.Tree reply fs fs' = KeepsAll fs fs' × IsTree reply
 
 -- a call with this reply, by what the file system was before and is after it; the options stay
 pub record Performs {R : Type 0} (act : Act) (reply : Reply) (fs fs' : FileSystem R) : Type 0 where

@@ -4,8 +4,9 @@ ghost use Rattle.blob_directory.specs.Names.{directory_at, entry};
 ghost use Rattle.blob_directory.specs.Paths.{IsPlace, LeadsTo};
 ghost use Rattle.blob_fs.specs.declared.switches.Syncs.TheVariants.{Honest};
 ghost use Rattle.blob_fs.specs.Calls.{Leaves};
+ghost use Rattle.blob_fs.specs.Fixed.{KeepsFixed};
 ghost use Rattle.blob_fs.specs.Files.{KeepsNames, KeepsOptions, KeepsTold, MayResizeSome, SettlesSomeOf, names_of, syncs_of};
-ghost use Rattle.blob_fs.specs.Paths.{CreatesAt, FreesAt, IsBound, LinksAt, Lists, MakesDirectoryAt, OpensPath, RenamesPath, SyncsPath};
+ghost use Rattle.blob_fs.specs.Paths.{CreatesAt, FreesAt, IsBound, KeepsFixedBeside, LinksAt, Lists, MakesDirectoryAt, OpensPath, RenamesPath, SyncsPath};
 
 use crate::error::FsError;
 use crate::file_system::{Descriptor, FileSystem, ROOT};
@@ -75,6 +76,7 @@ impl<R: Rng + Drop> FileSystem<R> {
     pub fn create(&mut self, path: &[u8]) -> Result<Descriptor, FsError>
         ensures made { OnOk result (CreatesAt path.now self.old self.new) }
         ensures refused { OnErr result (Leaves self.old self.new) }
+        ensures fixed { KeepsFixed self.old self.new }
         ensures options { KeepsOptions self.old self.new }
     {
         let (directory, name) = self.place_of(path)?;
@@ -86,6 +88,7 @@ impl<R: Rng + Drop> FileSystem<R> {
         ensures opened { IfOk result (λ f. OpensPath path.now self.old f self.new) }
         ensures names { KeepsNames self.old self.new }
         ensures told { KeepsTold self.old self.new }
+        ensures fixed { KeepsFixed self.old self.new }
         ensures options { KeepsOptions self.old self.new }
     {
         self.begin_call()?;
@@ -98,6 +101,7 @@ impl<R: Rng + Drop> FileSystem<R> {
     pub fn open_truncated(&mut self, path: &[u8]) -> Result<Descriptor, FsError>
         ensures names { KeepsNames self.old self.new }
         ensures told { MayResizeSome self.old self.new }
+        ensures fixed { KeepsFixedBeside path.now self.old self.new }
         ensures options { KeepsOptions self.old self.new }
     {
         self.begin_call()?;
@@ -109,6 +113,7 @@ impl<R: Rng + Drop> FileSystem<R> {
     pub fn link(&mut self, path: &[u8], to: &[u8]) -> Result<(), FsError>
         ensures made { OnOk result (LinksAt path.now to.now self.old self.new) }
         ensures refused { OnErr result (Leaves self.old self.new) }
+        ensures fixed { KeepsFixed self.old self.new }
         ensures options { KeepsOptions self.old self.new }
     {
         let found = self.find(path)?;
@@ -120,6 +125,7 @@ impl<R: Rng + Drop> FileSystem<R> {
     pub fn unlink(&mut self, path: &[u8]) -> Result<(), FsError>
         ensures made { OnOk result (FreesAt path.now self.old self.new) }
         ensures refused { OnErr result (Leaves self.old self.new) }
+        ensures fixed { KeepsFixed self.old self.new }
         ensures options { KeepsOptions self.old self.new }
     {
         let (directory, name) = self.place_of(path)?;
@@ -130,6 +136,7 @@ impl<R: Rng + Drop> FileSystem<R> {
     pub fn rename(&mut self, path: &[u8], to: &[u8], how: Rename) -> Result<(), FsError>
         ensures renamed { OnOk result (RenamesPath how path.now to.now self.old self.new) }
         ensures refused { OnErr result (Leaves self.old self.new) }
+        ensures fixed { KeepsFixed self.old self.new }
         ensures options { KeepsOptions self.old self.new }
     {
         let from = self.place_of(path)?;
@@ -141,6 +148,7 @@ impl<R: Rng + Drop> FileSystem<R> {
     pub fn make_directory(&mut self, path: &[u8]) -> Result<(), FsError>
         ensures made { OnOk result (MakesDirectoryAt path.now self.old self.new) }
         ensures refused { OnErr result (Leaves self.old self.new) }
+        ensures fixed { KeepsFixed self.old self.new }
         ensures options { KeepsOptions self.old self.new }
     {
         let (directory, name) = self.place_of(path)?;
@@ -152,6 +160,7 @@ impl<R: Rng + Drop> FileSystem<R> {
     pub fn remove_directory(&mut self, path: &[u8]) -> Result<(), FsError>
         ensures made { OnOk result (FreesAt path.now self.old self.new) }
         ensures refused { OnErr result (Leaves self.old self.new) }
+        ensures fixed { KeepsFixed self.old self.new }
         ensures options { KeepsOptions self.old self.new }
     {
         let (directory, name) = self.place_of(path)?;
@@ -171,6 +180,7 @@ impl<R: Rng + Drop> FileSystem<R> {
         ensures names { KeepsNames self.old self.new }
         ensures some { SettlesSomeOf self.old self.new }
         ensures settled { OnOk result (syncs_of self.old ≡ Honest → SyncsPath path.now self.old self.new) }
+        ensures fixed { KeepsFixed self.old self.new }
         ensures options { KeepsOptions self.old self.new }
     {
         let directory = self.directory_of(path)?;

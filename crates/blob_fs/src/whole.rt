@@ -81,6 +81,7 @@ impl<R: Rng + Drop> FileSystem<R> {
     pub fn tree(&mut self) -> Result<Vec<TreeEntry>, FsError>
         ensures names { KeepsNames self.old self.new }
         ensures told { KeepsTold self.old self.new }
+        ensures fixed { KeepsFixed self.old self.new }
         ensures options { KeepsOptions self.old self.new }
     {
         let mut found = Vec::new(self.alloc);

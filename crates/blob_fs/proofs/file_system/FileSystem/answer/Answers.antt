@@ -27,4 +27,4 @@ returns-in-Crash g c =
 pub returns-in-Tree : goal.returns-in-Tree
 returns-in-Tree g c =
     performs _ _ _ _ c.args.self.now c.tree.new.self (ap act_of c.in-Tree.is) c.walked.ensures c.tree.ensures.options
-    (walks c.tree.result c.args.self.now c.tree.new.self c.tree.ensures.names c.tree.ensures.told)
+    (walks c.tree.result c.args.self.now c.tree.new.self c.tree.ensures.names c.tree.ensures.told c.tree.ensures.fixed)

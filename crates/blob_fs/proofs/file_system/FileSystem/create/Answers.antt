@@ -15,3 +15,6 @@ returns-clause-made g c =
 
 pub returns-clause-refused : goal.returns-clause-refused
 returns-clause-refused g c = left_by c.create_at.result c.args.self.now c.create_at.new.self c.create_at.ensures.refused c.create_at.ensures.untold
+
+pub returns-in_err-directory-clause-fixed : goal.returns-in_err-directory-clause-fixed
+returns-in_err-directory-clause-fixed g c = λ inode at byte below f. f

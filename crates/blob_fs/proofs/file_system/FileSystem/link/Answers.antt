@@ -19,3 +19,9 @@ returns-clause-made g c =
 
 pub returns-clause-refused : goal.returns-clause-refused
 returns-clause-refused g c = left_by c.link_at.result c.args.self.now c.link_at.new.self c.link_at.ensures.refused c.link_at.ensures.untold
+
+pub returns-in_err-found-clause-fixed : goal.returns-in_err-found-clause-fixed
+returns-in_err-found-clause-fixed g c = λ inode at byte below f. f
+
+pub returns-in_err-directory-clause-fixed : goal.returns-in_err-directory-clause-fixed
+returns-in_err-directory-clause-fixed g c = λ inode at byte below f. f

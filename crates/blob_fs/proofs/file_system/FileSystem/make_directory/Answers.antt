@@ -28,3 +28,6 @@ returns-clause-made g c =
         names = subst (λ (i : ℕ). MakesEdit (binds d n (directory_at i)) c.args.self.now c.make_directory_at.new.self) r.number r.made;
       };
     }
+
+pub returns-in_err-directory-clause-fixed : goal.returns-in_err-directory-clause-fixed
+returns-in_err-directory-clause-fixed g c = λ inode at byte below f. f

@@ -24,3 +24,9 @@ returns-clause-renamed g c =
 
 pub returns-clause-refused : goal.returns-clause-refused
 returns-clause-refused g c = left_by c.rename_at.result c.args.self.now c.rename_at.new.self c.rename_at.ensures.refused c.rename_at.ensures.untold
+
+pub returns-in_err-from-clause-fixed : goal.returns-in_err-from-clause-fixed
+returns-in_err-from-clause-fixed g c = λ inode at byte below f. f
+
+pub returns-in_err-to-clause-fixed : goal.returns-in_err-to-clause-fixed
+returns-in_err-to-clause-fixed g c = λ inode at byte below f. f

@@ -10,3 +10,6 @@ returns-clause-settled g c =
 
 pub returns-in_err-directory-clause-some : goal.returns-in_err-directory-clause-some
 returns-in_err-directory-clause-some g c = some_kept _ _ refl
+
+pub returns-in_err-directory-clause-fixed : goal.returns-in_err-directory-clause-fixed
+returns-in_err-directory-clause-fixed g c = λ inode at byte below f. f

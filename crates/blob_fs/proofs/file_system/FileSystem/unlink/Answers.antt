@@ -14,3 +14,6 @@ returns-clause-made g c =
 
 pub returns-clause-refused : goal.returns-clause-refused
 returns-clause-refused g c = left_by c.unlink_at.result c.args.self.now c.unlink_at.new.self c.unlink_at.ensures.refused c.unlink_at.ensures.untold
+
+pub returns-in_err-directory-clause-fixed : goal.returns-in_err-directory-clause-fixed
+returns-in_err-directory-clause-fixed g c = λ inode at byte below f. f
