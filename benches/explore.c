@@ -11,8 +11,10 @@ static void need(bool holds, const char *what) {
 }
 
 static struct blobcrash_typed_reply open_blob(void) {
-    need(blobcrash_explored_text(&paths, &session, "open wal 30") == BLOBCRASH_DONE, "open");
-    return blobcrash_last(&session);
+    struct blobcrash_asked asked = {BLOBCRASH_OPEN, 0, 0, 0};
+    struct blobcrash_typed_reply opened = blobcrash_explored_make(&paths, &session, &asked, "wal", 3, "0", 1);
+    need(opened.status == BLOBCRASH_DONE, "open");
+    return opened;
 }
 
 static void body(void) {

@@ -174,23 +174,56 @@ static void script_of_a_long_run(void) {
     blobcrash_free_paths(&paths);
 }
 
+/* A run with a resize that may fail and stop at another size, by lines or by typed calls. */
+static void resizes(struct blobcrash_paths *paths, struct blobcrash_session *session, bool are_typed) {
+    static const char *const lines[] = {"open p 62", "resize 0 2", "config resize 1 2 1 2", " resize  0   6"};
+    static const struct blobcrash_asked asked[] = {{BLOBCRASH_OPEN, 0, 0, 0}, {BLOBCRASH_RESIZE, 0, 2, 0}, {0}, {BLOBCRASH_RESIZE, 0, 6, 0}};
+    for (size_t at = 0; at < sizeof lines / sizeof *lines; at++) {
+        size_t named = at == 0;
+        if (are_typed && at != 2) blobcrash_explored_make(paths, session, &asked[at], "p", named, "b", named);
+        else blobcrash_explored_text(paths, session, lines[at]);
+    }
+}
+
 /* A resize from 2 to 6 bytes fails and stops at 3, 4 or 5 bytes, or fails and stays, or is done and survives a crash or not. The words are
  * those of a rate, of another one and of a size: of three sizes the second has the word 2^64 / 3, rounded up. */
-static void drawn_sizes(void) {
+static void drawn_sizes(bool are_typed) {
     static const char *const words[] = {"words 0 0 0", "words 0 0 6148914691236517206", "words 0 0 12297829382473034411", "words 0 max", "words max 0", "words max max"};
     static const uint64_t sizes[] = {3, 4, 5, 2, 6, 6};
-    struct blobcrash_paths paths = {0};
+    char *script = NULL;
+    size_t script_len = 0;
+    struct blobcrash_paths paths = {.script = open_memstream(&script, &script_len)};
     struct blobcrash_session session = {0};
     while (blobcrash_next_run(&paths, &session, "") == BLOBCRASH_EXPLORE_RUN) {
-        static const char *const lines[] = {"open p 62", "resize 0 2", "config resize 1 2 1 2", " resize  0   6"};
-        for (size_t line = 0; line < sizeof lines / sizeof *lines; line++) blobcrash_explored_text(&paths, &session, lines[line]);
+        resizes(&paths, &session, are_typed);
         uint64_t size = blobcrash_tracked_size(&session, 0).size, run = paths.runs;
         char text[64] = "";
         tell(blobcrash_end_run(&paths, &session) == BLOBCRASH_EXPLORE_RUN, "a run with a drawn size");
         blobcrash_words_of(&paths, text, sizeof text);
         tell(run < 6 && size == sizes[run] && strcmp(text, words[run]) == 0, text);
+        if (run > 0) continue;
+        fclose(paths.script);
+        paths.script = NULL;
+        const char *wanted = are_typed ? "open p 62\nresize 0 2\nconfig resize 1 2 1 2\nresize 0 6\n" : "open p 62\nresize 0 2\nconfig resize 1 2 1 2\n resize  0   6\n";
+        tell(strcmp(script, wanted) == 0, script);
     }
     tell(paths.runs == 6, "each size once");
+    free(script);
+    blobcrash_free_paths(&paths);
+}
+
+/* A typed call that isn't made: the power is off, or the kind is unknown. */
+static void typed_calls_not_made(void) {
+    struct blobcrash_asked open = {BLOBCRASH_OPEN, 0, 0, 0}, unknown = {1000, 0, 0, 0};
+    struct blobcrash_paths paths = {.power_losses = 1};
+    struct blobcrash_session session = {0};
+    for (int run = 0; run < 2; run++) {
+        blobcrash_next_run(&paths, &session, "");
+        uint32_t status = blobcrash_explored_make(&paths, &session, &open, "p", 1, "b", 1).status;
+        tell(status == (uint32_t)(run == 0 ? BLOBCRASH_DONE : BLOBCRASH_POWER_LOSS), "an open with and without power");
+        if (run == 0) tell(blobcrash_explored_make(&paths, &session, &unknown, NULL, 0, NULL, 0).status == BLOBCRASH_BAD_CALL, "no such kind");
+        tell(blobcrash_end_run(&paths, &session) == BLOBCRASH_EXPLORE_RUN, "a run of typed calls");
+    }
     blobcrash_free_paths(&paths);
 }
 
@@ -308,7 +341,9 @@ int main(void) {
     refusals();
     too_long();
     script_of_a_long_run();
-    drawn_sizes();
+    drawn_sizes(false);
+    drawn_sizes(true);
+    typed_calls_not_made();
     what_is_made_without_power();
     a_refused_restart();
     unkept();

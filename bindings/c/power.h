@@ -90,14 +90,10 @@ struct blobcrash_resize_made {
     uint64_t from, to;
 };
 
-/* Reads a line `resize HANDLE LEN`, before it is made. */
-static inline struct blobcrash_resize_made blobcrash_before_resize(struct blobcrash_session *session, const char *line, size_t len) {
-    struct blobcrash_resize_made resize = {false, 0, 0, 0};
-    resize.handle = (size_t)blobcrash_number_of(blobcrash_word_at(line, len, 1));
-    resize.to = blobcrash_number_of(blobcrash_word_at(line, len, 2));
-    struct blobcrash_typed_reply size = blobcrash_tracked_size(session, resize.handle);
-    resize.is_one = size.status == BLOBCRASH_DONE;
-    resize.from = size.size;
+/* Looks at a resize before it is made. */
+static inline struct blobcrash_resize_made blobcrash_before_resize(struct blobcrash_session *session, size_t handle, uint64_t to) {
+    struct blobcrash_typed_reply size = blobcrash_tracked_size(session, handle);
+    struct blobcrash_resize_made resize = {size.status == BLOBCRASH_DONE, handle, size.size, to};
     return resize;
 }
 
@@ -110,21 +106,13 @@ static inline void blobcrash_after_resize(struct blobcrash_paths *paths, struct 
     blobcrash_count_size(paths, blobcrash_words_left(session), (from < to ? to - from : from - to) - 1);
 }
 
-/* Follows the power, and which handles have unsynced writes, after the call of a line. */
-static inline void blobcrash_follow_line(struct blobcrash_paths *paths, struct blobcrash_session *session, uint32_t kind, const char *line,
-                                         size_t len) {
+/* Follows the power, and which handles have unsynced writes, after a call that returned DONE. A write has bytes. */
+static inline void blobcrash_follow(struct blobcrash_paths *paths, struct blobcrash_session *session, uint32_t kind, size_t handle) {
     struct blobcrash_unsynced *unsynced = &paths->unsynced;
-    if (kind == BLOBCRASH_CONFIGURE) {
-        blobcrash_unsynced_set(unsynced, line, len);
-        return;
-    }
-    if (blobcrash_last(session).status != BLOBCRASH_DONE) return;
     switch (kind) {
-    case BLOBCRASH_WRITE:
-        if (line[len - 1] != '-') blobcrash_unsynced_write(unsynced, blobcrash_number_of(blobcrash_word_at(line, len, 1)));
-        break;
+    case BLOBCRASH_WRITE: blobcrash_unsynced_write(unsynced, handle); break;
     case BLOBCRASH_SYNC:
-    case BLOBCRASH_START_SYNC: blobcrash_unsynced_sync(unsynced, blobcrash_number_of(blobcrash_word_at(line, len, 1))); break;
+    case BLOBCRASH_START_SYNC: blobcrash_unsynced_sync(unsynced, handle); break;
     case BLOBCRASH_CRASH: blobcrash_unsynced_crash(unsynced); break;
     case BLOBCRASH_REOPEN:
         unsynced->count = 0;
@@ -141,12 +129,15 @@ static inline struct blobcrash_ran blobcrash_explored_call(struct blobcrash_path
     const char *text = (const char *)line;
     uint32_t kind = blobcrash_line_kind(text, len);
     blobcrash_power_fails(paths, session, blobcrash_effect(kind) & BLOBCRASH_CHANGES);
+    size_t handle = (size_t)blobcrash_number_of(blobcrash_word_at(text, len, 1));
     struct blobcrash_resize_made resize = {false, 0, 0, 0};
-    if (kind == BLOBCRASH_RESIZE) resize = blobcrash_before_resize(session, text, len);
+    if (kind == BLOBCRASH_RESIZE) resize = blobcrash_before_resize(session, handle, blobcrash_number_of(blobcrash_word_at(text, len, 2)));
     struct blobcrash_ran ran = blobcrash_call(session, line, len, reply, reply_room);
     if (!blobcrash_was_made(ran.status)) return ran;
     blobcrash_after_resize(paths, session, &resize);
-    blobcrash_follow_line(paths, session, kind, text, len);
+    bool is_done = blobcrash_last(session).status == BLOBCRASH_DONE;
+    if (kind == BLOBCRASH_CONFIGURE) blobcrash_unsynced_set(&paths->unsynced, text, len);
+    else if (is_done && (kind != BLOBCRASH_WRITE || text[len - 1] != '-')) blobcrash_follow(paths, session, kind, handle);
     if (paths->script != NULL) {
         fwrite(line, 1, len, paths->script);
         fputc('\n', paths->script);
@@ -154,10 +145,11 @@ static inline struct blobcrash_ran blobcrash_explored_call(struct blobcrash_path
     return ran;
 }
 
-/* Prints the line of a typed call that was made. */
-static inline void blobcrash_print_asked(struct blobcrash_paths *paths, const struct blobcrash_asked *asked, const uint8_t *bytes, size_t len) {
+/* Prints the line of a typed call that was made. `name` may be the bytes of a write. */
+static inline void blobcrash_print_asked(struct blobcrash_paths *paths, const struct blobcrash_asked *asked, const void *partition,
+                                         size_t partition_len, const void *name, size_t name_len) {
     size_t line_len;
-    char *line = blobcrash_new_line(asked, NULL, 0, bytes, len, &line_len);
+    char *line = blobcrash_new_line(asked, partition, partition_len, name, name_len, &line_len);
     blobcrash_print_line(paths, line, line_len);
     fputc('\n', paths->script);
 }
@@ -168,7 +160,7 @@ static inline uint32_t blobcrash_explored_read(struct blobcrash_paths *paths, st
     struct blobcrash_asked asked = {BLOBCRASH_READ, handle, offset, len};
     blobcrash_count_call(paths, session);
     uint32_t status = blobcrash_read(session, handle, offset, into, len);
-    if (paths->script != NULL && status != BLOBCRASH_CLOSED && status != BLOBCRASH_POWER_LOSS) blobcrash_print_asked(paths, &asked, NULL, 0);
+    if (paths->script != NULL && status != BLOBCRASH_CLOSED && status != BLOBCRASH_POWER_LOSS) blobcrash_print_asked(paths, &asked, NULL, 0, NULL, 0);
     return status;
 }
 
@@ -179,7 +171,9 @@ static inline uint32_t blobcrash_explored_write(struct blobcrash_paths *paths, s
     blobcrash_power_fails(paths, session, true);
     uint32_t status = blobcrash_write(session, handle, offset, bytes, len, sync);
     if (status == BLOBCRASH_DONE && !sync && len > 0) blobcrash_unsynced_write(&paths->unsynced, handle);
-    if (paths->script != NULL && status != BLOBCRASH_CLOSED && status != BLOBCRASH_POWER_LOSS) blobcrash_print_asked(paths, &asked, bytes, len);
+    if (paths->script != NULL && status != BLOBCRASH_CLOSED && status != BLOBCRASH_POWER_LOSS) {
+        blobcrash_print_asked(paths, &asked, NULL, 0, bytes, len);
+    }
     return status;
 }
 
@@ -190,16 +184,28 @@ static inline uint32_t blobcrash_explored_text(struct blobcrash_paths *paths, st
     return blobcrash_was_made(ran.status) ? blobcrash_last(session).status : ran.status;
 }
 
+/* As blobcrash_apply. POWER_LOSS if the power is off: then only a crash and, after it, a close and a reopen are made. */
+static inline struct blobcrash_typed_reply blobcrash_explored_make(struct blobcrash_paths *paths, struct blobcrash_session *session,
+                                                                   const struct blobcrash_asked *asked, const void *partition,
+                                                                   size_t partition_len, const void *name, size_t name_len) {
+    const uint8_t *in = blobcrash_line_bytes(partition), *called = blobcrash_line_bytes(name);
+    blobcrash_power_fails(paths, session, blobcrash_effect(asked->kind) & BLOBCRASH_CHANGES);
+    struct blobcrash_resize_made resize = {false, 0, 0, 0};
+    if (asked->kind == BLOBCRASH_RESIZE) resize = blobcrash_before_resize(session, asked->number, asked->first);
+    struct blobcrash_typed_reply reply = blobcrash_apply(session, asked, in, partition_len, called, name_len);
+    /* Refusals begin with E_OFFSET_OVERFLOW. */
+    if (reply.status != BLOBCRASH_DONE && reply.status < BLOBCRASH_E_OFFSET_OVERFLOW) return reply;
+    blobcrash_after_resize(paths, session, &resize);
+    bool is_empty = asked->kind == BLOBCRASH_WRITE && name_len == 0;
+    if (reply.status == BLOBCRASH_DONE && !is_empty) blobcrash_follow(paths, session, asked->kind, asked->number);
+    if (paths->script != NULL) blobcrash_print_asked(paths, asked, partition, partition_len, name, name_len);
+    return reply;
+}
+
 /* Makes a call without a handle and names. Returns DONE, its refusal, or the status of a call that wasn't made. */
 static inline uint32_t blobcrash_explored_kind(struct blobcrash_paths *paths, struct blobcrash_session *session, uint32_t kind) {
     struct blobcrash_asked asked = {kind, 0, 0, 0};
-    const uint8_t none = 0;
-    blobcrash_power_fails(paths, session, blobcrash_effect(kind) & BLOBCRASH_CHANGES);
-    uint32_t status = blobcrash_apply(session, &asked, &none, 0, &none, 0).status;
-    if (status == BLOBCRASH_CLOSED || status == BLOBCRASH_POWER_LOSS) return status;
-    blobcrash_follow_line(paths, session, kind, NULL, 0);
-    if (paths->script != NULL) blobcrash_print_asked(paths, &asked, NULL, 0);
-    return status;
+    return blobcrash_explored_make(paths, session, &asked, NULL, 0, NULL, 0).status;
 }
 
 /* Crashes and reopens the store. Returns DONE; E_MEMORY if one of them is refused; or the status of the call that wasn't made. */
