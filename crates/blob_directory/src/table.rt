@@ -5,6 +5,7 @@ ghost use Rattle.blob_directory.specs.Names.{Same, change_of, changed, edit_of, 
 ghost use Rattle.blob_directory.specs.Tables.{HasAll, HasNoName, HasOnly, HasRoom, HasRoomFor, IsWithin, KeepsRoom, bound};
 
 use crate::edit::{Binding, Change, Edit, entry_of};
+use blob_names::order::Sought;
 use std::alloc::{AllocError, Global};
 use std::collections::BTreeMap;
 
@@ -42,7 +43,7 @@ impl Table {
     pub fn get(&self, entry: &[u8]) -> Option<Binding>
         ensures { result ≡ bound self.now entry.now }
     {
-        match self.entries.get(entry) {
+        match self.entries.get(Sought { bytes: entry }) {
             None => None,
             Some(binding) => *binding,
         }
@@ -71,7 +72,7 @@ impl Table {
         ensures keeps { KeepsRoom self.old self.new }
         ensures room { OnOk result (HasRoom self.new entry.now) }
     {
-        if self.entries.contains_key(entry) {
+        if self.entries.contains_key(Sought { bytes: entry }) {
             return Ok(());
         }
         let key = Vec::from_slice(self.alloc, entry)?;
@@ -84,7 +85,7 @@ impl Table {
         ensures set { HasRoom self.old entry.now → Same (bound self.new) (changed (bound self.old) (entry.now, to)) }
         ensures keeps { KeepsRoom self.old self.new }
     {
-        let Some(binding) = self.entries.get_mut(entry) else {
+        let Some(binding) = self.entries.get_mut(Sought { bytes: entry }) else {
             return;
         };
         *binding = to;
@@ -103,7 +104,7 @@ impl Table {
     fn free(&mut self, entry: &[u8])
         ensures { Same (bound self.new) (changed (bound self.old) (entry.now, None)) }
     {
-        self.entries.remove(entry);
+        self.entries.remove(Sought { bytes: entry });
     }
 
     /// Gives back the room of an entry that is bound to nothing.
@@ -111,7 +112,7 @@ impl Table {
         ensures { Same (bound self.old) (bound self.new) }
     {
         if self.get(entry).is_none() {
-            self.entries.remove(entry);
+            self.entries.remove(Sought { bytes: entry });
         }
     }
 

@@ -47,13 +47,13 @@ fn draw_sectors<R: Rng>(
     requires blank { IsBlank len chosen.old }
     ensures { (chosen.new.items, R.stream rng.new) ≡ sectors rate size offset true false len (R.stream rng.old) }
 {
-    let mut last = false;
-    for i in 0..len {
-        let position = offset + i as u64;
-        if i == 0 || position % size == 0 {
-            last = rate.sample(rng);
-        }
-        chosen.push(last).unwrap();
+    let mut done = 0;
+    while done < len {
+        let within = (offset + done as u64) % size;
+        let count = (size - within).min((len - done) as u64) as usize;
+        let is_kept = rate.sample(rng);
+        done += count;
+        chosen.resize(done, is_kept).unwrap();
     }
 }
 

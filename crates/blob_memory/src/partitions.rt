@@ -14,6 +14,7 @@ ghost use Rattle.std.specs.Option.{option_copied_mut};
 use crate::audit::audit;
 use crate::item::Item;
 use crate::origin::Origin;
+use blob_names::order::Sought;
 use blob_pages::Bytes;
 use std::alloc::{AllocError, Global};
 use std::collections::BTreeMap;
@@ -86,7 +87,7 @@ impl Partitions {
     {
         match self.names.get(partition) {
             None => None,
-            Some(names) => names.get(name),
+            Some(names) => names.get(Sought { bytes: name }),
         }
     }
 
@@ -126,7 +127,7 @@ impl Partitions {
     {
         match self.names.get_mut(partition) {
             None => None,
-            Some(names) => names.get_mut(name),
+            Some(names) => names.get_mut(Sought { bytes: name }),
         }
     }
 
@@ -201,7 +202,7 @@ impl Partitions {
         ensures partitions { (q : List ℕ) → is_there self.new q ≡ is_there self.old q }
     {
         if let Some(names) = self.names.get_mut(partition) {
-            names.remove(name);
+            names.remove(Sought { bytes: name });
         }
     }
 

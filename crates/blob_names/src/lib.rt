@@ -1,4 +1,5 @@
-//! A map keyed by partition and name.
+//! A map keyed by partition and name, and the order of names.
 #![tactic(auto)]
 
 pub mod names;
+pub mod order;

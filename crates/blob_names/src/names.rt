@@ -3,6 +3,7 @@ ghost use Rattle.std.specs.Prelude.{◌≡◌, OnOk, OnErr, option_copied, None,
 ghost use Rattle.std.specs.Bool.{OnTrue, OnFalse};
 ghost use Rattle.blob_names.specs.Names.{at, with_name, with_all_names};
 
+use crate::order::Sought;
 use std::alloc::{AllocError, Global};
 use std::collections::BTreeMap;
 
@@ -30,7 +31,7 @@ impl<V: Drop> Names<V> {
     {
         match self.partitions.get(partition) {
             None => None,
-            Some(names) => names.get(name),
+            Some(names) => names.get(Sought { bytes: name }),
         }
     }
 
@@ -45,7 +46,7 @@ impl<V: Drop> Names<V> {
         let Some(names) = self.partitions.get_mut(partition) else {
             return false;
         };
-        let Some(kept) = names.get_mut(name) else {
+        let Some(kept) = names.get_mut(Sought { bytes: name }) else {
             return false;
         };
         std::mem::swap(kept, value);
@@ -87,7 +88,7 @@ impl<V: Drop> Names<V> {
         let Some(names) = self.partitions.get_mut(partition) else {
             return;
         };
-        names.remove(name);
+        names.remove(Sought { bytes: name });
         if names.is_empty() {
             self.partitions.remove(partition);
         }

@@ -1,6 +1,6 @@
 -- Overlays and resizes as the results of loops and of calls of `Vec`.
-use Rattle.std.proofs.Common.{[], ◌≡◌, ⊎_elim, ℕ, ◌+◌, ◌-◌, ◌<◌, ◌≤◌, max, Bool, true, false, List, ◌++◌, length, get_or, take, drop, set, replicate, refl, sym, ◌∙◌, ap, arith, ◌≢◌, true≢false, ◌&&◌, ltb, length-append, append-nil, length-take, length-drop, length-set, get_or-set_same, get_or-set_other}
-use Rattle.std.proofs.lemmas.Bool.{cases_lt, cases_eq, le-ltb, lt-ltb, and_parts, and_from, and_left, and_right}
+use Rattle.std.proofs.Common.{[], ◌≡◌, ◌⊎◌, ⊎_elim, ℕ, ◌+◌, ◌-◌, ◌<◌, ◌≤◌, max, Bool, true, false, List, ◌++◌, length, get_or, take, drop, replicate, refl, sym, ◌∙◌, ap, arith, ◌&&◌, ltb, length-append, append-nil, length-take, length-drop}
+use Rattle.std.proofs.lemmas.Bool.{cases_lt, le-ltb, lt-ltb, and_parts, and_from}
 use Rattle.std.proofs.lemmas.List.{get_or_past, get_or_append_left, get_or-append_right, get_or-take, get_or-drop, get_or-replicate, length-replicate, drop_all, take_all}
 use Rattle.blob_model.proofs.Agrees.{alike, overlay_same}
 use Rattle.blob_model.specs.Bytes.{reach, overlay_by, overlay, resize, write_live}
@@ -53,20 +53,54 @@ overlay_padded x n o b c low high = same_bytes _ _
 pub lay_padded : (x y z : List ℕ) (o : ℕ) (b : List ℕ) (c : ℕ → Bool) (r : ℕ) → r ≡ reach o (length b) c → y ≡ resize x (max (length x) r) → z ≡ overlay_by y o b c → z ≡ overlay_by x o b c
 lay_padded x y z o b c r is e f = f ∙ ap (λ l. overlay_by l o b c) (e ∙ ap (λ n. resize x (max (length x) n)) is) ∙ overlay_padded x _ o b c (omega arith) (omega arith)
 
--- zeros up to the end of the run are covered by it
-pub live_padded : (x : List ℕ) (o : ℕ) (b : List ℕ) → overlay (resize x (max (length x) (o + length b))) o b ≡ write_live x o b
-live_padded x o b = ⊎_elim (λ e. ap (λ n. overlay (resize x (max (length x) n)) o b) (none e)) (λ ne. some (omega arith)) (cases_eq (length b) 0)
-  where
-    none : length b ≡ 0 → o + length b ≡ o
-    none e = omega arith
-
-    some : 0 < length b → overlay (resize x (max (length x) (o + length b))) o b ≡ write_live x o b
-    some h = overlay_padded x _ o b (λ _. true) (omega arith) (omega (arith, reach_all o (length b) h))
-        ∙ sym (overlay_padded x _ o b (λ _. true) (omega arith) (omega (arith, reach_all o (length b) h)))
-
 -- a write of some bytes needs no zeros before its offset
 pub live_some : (x : List ℕ) (o : ℕ) (b : List ℕ) → 0 < length b → write_live x o b ≡ overlay x o b
 live_some x o b h = overlay_padded x _ o b (λ _. true) (omega arith) (omega (arith, reach_all o (length b) h))
+
+-- A run over bytes that are there up to its offset: its first part is over the rest of them, and the rest of it is appended.
+extended_within : (y : List ℕ) (o t : ℕ) (b : List ℕ) → t ≡ length b → overlay y o (take t b) ++ drop t b ≡ overlay y o b
+extended_within y o t b is = ap (λ z. overlay y o (take t b) ++ z) (drop_all t b (omega (arith, is))) ∙ append-nil (overlay y o (take t b)) ∙ ap (overlay y o) (take_all t b (omega (arith, is)))
+
+extended_beyond : (y : List ℕ) (o t : ℕ) (b : List ℕ) → o ≤ length y → t ≡ length y - o → t < length b → overlay y o (take t b) ++ drop t b ≡ overlay y o b
+extended_beyond y o t b there is more = same_bytes _ _
+    (omega (
+      arith,
+      length-append (overlay y o (take t b)) (drop t b),
+      length-drop t b,
+      len,
+      is,
+      more,
+      there,
+      length-overlay_by y o b (λ _. true),
+      reach_all o (length b) (omega (arith, more)),
+    ))
+    (λ p. ⊎_elim (λ l. before p l) (λ l. ⊎_elim (λ u. beyond p l u) (λ u. past p u) (cases_lt p (o + length b))) (cases_lt p (length y)))
+  where
+    count : length (take t b) ≡ t
+    count = omega (arith, length-take t b, more)
+
+    small : reach o (length (take t b)) (λ _. true) ≤ length y
+    small = reach_below o (length (take t b)) (λ _. true) (length y) (λ i l _. omega (arith, count, is, there))
+
+    len : length (overlay y o (take t b)) ≡ length y
+    len = omega (arith, length-overlay_by y o (take t b) (λ _. true), small)
+
+    before : (p : ℕ) → p < length y → get_or (overlay y o (take t b) ++ drop t b) p 0 ≡ get_or (overlay y o b) p 0
+    before p l = get_or_append_left (overlay y o (take t b)) (drop t b) 0 p (omega (arith, len)) ∙ ⊎_elim
+        (λ low. at_other y o (take t b) (λ _. true) p (λ h _. absurd (omega arith)) ∙ sym (at_other y o b (λ _. true) p (λ h _. absurd (omega arith))))
+        (λ ge. at_chosen y o (take t b) (λ _. true) p ge (omega (arith, count, is)) refl ∙ get_or-take t b (p - o) 0 (omega (arith, is)) ∙ sym (at_chosen y o b (λ _. true) p ge (omega (arith, is, more)) refl))
+        (cases_lt p o)
+
+    beyond : (p : ℕ) → length y ≤ p → p < o + length b → get_or (overlay y o (take t b) ++ drop t b) p 0 ≡ get_or (overlay y o b) p 0
+    beyond p l u = get_or-append_right (overlay y o (take t b)) (drop t b) (length y) p 0 len l ∙ get_or-drop t b (p - length y) 0 ∙ ap (λ q. get_or b q 0) (omega (arith, is, there))
+        ∙ sym (at_chosen y o b (λ _. true) p (omega (arith, there)) u refl)
+
+    past : (p : ℕ) → o + length b ≤ p → get_or (overlay y o (take t b) ++ drop t b) p 0 ≡ get_or (overlay y o b) p 0
+    past p u = get_or_past (overlay y o (take t b) ++ drop t b) p 0 (omega (arith, length-append (overlay y o (take t b)) (drop t b), length-drop t b, len, is, more, there))
+        ∙ sym (get_or_past (overlay y o b) p 0 (omega (arith, length-overlay_by y o b (λ _. true), reach_all o (length b) (omega (arith, more)), is, more, there)))
+
+pub extended : (y : List ℕ) (o t : ℕ) (b : List ℕ) → o ≤ length y → (t ≡ length b) ⊎ ((t ≡ length y - o) × (t < length b)) → overlay y o (take t b) ++ drop t b ≡ overlay y o b
+extended y o t b there cases = ⊎_elim (λ h. extended_within y o t b h) (λ h. extended_beyond y o t b there h.0 h.1) cases
 
 pub overlay_none : (x : List ℕ) (o : ℕ) (c : ℕ → Bool) → overlay_by x o [] c ≡ x
 overlay_none x o c = same_bytes _ _ (omega (arith, length-overlay_by x o [] c)) (λ p. at_other x o [] c p (λ l u. absurd (omega arith)))
@@ -156,56 +190,60 @@ overlay_more x o a b c = same_bytes _ _
         back : (p : ℕ) → o + length a ≤ p → p - o ≡ length a + (p - (o + length a))
         back p k = omega arith
 
--- one more selected byte, within the list
-pub overlay_one : (x : List ℕ) (o : ℕ) (b : List ℕ) (c d : ℕ → Bool) (i : ℕ) → i < length b → reach o (length b) c ≤ length x → c i ≡ true → ((j : ℕ) → j ≢ i → d j ≡ c j) → d i ≡ false →
-    overlay_by x o b c ≡ set (overlay_by x o b d) (o + i) (get_or b i 0)
-overlay_one x o b c d i h r e same no_i = same_bytes _ _
-    (omega (arith, length-overlay_by x o b c, length-set (overlay_by x o b d) (o + i) (get_or b i 0), len))
-    (λ p. ⊎_elim (λ is. at p is) (λ ne. other p ne) (cases_eq p (o + i)))
-  where
-    small : reach o (length b) d ≤ length x
-    small = reach_below o (length b) d (length x) (λ j l t. ⊎_elim
-        (λ is. absurd (true≢false (sym t ∙ ap d is ∙ no_i)))
-        (λ ne. let up = above_chosen o (length b) c j l (sym (same j ne) ∙ t) in omega arith) (cases_eq j i))
-
-    len : length (overlay_by x o b d) ≡ length x
-    len = omega (arith, length-overlay_by x o b d, small)
-
-    inside : o + i < length x
-    inside = omega (arith, above_chosen o (length b) c i h e)
-
-    at : (p : ℕ) → p ≡ o + i → get_or (overlay_by x o b c) p 0 ≡ get_or (set (overlay_by x o b d) (o + i) (get_or b i 0)) p 0
-    at p is = ap (λ q. get_or (overlay_by x o b c) q 0) is
-        ∙ at_chosen x o b c (o + i) (omega arith) (omega arith) (ap c (back (o + i) refl) ∙ e)
-        ∙ ap (λ q. get_or b q 0) (back (o + i) refl)
-        ∙ sym (get_or-set_same (overlay_by x o b d) (o + i) (get_or b i 0) 0 (omega (arith, len, inside)))
-        ∙ ap (λ q. get_or (set (overlay_by x o b d) (o + i) (get_or b i 0)) q 0) (sym is)
-      where
-        back : (q : ℕ) → q ≡ o + i → q - o ≡ i
-        back q e = omega arith
-
-    other : (p : ℕ) → (p ≡ o + i → ⊥) → get_or (overlay_by x o b c) p 0 ≡ get_or (set (overlay_by x o b d) (o + i) (get_or b i 0)) p 0
-    other p ne = alike x x o b c d p (λ l u. sym (same (p - o) (λ z. ne (omega arith)))) refl
-        ∙ sym (get_or-set_other (overlay_by x o b d) (o + i) p (get_or b i 0) 0 ne)
-
 -- the loop over `keep`: its start, its two steps and its end
 pub lay_none : (x : List ℕ) (o : ℕ) (b : List ℕ) (c : ℕ → Bool) → x ≡ overlay_by x o b (first 0 c)
 lay_none x o b c = sym (none_chosen x o b) ∙ overlay_same x o b _ _ (λ i h. ap (λ t. t && c i) (sym (le-ltb i 0 (omega arith))))
 
-first_one : (i j : ℕ) (c : ℕ → Bool) → j ≢ i → first i c j ≡ first (i + 1) c j
-first_one i j c ne = ap (λ t. t && c j) (⊎_elim (λ lt. lt-ltb j i lt ∙ sym (lt-ltb j (i + 1) (omega arith))) (λ ge. le-ltb j i ge ∙ sym (le-ltb j (i + 1) (omega arith))) (cases_lt j i))
+-- a run of selected bytes, over bytes that are there
+pub lay_run : (x : List ℕ) (o : ℕ) (b : List ℕ) (c : ℕ → Bool) (i e : ℕ) → i < e → e ≤ length b → reach o (length b) c ≤ length x → ((j : ℕ) → i ≤ j → j < e → c j ≡ true)
+    → overlay (overlay_by x o b (first i c)) (o + i) (take (e - i) (drop i b)) ≡ overlay_by x o b (first e c)
+lay_run x o b c i e some within r all = same_bytes _ _
+    (omega (
+      arith,
+      len,
+      length-overlay_by y (o + i) run (λ _. true),
+      length-overlay_by x o b (first e c),
+      reach_all (o + i) (length run) (omega (arith, count)),
+      count,
+      small e,
+      last,
+    ))
+    (λ p. ⊎_elim (λ l. before p l) (λ l. ⊎_elim (λ u. within_run p l u) (λ u. behind p u) (cases_lt p (o + e))) (cases_lt p (o + i)))
+  where
+    y : List ℕ
+    y = overlay_by x o b (first i c)
 
-pub lay_more : (x : List ℕ) (o : ℕ) (b : List ℕ) (c : ℕ → Bool) (i : ℕ) → i < length b → reach o (length b) c ≤ length x → c i ≡ true → set (overlay_by x o b (first i c)) (o + i) (get_or b i 0) ≡ overlay_by x o b (first (i + 1) c)
-lay_more x o b c i h r e = sym (overlay_one x o b (first (i + 1) c) (first i c) i h
-    (reach_below o (length b) _ (length x) (λ j l t. let up = above_chosen o (length b) c j l (and_parts (ltb j (i + 1)) (c j) t).1 in omega arith))
-    (and_from (ltb i (i + 1)) (c i) (lt-ltb i (i + 1) (omega arith)) e)
-    (λ j ne. first_one i j c ne)
-    (and_left (ltb i i) (c i) (le-ltb i i (omega arith))))
+    run : List ℕ
+    run = take (e - i) (drop i b)
 
-pub lay_less : (x : List ℕ) (o : ℕ) (b : List ℕ) (c : ℕ → Bool) (i : ℕ) → c i ≡ false → overlay_by x o b (first i c) ≡ overlay_by x o b (first (i + 1) c)
-lay_less x o b c i e = overlay_same x o b _ _ (λ j h. ⊎_elim
-    (λ is. and_right (ltb j i) (c j) (ap c is ∙ e) ∙ sym (and_right (ltb j (i + 1)) (c j) (ap c is ∙ e)))
-    (λ ne. first_one i j c ne) (cases_eq j i))
+    count : length run ≡ e - i
+    count = omega (arith, length-take (e - i) (drop i b), length-drop i b)
+
+    small : (n : ℕ) → reach o (length b) (first n c) ≤ length x
+    small n = reach_below o (length b) _ (length x) (λ j l t. let up = above_chosen o (length b) c j l (and_parts (ltb j n) (c j) t).1 in omega arith)
+
+    len : length y ≡ length x
+    len = omega (arith, length-overlay_by x o b (first i c), small i)
+
+    last : o + (e - 1) < length x
+    last = omega (arith, above_chosen o (length b) c (e - 1) (omega arith) (all (e - 1) (omega arith) (omega arith)))
+
+    within_run : (p : ℕ) → o + i ≤ p → p < o + e → get_or (overlay y (o + i) run) p 0 ≡ get_or (overlay_by x o b (first e c)) p 0
+    within_run p l u = at_chosen y (o + i) run (λ _. true) p l (omega (arith, count)) refl
+        ∙ get_or-take (e - i) (drop i b) (p - (o + i)) 0 (omega arith) ∙ get_or-drop i b (p - (o + i)) 0 ∙ ap (λ q. get_or b q 0) (omega arith)
+        ∙ sym (at_chosen x o b (first e c) p (omega arith) (omega arith) (and_from (ltb (p - o) e) (c (p - o)) (lt-ltb (p - o) e (omega arith)) (all (p - o) (omega arith) (omega arith))))
+
+    early : (p : ℕ) → o ≤ p → p < o + i → first i c (p - o) ≡ first e c (p - o)
+    early p m l = ap (λ t. t && c (p - o)) (lt-ltb (p - o) i (omega arith) ∙ sym (lt-ltb (p - o) e (omega arith)))
+
+    late : (p : ℕ) → o ≤ p → o + e ≤ p → first i c (p - o) ≡ first e c (p - o)
+    late p m u = ap (λ t. t && c (p - o)) (le-ltb (p - o) i (omega arith) ∙ sym (le-ltb (p - o) e (omega arith)))
+
+    before : (p : ℕ) → p < o + i → get_or (overlay y (o + i) run) p 0 ≡ get_or (overlay_by x o b (first e c)) p 0
+    before p l = at_other y (o + i) run (λ _. true) p (λ m _. absurd (omega arith)) ∙ alike x x o b (first i c) (first e c) p (λ m _. early p m l) refl
+
+    behind : (p : ℕ) → o + e ≤ p → get_or (overlay y (o + i) run) p 0 ≡ get_or (overlay_by x o b (first e c)) p 0
+    behind p u = at_other y (o + i) run (λ _. true) p (λ _ h. absurd (omega (arith, count))) ∙ alike x x o b (first i c) (first e c) p (λ m _. late p m u) refl
 
 pub lay_end : (x : List ℕ) (o : ℕ) (b : List ℕ) (c : ℕ → Bool) (i : ℕ) → length b ≤ i → overlay_by x o b (first i c) ≡ overlay_by x o b c
 lay_end x o b c i h = overlay_same x o b (first i c) c (λ j l. ap (λ t. t && c j) (lt-ltb j i (omega arith)))

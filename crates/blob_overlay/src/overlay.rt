@@ -1,5 +1,5 @@
 //! Writes and resizes of a vector of bytes. A call that can fail reserves capacity first. The rest does not allocate.
-ghost use Rattle.std.specs.Prelude.{◌≡◌, ◌≤◌, ◌<◌, ◌+◌, ◌^◌, length, drop, vec_capacity};
+ghost use Rattle.std.specs.Prelude.{◌≡◌, ◌≤◌, ◌<◌, ◌+◌, ◌^◌, ℕ, true, length, drop, vec_capacity};
 ghost use Rattle.blob_model.specs.Bytes.{overlay_by, reach, resize, write_live};
 ghost use Rattle.blob_model.specs.Runs.{is_chosen};
 ghost use Rattle.blob_overlay.specs.Overlays.{AreNow, Grows};
@@ -19,26 +19,50 @@ pub fn reach_of(offset: usize, keep: &[bool]) -> usize
     requires { offset + length keep.now < 2 ^ 64 }
     ensures { result ≡ reach offset (length keep.now) (is_chosen keep.now) }
 {
-    let mut end = 0;
-    for (i, kept) in keep.iter().enumerate() {
-        if *kept {
-            end = offset + i + 1;
+    let mut count = keep.len();
+    while count > 0 {
+        if keep[count - 1] {
+            return offset + count;
         }
+        count -= 1;
+    }
+    0
+}
+
+/// Returns the end of the run of selected bytes that begins at `start`.
+fn end_of_run(keep: &[bool], start: usize) -> usize
+    requires there { start < length keep.now }
+    requires first { is_chosen keep.now start ≡ true }
+    ensures some { start < result }
+    ensures within { result ≤ length keep.now }
+    ensures selected { (i : ℕ) → start ≤ i → i < result → is_chosen keep.now i ≡ true }
+{
+    let mut end = start + 1;
+    while end < keep.len() {
+        if !keep[end] {
+            break;
+        }
+        end += 1;
     }
     end
 }
 
-/// Writes the selected bytes one by one, over bytes that are there.
+/// Writes the selected bytes run by run, over bytes that are there.
 pub fn copy_some(bytes: &mut [u8], offset: usize, run: &[u8], keep: &[bool])
     requires same { length keep.now ≡ length run.now }
     requires fits { offset + length run.now < 2 ^ 64 }
     requires inside { reach offset (length run.now) (is_chosen keep.now) ≤ length bytes.old }
     ensures { bytes.new ≡ overlay_by bytes.old offset run.now (is_chosen keep.now) }
 {
-    for (i, kept) in keep.iter().enumerate() {
-        if *kept {
-            bytes[offset + i] = run[i];
+    let mut i = 0;
+    while i < keep.len() {
+        if !keep[i] {
+            i += 1;
+            continue;
         }
+        let end = end_of_run(keep, i);
+        bytes[offset + i..offset + end].copy_from_slice(&run[i..end]);
+        i = end;
     }
 }
 
@@ -49,11 +73,16 @@ pub fn write_live(bytes: &mut Vec<u8>, offset: usize, run: &[u8])
     requires room { offset + length run.now ≤ vec_capacity bytes.old }
     ensures { AreNow bytes.old bytes.new (write_live bytes.old.items offset run.now) }
 {
-    let end = offset + run.len();
-    if bytes.len() < end {
-        bytes.resize(end, 0).unwrap();
+    if offset + run.len() <= bytes.len() {
+        bytes[offset..offset + run.len()].copy_from_slice(run);
+        return;
     }
-    bytes[offset..end].copy_from_slice(run);
+    if bytes.len() < offset {
+        bytes.resize(offset, 0).unwrap();
+    }
+    let there = (bytes.len() - offset).min(run.len());
+    bytes[offset..offset + there].copy_from_slice(&run[..there]);
+    bytes.extend_from_slice(&run[there..]).unwrap();
 }
 
 /// Writes the selected bytes, within the capacity. `keep[i]` selects byte `i`, and `end` is the end of the last one.

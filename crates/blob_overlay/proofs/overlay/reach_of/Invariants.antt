@@ -1,7 +1,13 @@
-use Rattle.std.proofs.Common.{◌≡◌}
+use Rattle.std.proofs.Common.{◌≡◌, ◌≤◌, length}
 use Rattle.blob_model.specs.Bytes.{reach}
 use Rattle.blob_model.specs.Runs.{is_chosen}
 use Rattle.blob_overlay.proofs.overlay.reach_of.Given as goal
 
-abbrev pub invariant-loop-i : goal.invariant-loop-i
-invariant-loop-i l = l.end ≡ reach l.offset l.i (is_chosen l.keep)
+abbrev pub invariant-loop-count : goal.invariant-loop-count
+invariant-loop-count l = record {
+  within : l.count ≤ length l.keep;
+  same : reach l.offset l.count (is_chosen l.keep) ≡ reach l.offset (length l.keep) (is_chosen l.keep);
+}
+
+abbrev pub decreases-loop-count : goal.decreases-loop-count
+decreases-loop-count l = l.count

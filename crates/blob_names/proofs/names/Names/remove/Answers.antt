@@ -1,9 +1,17 @@
-use Rattle.std.proofs.Common.{rules, Some, None}
+use Rattle.std.proofs.Common.{rules, ◌≡◌, ◌∙◌, ap, Some, None}
 use Rattle.std.specs.String.{string_bytes}
 use Rattle.std.proofs.lemmas.List.{nil_from_length}
-use Rattle.blob_names.specs.Names.{value_at}
-use Rattle.blob_names.proofs.Maps.{found_after, found_none, set_below, emptied_below, twice}
+use Rattle.blob_names.specs.Names.{below, value_at}
+use Rattle.blob_names.proofs.Maps.{found_after, found_none, none_below, set_below, emptied_below, twice}
 use Rattle.blob_names.proofs.names.Names.remove.Goals as goal
+
+pub returns-in_default : goal.returns-in_default
+returns-in_default g c =
+    let v = value_at (λ k. k.items) in
+    let before = value_at string_bytes c.args.self.now.partitions in
+    let none : before c.args.partition.now ≡ None = search rules in
+    let same = ap (λ x. value_at string_bytes x) c.get_mut.follows.holds-at-none in
+    λ i q m. (ap (λ f. below v (f q) m) same ∙ none_below v before before c.args.partition.now c.args.name.now (ap (λ o. below v o c.args.name.now) none) q m) i
 
 pub returns-then-is_empty : goal.returns-then-is_empty
 returns-then-is_empty g c =

@@ -1,0 +1,13 @@
+use Rattle.std.proofs.Common.{◌≡◌, ◌≤◌, ◌<◌, ◌-◌, ℕ, true, length}
+use Rattle.blob_model.specs.Runs.{is_chosen}
+use Rattle.blob_overlay.proofs.overlay.end_of_run.Given as goal
+
+abbrev pub invariant-loop-end : goal.invariant-loop-end
+invariant-loop-end l = record {
+  some : l.start < l.end;
+  within : l.end ≤ length l.keep;
+  selected : (i : ℕ) → l.start ≤ i → i < l.end → is_chosen l.keep i ≡ true;
+}
+
+abbrev pub decreases-loop-end : goal.decreases-loop-end
+decreases-loop-end l = length l.keep - l.end
