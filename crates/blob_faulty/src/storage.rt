@@ -5,10 +5,11 @@ ghost use Rattle.blob_faulty.specs.Lends.{LendsConfig, with_config, with_rng};
 ghost use Rattle.blob_faulty.specs.Names.{Steps};
 ghost use Rattle.blob_faulty.specs.New.{IsNew};
 ghost use Rattle.blob_model.specs.Order.{ArePlacesApart};
+ghost use Rattle.blob_model.specs.Rates.{sample};
 ghost use Rattle.blob_pending.specs.Lists.{list_of, lists_of};
 ghost use Rattle.blob_faulty.specs.Wrapper.{inner_of, rng_of, config_of, next_write_of, pending_of};
 
-use blob_base::Durable;
+use blob_base::{Durable, Probability};
 use blob_draws::config::Config;
 use blob_pending::incarnation::Incarnation;
 use blob_pending::lists::Lists;
@@ -125,6 +126,17 @@ impl<S: Durable, R> Storage<S, R> {
         ensures files { Steps S.place S.directory S.durable self.old self.new (λ files. files) }
     {
         mem::replace(&mut self.rng, rng)
+    }
+
+    /// Draws a rate once, as the calls of the wrapper do, and returns whether it is true. Nothing else changes.
+    pub fn draw(&mut self, rate: Probability) -> bool
+    where
+        R: Rng,
+        ensures drawn { (result, R.stream (rng_of self.new)) ≡ sample rate (R.stream (rng_of self.old)) }
+        ensures set { self.new ≡ with_rng self.old (rng_of self.new) }
+        ensures files { Steps S.place S.directory S.durable self.old self.new (λ files. files) }
+    {
+        rate.sample(&mut self.rng)
     }
 
     /// Returns the inner store, the generator and the configuration. Drops the pending lists.

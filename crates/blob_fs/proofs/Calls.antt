@@ -35,11 +35,6 @@ pub always : {T E P : Type 0} (r : Result T E) → P → OnErr r P
 always (Ok x) p = tt
 always (Err e) p = p
 
--- the same of three facts
-pub on_oks : {T E A B C D : Type 0} (r : Result T E) → OnOk r A → OnOk r B → OnOk r C → (A → B → C → D) → OnOk r D
-on_oks (Ok x) a b c f = f a b c
-on_oks (Err e) a b c f = tt
-
 pub always_ok : {T E P : Type 0} (r : Result T E) → P → OnOk r P
 always_ok (Ok x) p = p
 always_ok (Err e) p = tt

@@ -12,6 +12,8 @@ pub mod Settling
 pub mod Walking
 pub mod Synced
 pub mod Fixed
+pub mod States
+pub mod Standing
 pub mod Naming
 pub mod Named
 pub mod Tracked

@@ -18,9 +18,9 @@ use Rattle.blob_fs.specs.declared.whole.TreeEntry.{TreeEntry}
 use Rattle.blob_fs.specs.Acts as acts
 use Rattle.blob_fs.specs.Acts.{Act}
 use Rattle.blob_fs.specs.Bytes.{FindsBytes, FindsEdits, FindsKnown, HasNoOrphan}
-use Rattle.blob_fs.specs.Calls.{Leaves, RenamesAt}
+use Rattle.blob_fs.specs.Calls.{Leaves, Makes, MaySettle, MaySettleIn, RenamesAt}
 use Rattle.blob_fs.specs.Errors.{OnlyMemoryRefuses}
-use Rattle.blob_fs.specs.Files.{AddsTold, Commits, FindsKept, FindsTold, GivesTold, KeepsNames, KeepsOptions, KeepsTold, MakesEdit, MayResize, MayResizeSome, MayTruncate, SameNames, SettlesSome, SettlesSomeOf, SyncsAll, SyncsData, SyncsDirectory, SyncsFile, fresh_inode, inode_opened, names_of, syncs_of}
+use Rattle.blob_fs.specs.Files.{Commits, FindsKept, FindsTold, GivesTold, KeepsEdits, KeepsNames, KeepsOptions, KeepsTold, MayResize, MayResizeSome, MayTruncate, SameNames, SettlesSome, SyncsAll, SyncsData, SyncsDirectory, SyncsFile, fresh_inode, inode_opened, names_of, syncs_of}
 use Rattle.blob_fs.specs.Fixed.{FindsFixed, FixesAll, FixesFile, FixesFound, KeepsFixed, KeepsFixedBut, KeepsSpared}
 use Rattle.blob_fs.specs.Noted.{HasSize, NotesTruncation}
 use Rattle.blob_fs.specs.Paths.{CreatesAt, FreesAt, IsBound, KeepsFixedBeside, LinksAt, Lists, MakesDirectoryAt, OpensPath, RenamesPath, SyncsPath}
@@ -28,6 +28,7 @@ use Rattle.blob_fs.specs.Performs.{Effect, IsBinding, Performs, RepliesFound, cr
 use Rattle.blob_fs.specs.Places.{FindsPlaces}
 use Rattle.blob_fs.specs.Reads.{ShowsWrite}
 use Rattle.blob_fs.specs.Writes.{RecordsWrite, failed_write_of, writes_zeros}
+use Rattle.blob_fs.specs.States.{KeepsState}
 
 -- the call and the reply that it is
 pub performs : {R : Type 0} (act act' : Act) (reply reply' : Reply) (fs fs' : FileSystem R) → act ≡ act' → reply ≡ reply' → KeepsOptions fs fs'
@@ -70,10 +71,10 @@ pub renames : {R : Type 0} (r : Result (Unit {0}) FsError) (path to : List ℕ) 
 renames (Ok x) path to how fs fs' made refused fixed = (fixed, made)
 renames (Err e) path to how fs fs' made refused fixed = (fixed, refused)
 
-pub opens : {R : Type 0} (r : Result Descriptor FsError) (path : List ℕ) (fs fs' : FileSystem R) → KeepsNames fs fs' → KeepsTold fs fs' → KeepsFixed fs fs' → IfOk r (λ f. OpensPath path fs f fs')
+pub opens : {R : Type 0} (r : Result Descriptor FsError) (path : List ℕ) (fs fs' : FileSystem R) → KeepsState fs fs' → IfOk r (λ f. OpensPath path fs f fs')
     → Effect (acts.Open path) (opened_reply r) fs fs'
-opens (Ok x) path fs fs' names told fixed opened = (((names, told), fixed), opened)
-opens (Err e) path fs fs' names told fixed opened = (((names, told), fixed), tt)
+opens (Ok x) path fs fs' keeps opened = (((keeps.names, keeps.told), keeps.fixed), opened)
+opens (Err e) path fs fs' keeps opened = (((keeps.names, keeps.told), keeps.fixed), tt)
 
 pub opens_truncated : {R : Type 0} (r : Result Descriptor FsError) (path : List ℕ) (fs fs' : FileSystem R) → KeepsNames fs fs' → MayResizeSome fs fs' → KeepsFixedBeside path fs fs'
     → Effect (acts.OpenTruncated path) (opened_reply r) fs fs'
@@ -85,60 +86,60 @@ pub lists : {R : Type 0} (r : Result (Vec (Vec ℕ Global × Binding) Global) Fs
 lists (Ok x) path fs found = (refl, found)
 lists (Err e) path fs found = (refl, tt)
 
-pub syncs_directory : {R : Type 0} (r : Result (Unit {0}) FsError) (path : List ℕ) (fs fs' : FileSystem R) → KeepsNames fs fs' → SettlesSomeOf fs fs' → OnOk r (syncs_of fs ≡ Honest → SyncsPath path fs fs') → KeepsFixed fs fs'
+pub syncs_directory : {R : Type 0} (r : Result (Unit {0}) FsError) (path : List ℕ) (fs fs' : FileSystem R) → MaySettleIn fs fs' → OnOk r (syncs_of fs ≡ Honest → SyncsPath path fs fs') → KeepsFixed fs fs'
     → Effect (acts.SyncDirectory path) (done_reply r) fs fs'
-syncs_directory (Ok x) path fs fs' names some settled fixed = ((names, some), fixed, settled)
-syncs_directory (Err e) path fs fs' names some settled fixed = ((names, some), fixed, tt)
+syncs_directory (Ok x) path fs fs' some settled fixed = (some, fixed, settled)
+syncs_directory (Err e) path fs fs' some settled fixed = (some, fixed, tt)
 
-pub creates_at : {R : Type 0} (r : Result Descriptor FsError) (d : ℕ) (name : List ℕ) (fs fs' : FileSystem R) → OnOk r (names_of fs (entry d name) ≡ None) → OnOk r (MakesEdit (binds d name (file (fresh_inode fs))) fs fs') → OnErr r (SameNames fs fs') → OnOk r (AddsTold (binds d name (file (fresh_inode fs))) fs fs') → OnErr r (KeepsTold fs fs') → KeepsFixed fs fs'
+pub creates_at : {R : Type 0} (r : Result Descriptor FsError) (d : ℕ) (name : List ℕ) (fs fs' : FileSystem R) → OnOk r (names_of fs (entry d name) ≡ None) → OnOk r (Makes (binds d name (file (fresh_inode fs))) fs fs') → OnErr r (Leaves fs fs') → KeepsFixed fs fs'
     → Effect (acts.CreateAt d name) (opened_reply r) fs fs'
-creates_at (Ok x) d name fs fs' free made refused told untold fixed = (fixed, (free, record { recorded = told; names = made }))
-creates_at (Err e) d name fs fs' free made refused told untold fixed = (fixed, record { recorded = untold; names = refused })
+creates_at (Ok x) d name fs fs' free made refused fixed = (fixed, (free, made))
+creates_at (Err e) d name fs fs' free made refused fixed = (fixed, refused)
 
-pub makes_directory_at : {R : Type 0} (r : Result ℕ FsError) (d : ℕ) (name : List ℕ) (fs fs' : FileSystem R) → IfOk r (λ n. n ≡ fresh_inode fs) → OnOk r (names_of fs (entry d name) ≡ None) → IfOk r (λ n. MakesEdit (binds d name (directory_at n)) fs fs') → OnErr r (SameNames fs fs') → IfOk r (λ n. AddsTold (binds d name (directory_at n)) fs fs') → OnErr r (KeepsTold fs fs') → KeepsFixed fs fs'
+pub makes_directory_at : {R : Type 0} (r : Result ℕ FsError) (d : ℕ) (name : List ℕ) (fs fs' : FileSystem R) → IfOk r (λ n. n ≡ fresh_inode fs) → OnOk r (names_of fs (entry d name) ≡ None) → IfOk r (λ n. Makes (binds d name (directory_at n)) fs fs') → OnErr r (Leaves fs fs') → KeepsFixed fs fs'
     → Effect (acts.MakeDirectoryAt d name) (inode_reply r) fs fs'
-makes_directory_at (Ok x) d name fs fs' number free made refused told untold fixed = (fixed, (number, (free, record { recorded = told; names = made })))
-makes_directory_at (Err e) d name fs fs' number free made refused told untold fixed = (fixed, record { recorded = untold; names = refused })
+makes_directory_at (Ok x) d name fs fs' number free made refused fixed = (fixed, (number, (free, made)))
+makes_directory_at (Err e) d name fs fs' number free made refused fixed = (fixed, refused)
 
-pub links_at : {R : Type 0} (r : Result (Unit {0}) FsError) (inode : ℕ) (d : ℕ) (name : List ℕ) (fs fs' : FileSystem R) → OnOk r (names_of fs (entry d name) ≡ None) → OnOk r (MakesEdit (binds d name (file inode)) fs fs') → OnErr r (SameNames fs fs') → OnOk r (AddsTold (binds d name (file inode)) fs fs') → OnErr r (KeepsTold fs fs') → KeepsFixed fs fs'
+pub links_at : {R : Type 0} (r : Result (Unit {0}) FsError) (inode : ℕ) (d : ℕ) (name : List ℕ) (fs fs' : FileSystem R) → OnOk r (names_of fs (entry d name) ≡ None) → OnOk r (Makes (binds d name (file inode)) fs fs') → OnErr r (Leaves fs fs') → KeepsFixed fs fs'
     → Effect (acts.LinkAt inode d name) (done_reply r) fs fs'
-links_at (Ok x) inode d name fs fs' free made refused told untold fixed = (fixed, (free, record { recorded = told; names = made }))
-links_at (Err e) inode d name fs fs' free made refused told untold fixed = (fixed, record { recorded = untold; names = refused })
+links_at (Ok x) inode d name fs fs' free made refused fixed = (fixed, (free, made))
+links_at (Err e) inode d name fs fs' free made refused fixed = (fixed, refused)
 
-pub unlinks_at : {R : Type 0} (r : Result (Unit {0}) FsError) (d : ℕ) (name : List ℕ) (fs fs' : FileSystem R) → OnOk r (MakesEdit (frees d name) fs fs') → OnErr r (SameNames fs fs') → OnOk r (AddsTold (frees d name) fs fs') → OnErr r (KeepsTold fs fs') → KeepsFixed fs fs'
+pub unlinks_at : {R : Type 0} (r : Result (Unit {0}) FsError) (d : ℕ) (name : List ℕ) (fs fs' : FileSystem R) → OnOk r (Makes (frees d name) fs fs') → OnErr r (Leaves fs fs') → KeepsFixed fs fs'
     → Effect (acts.UnlinkAt d name) (done_reply r) fs fs'
-unlinks_at (Ok x) d name fs fs' made refused told untold fixed = (fixed, record { recorded = told; names = made })
-unlinks_at (Err e) d name fs fs' made refused told untold fixed = (fixed, record { recorded = untold; names = refused })
+unlinks_at (Ok x) d name fs fs' made refused fixed = (fixed, made)
+unlinks_at (Err e) d name fs fs' made refused fixed = (fixed, refused)
 
-pub removes_directory_at : {R : Type 0} (r : Result (Unit {0}) FsError) (d : ℕ) (name : List ℕ) (fs fs' : FileSystem R) → OnOk r (MakesEdit (frees d name) fs fs') → OnErr r (SameNames fs fs') → OnOk r (AddsTold (frees d name) fs fs') → OnErr r (KeepsTold fs fs') → KeepsFixed fs fs'
+pub removes_directory_at : {R : Type 0} (r : Result (Unit {0}) FsError) (d : ℕ) (name : List ℕ) (fs fs' : FileSystem R) → OnOk r (Makes (frees d name) fs fs') → OnErr r (Leaves fs fs') → KeepsFixed fs fs'
     → Effect (acts.RemoveDirectoryAt d name) (done_reply r) fs fs'
-removes_directory_at (Ok x) d name fs fs' made refused told untold fixed = (fixed, record { recorded = told; names = made })
-removes_directory_at (Err e) d name fs fs' made refused told untold fixed = (fixed, record { recorded = untold; names = refused })
+removes_directory_at (Ok x) d name fs fs' made refused fixed = (fixed, made)
+removes_directory_at (Err e) d name fs fs' made refused fixed = (fixed, refused)
 
-pub renames_at : {R : Type 0} (r : Result (Unit {0}) FsError) (from : ℕ) (old : List ℕ) (to : ℕ) (new : List ℕ) (how : Rename) (fs fs' : FileSystem R) → OnOk r (RenamesAt how from old to new fs fs') → OnErr r (SameNames fs fs') → OnErr r (KeepsTold fs fs') → KeepsFixed fs fs'
+pub renames_at : {R : Type 0} (r : Result (Unit {0}) FsError) (from : ℕ) (old : List ℕ) (to : ℕ) (new : List ℕ) (how : Rename) (fs fs' : FileSystem R) → OnOk r (RenamesAt how from old to new fs fs') → OnErr r (Leaves fs fs') → KeepsFixed fs fs'
     → Effect (acts.MoveAt from old to new how) (done_reply r) fs fs'
-renames_at (Ok x) from old to new how fs fs' renamed refused untold fixed = (fixed, renamed)
-renames_at (Err e) from old to new how fs fs' renamed refused untold fixed = (fixed, record { recorded = untold; names = refused })
+renames_at (Ok x) from old to new how fs fs' renamed refused fixed = (fixed, renamed)
+renames_at (Err e) from old to new how fs fs' renamed refused fixed = (fixed, refused)
 
-pub opens_inode : {R : Type 0} (r : Result Descriptor FsError) (inode : ℕ) (fs fs' : FileSystem R) → IfOk r (λ f. inode_opened fs' f ≡ Some inode) → KeepsNames fs fs' → KeepsTold fs fs' → KeepsFixed fs fs'
+pub opens_inode : {R : Type 0} (r : Result Descriptor FsError) (inode : ℕ) (fs fs' : FileSystem R) → IfOk r (λ f. inode_opened fs' f ≡ Some inode) → KeepsState fs fs'
     → Effect (acts.OpenInode inode) (opened_reply r) fs fs'
-opens_inode (Ok x) inode fs fs' opened names told fixed = (((names, told), fixed), opened)
-opens_inode (Err e) inode fs fs' opened names told fixed = (((names, told), fixed), tt)
+opens_inode (Ok x) inode fs fs' opened keeps = (((keeps.names, keeps.told), keeps.fixed), opened)
+opens_inode (Err e) inode fs fs' opened keeps = (((keeps.names, keeps.told), keeps.fixed), tt)
 
 pub opens_inode_truncated : {R : Type 0} (r : Result Descriptor FsError) (inode : ℕ) (fs fs' : FileSystem R) → KeepsNames fs fs' → MayResize inode fs fs' → KeepsFixedBut inode fs fs'
     → Effect (acts.OpenInodeTruncated inode) (opened_reply r) fs fs'
 opens_inode_truncated (Ok x) inode fs fs' names told fixed = (names, told, fixed, tt)
 opens_inode_truncated (Err e) inode fs fs' names told fixed = (names, told, fixed, tt)
 
-pub closes : {R : Type 0} (r : Result (Unit {0}) FsError) (f : Descriptor) (fs fs' : FileSystem R) → KeepsNames fs fs' → KeepsTold fs fs' → KeepsFixed fs fs' → OnOk r (IsSome (inode_opened fs f))
+pub closes : {R : Type 0} (r : Result (Unit {0}) FsError) (f : Descriptor) (fs fs' : FileSystem R) → KeepsState fs fs' → OnOk r (IsSome (inode_opened fs f))
     → Effect (acts.Close f) (done_reply r) fs fs'
-closes (Ok x) f fs fs' names told fixed found = (((names, told), fixed), found)
-closes (Err e) f fs fs' names told fixed found = (((names, told), fixed), tt)
+closes (Ok x) f fs fs' keeps found = (((keeps.names, keeps.told), keeps.fixed), found)
+closes (Err e) f fs fs' keeps found = (((keeps.names, keeps.told), keeps.fixed), tt)
 
-pub reads : {R : Type 0} (r : Result ℕ FsError) (f : Descriptor) (offset len : ℕ) (fs fs' : FileSystem R) → KeepsNames fs fs' → KeepsTold fs fs' → KeepsFixed fs fs' → OnOk r (IsSome (inode_opened fs f)) → IfOk r (λ n. n ≤ len)
+pub reads : {R : Type 0} (r : Result ℕ FsError) (f : Descriptor) (offset len : ℕ) (fs fs' : FileSystem R) → KeepsState fs fs' → OnOk r (IsSome (inode_opened fs f)) → IfOk r (λ n. n ≤ len)
     → Effect (acts.Read f offset len) (size_reply r) fs fs'
-reads (Ok x) f offset len fs fs' names told fixed found count = (((names, told), fixed), (found, count))
-reads (Err e) f offset len fs fs' names told fixed found count = (((names, told), fixed), tt)
+reads (Ok x) f offset len fs fs' keeps found count = (((keeps.names, keeps.told), keeps.fixed), (found, count))
+reads (Err e) f offset len fs fs' keeps found count = (((keeps.names, keeps.told), keeps.fixed), tt)
 
 pub writes : {R : Type 0} (r : Result (Unit {0}) FsError) (f : Descriptor) (offset : ℕ) (bytes : List ℕ) (fs fs' : FileSystem R) → KeepsNames fs fs' → KeepsTold fs fs' → OnOk r (failed_write_of fs ≡ ByMode → ShowsWrite f offset bytes fs fs')
     → OnOk r (failed_write_of fs ≡ ByMode → writes_zeros fs f offset (length bytes) ≡ false → RecordsWrite f offset bytes fs fs') → KeepsSpared f (IsBeside offset (length bytes)) fs fs'
@@ -151,30 +152,30 @@ pub truncates : {R : Type 0} (r : Result (Unit {0}) FsError) (f : Descriptor) (n
 truncates (Ok x) f n fs fs' names told noted size fixed = (names, told, fixed, (noted, size))
 truncates (Err e) f n fs fs' names told noted size fixed = (names, told, fixed, tt)
 
-pub syncs : {R : Type 0} (r : Result (Unit {0}) FsError) (f : Descriptor) (fs fs' : FileSystem R) → KeepsNames fs fs' → SettlesSome fs fs' → OnOk r (syncs_of fs ≡ Honest → SyncsFile fs f fs') → KeepsFixed fs fs' → OnOk r (syncs_of fs ≡ Honest → FixesFile fs f fs')
+pub syncs : {R : Type 0} (r : Result (Unit {0}) FsError) (f : Descriptor) (fs fs' : FileSystem R) → MaySettle fs fs' → OnOk r (syncs_of fs ≡ Honest → SyncsFile fs f fs') → KeepsFixed fs fs' → OnOk r (syncs_of fs ≡ Honest → FixesFile fs f fs')
     → Effect (acts.Sync f) (done_reply r) fs fs'
-syncs (Ok x) f fs fs' names some settled fixed fixes = ((names, some), fixed, λ honest. (settled honest, fixes honest))
-syncs (Err e) f fs fs' names some settled fixed fixes = ((names, some), fixed, tt)
+syncs (Ok x) f fs fs' some settled fixed fixes = (some, fixed, λ honest. (settled honest, fixes honest))
+syncs (Err e) f fs fs' some settled fixed fixes = (some, fixed, tt)
 
-pub syncs_data : {R : Type 0} (r : Result (Unit {0}) FsError) (f : Descriptor) (fs fs' : FileSystem R) → KeepsNames fs fs' → SettlesSome fs fs' → OnOk r (syncs_of fs ≡ Honest → SyncsData fs f fs') → KeepsFixed fs fs' → OnOk r (syncs_of fs ≡ Honest → FixesFile fs f fs')
+pub syncs_data : {R : Type 0} (r : Result (Unit {0}) FsError) (f : Descriptor) (fs fs' : FileSystem R) → MaySettle fs fs' → OnOk r (syncs_of fs ≡ Honest → SyncsData fs f fs') → KeepsFixed fs fs' → OnOk r (syncs_of fs ≡ Honest → FixesFile fs f fs')
     → Effect (acts.SyncData f) (done_reply r) fs fs'
-syncs_data (Ok x) f fs fs' names some settled fixed fixes = ((names, some), fixed, λ honest. (settled honest, fixes honest))
-syncs_data (Err e) f fs fs' names some settled fixed fixes = ((names, some), fixed, tt)
+syncs_data (Ok x) f fs fs' some settled fixed fixes = (some, fixed, λ honest. (settled honest, fixes honest))
+syncs_data (Err e) f fs fs' some settled fixed fixes = (some, fixed, tt)
 
-pub syncs_directory_at : {R : Type 0} (r : Result (Unit {0}) FsError) (d : ℕ) (fs fs' : FileSystem R) → KeepsNames fs fs' → SettlesSomeOf fs fs' → OnOk r (syncs_of fs ≡ Honest → SyncsDirectory fs d fs') → KeepsFixed fs fs'
+pub syncs_directory_at : {R : Type 0} (r : Result (Unit {0}) FsError) (d : ℕ) (fs fs' : FileSystem R) → MaySettleIn fs fs' → OnOk r (syncs_of fs ≡ Honest → SyncsDirectory fs d fs') → KeepsFixed fs fs'
     → Effect (acts.SyncDirectoryAt d) (done_reply r) fs fs'
-syncs_directory_at (Ok x) d fs fs' names some settled fixed = ((names, some), fixed, settled)
-syncs_directory_at (Err e) d fs fs' names some settled fixed = ((names, some), fixed, tt)
+syncs_directory_at (Ok x) d fs fs' some settled fixed = (some, fixed, settled)
+syncs_directory_at (Err e) d fs fs' some settled fixed = (some, fixed, tt)
 
-pub syncs_all : {R : Type 0} (r : Result (Unit {0}) FsError) (fs fs' : FileSystem R) → KeepsNames fs fs' → SettlesSome fs fs' → OnOk r (syncs_of fs ≡ Honest → SyncsAll fs fs') → KeepsFixed fs fs' → OnOk r (syncs_of fs ≡ Honest → FixesAll fs fs')
+pub syncs_all : {R : Type 0} (r : Result (Unit {0}) FsError) (fs fs' : FileSystem R) → MaySettle fs fs' → OnOk r (syncs_of fs ≡ Honest → SyncsAll fs fs') → KeepsFixed fs fs' → OnOk r (syncs_of fs ≡ Honest → FixesAll fs fs')
     → Effect acts.SyncAll (done_reply r) fs fs'
-syncs_all (Ok x) fs fs' names some settled fixed fixes = ((names, some), fixed, λ honest. (settled honest, fixes honest))
-syncs_all (Err e) fs fs' names some settled fixed fixes = ((names, some), fixed, tt)
+syncs_all (Ok x) fs fs' some settled fixed fixes = (some, fixed, λ honest. (settled honest, fixes honest))
+syncs_all (Err e) fs fs' some settled fixed fixes = (some, fixed, tt)
 
-pub settles : {R : Type 0} (r : Result (Unit {0}) FsError) (fs fs' : FileSystem R) → KeepsNames fs fs' → SettlesSome fs fs' → OnOk r (SyncsAll fs fs') → KeepsFixed fs fs' → OnOk r (FixesAll fs fs')
+pub settles : {R : Type 0} (r : Result (Unit {0}) FsError) (fs fs' : FileSystem R) → MaySettle fs fs' → OnOk r (SyncsAll fs fs') → KeepsFixed fs fs' → OnOk r (FixesAll fs fs')
     → Effect acts.Settle (done_reply r) fs fs'
-settles (Ok x) fs fs' names some settled fixed fixes = ((names, some), fixed, (settled, fixes))
-settles (Err e) fs fs' names some settled fixed fixes = ((names, some), fixed, tt)
+settles (Ok x) fs fs' some settled fixed fixes = (some, fixed, (settled, fixes))
+settles (Err e) fs fs' some settled fixed fixes = (some, fixed, tt)
 
 pub commits : {R : Type 0} (r : Result (Unit {0}) FsError) (fs fs' : FileSystem R) → SameNames fs fs' → OnOk r (Commits fs fs') → OnErr r (SettlesSome fs fs') → KeepsFixed fs fs'
     → Effect acts.Commit (done_reply r) fs fs'
@@ -196,15 +197,15 @@ pub tells_inode : {R : Type 0} (r : Result ℕ FsError) (f : Descriptor) (fs : F
 tells_inode (Ok x) f fs inode = (refl, inode)
 tells_inode (Err e) f fs inode = (refl, tt)
 
-pub walks : {R : Type 0} (r : Result (Vec TreeEntry Global) FsError) (fs fs' : FileSystem R) → KeepsNames fs fs' → KeepsTold fs fs' → KeepsFixed fs fs'
+pub walks : {R : Type 0} (r : Result (Vec TreeEntry Global) FsError) (fs fs' : FileSystem R) → KeepsState fs fs'
     → Effect acts.Tree (tree_reply r) fs fs'
-walks (Ok x) fs fs' names told fixed = (((names, told), fixed), tt)
-walks (Err e) fs fs' names told fixed = (((names, told), fixed), tt)
+walks (Ok x) fs fs' keeps = (((keeps.names, keeps.told), keeps.fixed), tt)
+walks (Err e) fs fs' keeps = (((keeps.names, keeps.told), keeps.fixed), tt)
 
-pub crashes : {R : Type 0} (r : Result Crash FsError) (fs fs' : FileSystem R) → IfOk r (λ crash. FindsKept fs crash.rows fs') → OnOk r (FindsTold fs fs') → OnOk r (GivesTold fs') → IfOk r (λ crash. FindsBytes fs crash fs') → OnOk r (FindsKnown fs fs') → IfOk r (λ crash. FindsEdits fs crash) → OnOk r (HasNoOrphan fs') → OnOk r (FindsFixed fs fs') → OnOk r (FixesFound fs fs') → IfOk r (λ crash. FindsPlaces fs crash.rows crash.places.items) → OnErr r (KeepsNames fs fs') → OnErr r (KeepsTold fs fs') → OnlyMemoryRefuses fs' r
+pub crashes : {R : Type 0} (r : Result Crash FsError) (fs fs' : FileSystem R) → IfOk r (λ crash. FindsKept fs crash.rows fs') → OnOk r (FindsTold fs fs') → OnOk r (GivesTold fs') → IfOk r (λ crash. FindsBytes fs crash fs') → OnOk r (FindsKnown fs fs') → IfOk r (λ crash. FindsEdits fs crash) → OnOk r (HasNoOrphan fs') → OnOk r (FindsFixed fs fs') → OnOk r (FixesFound fs fs') → IfOk r (λ crash. FindsPlaces fs crash.rows crash.places.items) → OnErr r (KeepsEdits fs fs') → OnlyMemoryRefuses fs' r
     → Effect acts.Crash (crash_reply r) fs fs'
-crashes (Ok x) fs fs' found kept told bytes known edits orphans fixed fixes places refused untold errors = record { found = found; kept = kept; told = told; bytes = bytes; known = known; edits = edits; orphans = orphans; fixed = fixed; fixes = fixes; places = places }
-crashes (Err e) fs fs' found kept told bytes known edits orphans fixed fixes places refused untold errors = ((refused, untold), errors)
+crashes (Ok x) fs fs' found kept told bytes known edits orphans fixed fixes places refused errors = record { found = found; kept = kept; told = told; bytes = bytes; known = known; edits = edits; orphans = orphans; fixed = fixed; fixes = fixes; places = places }
+crashes (Err e) fs fs' found kept told bytes known edits orphans fixed fixes places refused errors = (refused, errors)
 
 -- A look-up, with some size.
 

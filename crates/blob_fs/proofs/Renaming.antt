@@ -14,7 +14,8 @@ use Rattle.blob_fs.specs.declared.renames.Rename.{Rename}
 use Rattle.blob_fs.specs.declared.renames.Rename.TheVariants.{Exchange, NoReplace, Replace}
 use Rattle.blob_fs.specs.Calls.{Exchanged, Leaves, Makes, Moved, Renames, Unchanged}
 use Rattle.blob_fs.specs.declared.file_system.Options.{Options}
-use Rattle.blob_fs.specs.Files.{AddsTold, KeepsNames, KeepsOptions, KeepsTold, MakesEdit, NotesEdit, about_exchange, about_move, journaled_of, names_of, told_of}
+use Rattle.blob_fs.specs.Files.{NotesEdit, about_exchange, about_move, journaled_of, names_of, told_of}
+use Rattle.blob_fs.specs.States.{KeepsState}
 use Rattle.blob_fs.proofs.Noting.{noted_between}
 
 -- kinds of renames
@@ -59,17 +60,17 @@ taken_other o was to taken differ is = differ (ap (λ (x : Option Binding). unwr
 -- by what the steps of a rename made
 
 pub renames_moved : {R : Type 0} (how : Rename) (a b : ℕ) (e f : List ℕ) (to : Binding) (fs fs' : FileSystem R) → names_of fs e ≡ Some to → names_of fs f ≢ Some to
-    → how ≢ Exchange → (how ≡ NoReplace → names_of fs f ≡ None) → AddsTold (moves e f to) fs fs' → MakesEdit (moves e f to) fs fs'
+    → how ≢ Exchange → (how ≡ NoReplace → names_of fs f ≡ None) → Makes (moves e f to) fs fs'
     → NotesEdit (moves e f to) (about_move to a b) fs fs' → Renames how a b e f fs fs'
-renames_moved how a b e f to fs fs' is other moves_it free told made noted =
-    Moved (λ h. other (sym h ∙ is)) moves_it free (record { moved = to; bound = is; made = record { recorded = told; names = made }; noted = noted })
+renames_moved how a b e f to fs fs' is other moves_it free made noted =
+    Moved (λ h. other (sym h ∙ is)) moves_it free (record { moved = to; bound = is; made = made; noted = noted })
 
 pub renames_exchanged : {R : Type 0} (how : Rename) (a b : ℕ) (e f : List ℕ) (to was : Binding) (fs fs' : FileSystem R) → names_of fs e ≡ Some to → names_of fs f ≡ Some was → was ≢ to
-    → how ≡ Exchange → AddsTold (exchanges e f to was) fs fs' → MakesEdit (exchanges e f to was) fs fs'
+    → how ≡ Exchange → Makes (exchanges e f to was) fs fs'
     → NotesEdit (exchanges e f to was) (about_exchange to was a b) fs fs' → Renames how a b e f fs fs'
-renames_exchanged how a b e f to was fs fs' is there differ exchanges_it told made noted =
+renames_exchanged how a b e f to was fs fs' is there differ exchanges_it made noted =
     Exchanged (λ h. taken_other (names_of fs f) was to there differ (sym h ∙ is)) exchanges_it
-    (record { moved = to; bound = is; was = was; replaced = there; made = record { recorded = told; names = made }; noted = noted })
+    (record { moved = to; bound = is; was = was; replaced = there; made = made; noted = noted })
 
 pub nothing : {R : Type 0} (fs : FileSystem R) → Leaves fs fs
 nothing fs = record { recorded = refl; names = λ e. refl }
@@ -81,26 +82,24 @@ renames_same how a b e f to was fs is there same replaces_it =
 
 -- after a call that changed nothing
 pub record Before {R : Type 0} (fs one : FileSystem R) : Type 0 where
-  pub names : KeepsNames fs one
-  pub told : KeepsTold fs one
+  pub keeps : KeepsState fs one
   pub unsettled : KeepsUnsettled (journaled_of fs) (journaled_of one)
-  pub options : KeepsOptions fs one
 
 entry_before : {R : Type 0} (fs one : FileSystem R) (e : List ℕ) → Before fs one → names_of fs e ≡ names_of one e
-entry_before fs one e b = ap (λ (t : Table). bound t e) (sym b.names)
+entry_before fs one e b = ap (λ (t : Table). bound t e) (sym b.keeps.names)
 
 pub leaves_from : {R : Type 0} (fs one two : FileSystem R) → Before fs one → Leaves one two → Leaves fs two
-leaves_from fs one two b l = record { recorded = l.recorded ∙ b.told; names = λ e. entry_before fs one e b ∙ l.names e }
+leaves_from fs one two b l = record { recorded = l.recorded ∙ b.keeps.told; names = λ e. entry_before fs one e b ∙ l.names e }
 
 makes_from : {R : Type 0} (edit : Edit) (fs one two : FileSystem R) → Before fs one → Makes edit one two → Makes edit fs two
 makes_from edit fs one two b m = record {
-  recorded = subst (λ (l : List Found). told_of two ≡ l ++ Some (edit, false) ∷ []) b.told m.recorded;
-  names = subst (λ (t : Table). Same (names_of two) (edited (bound t) edit)) b.names m.names;
+  recorded = subst (λ (l : List Found). told_of two ≡ l ++ Some (edit, false) ∷ []) b.keeps.told m.recorded;
+  names = subst (λ (t : Table). Same (names_of two) (edited (bound t) edit)) b.keeps.names m.names;
 }
 
 notes_from : {R : Type 0} (edit : Edit) (about : About) (fs one two : FileSystem R) → Before fs one → NotesEdit edit about one two → NotesEdit edit about fs two
 notes_from edit about fs one two b n =
-    noted_between (journaled_of fs) (journaled_of one) (journaled_of two) (journaled_of two) edit edit about about _ _ refl refl (ap (λ (o : Options). o.edit_rate) b.options) b.unsettled n refl
+    noted_between (journaled_of fs) (journaled_of one) (journaled_of two) (journaled_of two) edit edit about about _ _ refl refl (ap (λ (o : Options). o.edit_rate) b.keeps.options) b.unsettled n refl
 
 pub renames_from : {R : Type 0} (how : Rename) (x y : ℕ) (e f : List ℕ) (fs one two : FileSystem R) → Before fs one → Renames how x y e f one two → Renames how x y e f fs two
 renames_from how x y e f fs one two b (Unchanged to is there replaces_it left) =

@@ -29,6 +29,7 @@ use Rattle.blob_journal.specs.Moves.{Name, TellsAgain, binding_told}
 use Rattle.blob_journal.specs.Told.{names_kept}
 use Rattle.blob_fs.specs.declared.file_system.File as of_fs
 use Rattle.blob_fs.specs.Named.{AllNamed, links_in}
+use Rattle.blob_fs.specs.States.{KeepsNamesAndTold}
 use Rattle.blob_fs.specs.Tracked.{AllPresent, IsTracked, freed_in, freed_of}
 use Rattle.blob_fs.proofs.Fixed.{Sets, sets_through, some_same}
 use Rattle.blob_fs.proofs.Naming.{all_freed, fewer, none_some, unnamed}
@@ -312,8 +313,8 @@ links_known law j m keeps tree told named h inode linked =
     t.found inode (law (rule_of keeps j.unsettled.items) told.chosen (told_in j) name.0 inode (told.finds.within name.0 (file inode) name.1).0))
 
 -- a journal that gives its names still does after a call that keeps both
-pub gives_told_after : {R : Type 0} (j j' : Journaled R) → KeepsTable j j' → KeepsTold j j' → GivesTold j → GivesTold j'
-gives_told_after j j' names told h = record {
-  settled = subst AreSettled (sym told) h.settled;
-  names = λ keeps chosen e. ap (λ (l : List Found). names_kept keeps chosen l e) told ∙ h.names keeps chosen e ∙ sym (ap (λ (t : Table). bound t e) names);
+pub gives_told_after : {R : Type 0} {j j' : Journaled R} → KeepsNamesAndTold j j' → GivesTold j → GivesTold j'
+gives_told_after kept h = record {
+  settled = subst AreSettled (sym kept.told) h.settled;
+  names = λ keeps chosen e. ap (λ (l : List Found). names_kept keeps chosen l e) kept.told ∙ h.names keeps chosen e ∙ sym (ap (λ (t : Table). bound t e) kept.names);
 }

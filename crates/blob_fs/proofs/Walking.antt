@@ -1,15 +1,14 @@
 -- The directories on a path, one after another.
-use Rattle.std.proofs.Common.{◌≡◌, ℕ, List, [], ◌∷◌, ◌++◌, Some, Err, IfOk, Ok, OnErr, OnOk, Result, Vec, append_assoc, append-nil, ap, refl, subst, sym, ◌∙◌}
+use Rattle.std.proofs.Common.{◌≡◌, ℕ, List, [], ◌∷◌, ◌++◌, Some, Err, IfOk, Ok, OnOk, Result, Vec, append_assoc, append-nil, ap, refl, subst, sym, ◌∙◌}
 use Rattle.std.specs.Global.{Global}
 use Rattle.blob_directory.specs.declared.edit.Binding.{Binding}
 use Rattle.blob_directory.specs.Tables.{HasAll, HasOnly}
 use Rattle.blob_directory.specs.Names.{Edit, Names, directory_at, entry}
 use Rattle.blob_directory.specs.Paths.{IsPlace, Leads, LeadsTo, path_names}
 use Rattle.blob_fs.specs.declared.file_system.FileSystem.{FileSystem}
-use Rattle.blob_fs.specs.Calls.{Leaves}
-use Rattle.blob_fs.specs.Files.{AddsTold, KeepsTold, MakesEdit, SameNames, names_of}
+use Rattle.blob_fs.specs.Calls.{Makes}
+use Rattle.blob_fs.specs.Files.{names_of}
 use Rattle.blob_fs.specs.Paths.{IsBound, Lists, MakesAt}
-use Rattle.blob_fs.proofs.Calls.{on_err, on_ok}
 
 leads_more : (names : Names) (from : ℕ) (path : List (List ℕ)) (to : ℕ) (name : List ℕ) (d : ℕ) → Leads names from path to → names (entry to name) ≡ Some (directory_at d) → Leads names from (path ++ name ∷ []) d
 leads_more names from [] to name d h is = (d, subst (λ (n : ℕ). names (entry n name) ≡ Some (directory_at d)) h is, refl)
@@ -44,12 +43,9 @@ is_place names path directory name left w none = record { above = w.above; is = 
 
 -- what a call by number made, at the place of a path
 pub makes_at : {R T E : Type 0} (r : Result T E) (path : List ℕ) (edit : ℕ → List ℕ → Edit) (fs fs' : FileSystem R) (directory : ℕ) (name : List ℕ)
-    → IsPlace (names_of fs) path directory name → OnOk r (MakesEdit (edit directory name) fs fs') → OnOk r (AddsTold (edit directory name) fs fs') → OnOk r (MakesAt path edit fs fs')
-makes_at r path edit fs fs' directory name place made told =
-    on_ok r told made (λ t m. record { directory = directory; name = name; place = place; made = record { recorded = t; names = m } })
-
-pub left_by : {R T E : Type 0} (r : Result T E) (fs fs' : FileSystem R) → OnErr r (SameNames fs fs') → OnErr r (KeepsTold fs fs') → OnErr r (Leaves fs fs')
-left_by r fs fs' names told = on_err r told names (λ t n. record { recorded = t; names = n })
+    → IsPlace (names_of fs) path directory name → OnOk r (Makes (edit directory name) fs fs') → OnOk r (MakesAt path edit fs fs')
+makes_at (Ok x) path edit fs fs' directory name place made = record { directory = directory; name = name; place = place; made = made }
+makes_at (Err e) path edit fs fs' directory name place made = tt
 
 pub bound_at : {E : Type 0} (r : Result Binding E) (names : Names) (path : List ℕ) (directory : ℕ) (name : List ℕ) → IsPlace names path directory name
     → IfOk r (λ b. names (entry directory name) ≡ Some b) → IfOk r (λ b. IsBound names path b)

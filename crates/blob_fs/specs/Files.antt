@@ -194,6 +194,10 @@ told_of fs = told_in (journaled_of fs)
 abbrev pub KeepsTold : {R : Type 0} → FileSystem R → FileSystem R → Type 0
 KeepsTold fs fs' = keeps_told (journaled_of fs) (journaled_of fs')
 
+-- no name has changed, and no edit is recorded or settled
+abbrev pub KeepsEdits : {R : Type 0} → FileSystem R → FileSystem R → Type 0
+KeepsEdits fs fs' = KeepsNames fs fs' × KeepsTold fs fs'
+
 -- one more edit was told, which nothing has settled
 abbrev pub AddsTold : {R : Type 0} → Edit → FileSystem R → FileSystem R → Type 0
 AddsTold edit fs fs' = adds_told edit (journaled_of fs) (journaled_of fs')

@@ -11,6 +11,7 @@ pub mod Named
 pub mod Tracked
 pub mod Synced
 pub mod Fixed
+pub mod States
 pub mod Unreached
 pub mod Errors
 pub use Rattle.blob_directory.specs.Names

@@ -14,7 +14,7 @@ use Rattle.blob_fs.specs.declared.whole.TreeEntry.{TreeEntry}
 use Rattle.blob_fs.specs.Bytes.{FindsBytes, FindsEdits, FindsKnown, HasNoOrphan}
 use Rattle.blob_fs.specs.Calls.{Leaves, Makes, MaySettle, MaySettleIn, RenamesAt}
 use Rattle.blob_fs.specs.Errors.{IsExhaustedError, next_number}
-use Rattle.blob_fs.specs.Files.{Commits, FindsKept, FindsTold, GivesTold, KeepsNames, KeepsOptions, KeepsTold, MayResize, MayResizeSome, MayTruncate, SameNames, SettlesSome, SyncsAll, SyncsData, SyncsDirectory, SyncsFile, fresh_inode, inode_opened, journaled_of, names_of, syncs_of}
+use Rattle.blob_fs.specs.Files.{Commits, FindsKept, FindsTold, GivesTold, KeepsEdits, KeepsNames, KeepsOptions, MayResize, MayResizeSome, MayTruncate, SameNames, SettlesSome, SyncsAll, SyncsData, SyncsDirectory, SyncsFile, fresh_inode, inode_opened, journaled_of, names_of, syncs_of}
 use Rattle.blob_fs.specs.Fixed.{FindsFixed, FixesAll, FixesFile, FixesFound, KeepsFixed, KeepsFixedBut, KeepsSpared}
 use Rattle.blob_fs.specs.Noted.{HasSize, NotesTruncation}
 use Rattle.blob_fs.specs.Paths.{CreatesAt, FreesAt, IsBound, KeepsFixedBeside, LinksAt, Lists, MakesDirectoryAt, OpensPath, RenamesPath, SyncsPath}
@@ -79,11 +79,7 @@ IsCrashed (Crashed crash) crashed refused = crashed crash
 IsCrashed (Refused error) crashed refused = refused error
 IsCrashed reply crashed refused = ⊥
 
--- no name has changed, and no edit is recorded or settled
-abbrev pub KeepsEdits : {R : Type 0} → FileSystem R → FileSystem R → Type 0
-KeepsEdits fs fs' = KeepsNames fs fs' × KeepsTold fs fs'
-
--- nor is a byte that was fixed lost
+-- no name has changed, no edit is recorded or settled, and no byte that was fixed is lost
 abbrev pub KeepsAll : {R : Type 0} → FileSystem R → FileSystem R → Type 0
 KeepsAll fs fs' = KeepsEdits fs fs' × KeepsFixed fs fs'
 

@@ -1,7 +1,7 @@
 //! What a client in another language needs: descriptors by their numbers, and the generator.
 ghost use Rattle.std.specs.Prelude.{◌≡◌};
-ghost use Rattle.blob_fs.specs.Fixed.{KeepsFixed};
-ghost use Rattle.blob_fs.specs.Files.{KeepsNames, KeepsOptions, KeepsTold, descriptor_number, generator_of, with_generator};
+ghost use Rattle.blob_fs.specs.States.{KeepsState};
+ghost use Rattle.blob_fs.specs.Files.{descriptor_number, generator_of, with_generator};
 
 use crate::file_system::{Descriptor, FileSystem};
 use rand_core::Rng;
@@ -34,10 +34,7 @@ impl<R: Rng + Drop> FileSystem<R> {
     pub fn replace_rng(&mut self, rng: R) -> R
         ensures before { result ≡ generator_of self.old }
         ensures set { self.new ≡ with_generator self.old rng }
-        ensures names { KeepsNames self.old self.new }
-        ensures told { KeepsTold self.old self.new }
-        ensures fixed { KeepsFixed self.old self.new }
-        ensures options { KeepsOptions self.old self.new }
+        ensures keeps { KeepsState self.old self.new }
     {
         self.store.replace_rng(rng)
     }

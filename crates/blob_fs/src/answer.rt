@@ -1,9 +1,9 @@
 //! Any call, and its reply.
 ghost use Rattle.std.specs.Prelude.{◌≤◌, IfOk, IsSome, OnOk};
 ghost use Rattle.blob_fs.specs.Acts.{act_of, look_act, number_act, path_act};
-ghost use Rattle.blob_fs.specs.Files.{KeepsNames, KeepsOptions, KeepsTold, inode_opened};
-ghost use Rattle.blob_fs.specs.Fixed.{KeepsFixed};
+ghost use Rattle.blob_fs.specs.Files.{inode_opened};
 ghost use Rattle.blob_fs.specs.Performs.{Performs, RepliesFound};
+ghost use Rattle.blob_fs.specs.States.{KeepsState};
 
 use crate::call::{Call, LookUp, NumberCall, PathCall};
 use crate::error::FsError;
@@ -48,10 +48,7 @@ fn read_some<R: Rng + Drop>(
     offset: u64,
     len: usize,
 ) -> Result<usize, FsError>
-    ensures names { KeepsNames fs.old fs.new }
-    ensures told { KeepsTold fs.old fs.new }
-    ensures fixed { KeepsFixed fs.old fs.new }
-    ensures options { KeepsOptions fs.old fs.new }
+    ensures keeps { KeepsState fs.old fs.new }
     ensures open { OnOk result (IsSome (inode_opened fs.old file)) }
     ensures count { IfOk result (λ n. n ≤ len) }
 {

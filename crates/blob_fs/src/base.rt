@@ -1,9 +1,11 @@
 //! What the calls share: their start, and an edit.
 ghost use Rattle.std.specs.Prelude.{◌≡◌, [], None, Some, OnOk, OnErr, IfOk, option_copied};
-ghost use Rattle.blob_fs.specs.Files.{AddsTold, LogsEdit, KeepsJournal, KeepsNames, KeepsOptions, KeepsTold, MakesEdit, NotesEdit, SameDirectories, SameFiles, SameNames, file_of, fresh_inode, journaled_of, kind_in, names_of, options_of, told_of};
+ghost use Rattle.blob_fs.specs.Files.{LogsEdit, KeepsJournal, KeepsNames, KeepsTold, NotesEdit, SameDirectories, SameFiles, file_of, fresh_inode, journaled_of, kind_in, names_of, options_of, told_of};
 ghost use Rattle.blob_fs.specs.Fixed.{KeepsFixed};
 ghost use Rattle.blob_fs.specs.Named.{AllNamed};
 ghost use Rattle.blob_fs.specs.Writes.{faults_of, rates_of};
+ghost use Rattle.blob_fs.specs.States.{KeepsFixedAndOptions, KeepsState};
+ghost use Rattle.blob_fs.specs.Calls.{Leaves, Makes};
 ghost use Rattle.blob_journal.specs.Writes.{SameCrashes};
 ghost use Rattle.blob_directory.specs.Names.{Same, edit_of, edited, entry};
 
@@ -88,14 +90,11 @@ impl<R: Rng + Drop> FileSystem<R> {
 
     /// Refuses calls after a recovery that failed, and lets the wrapper draw the faults of files.
     pub(crate) fn begin_call(&mut self) -> Result<(), FsError>
-        ensures names { KeepsNames self.old self.new }
-        ensures told { KeepsTold self.old self.new }
+        ensures keeps { KeepsState self.old self.new }
         ensures journal { OnOk result (KeepsJournal self.old self.new) }
         ensures crashes { OnOk result (SameCrashes (journaled_of self.old) (journaled_of self.new)) }
         ensures files { SameFiles self.old self.new }
         ensures number { fresh_inode self.new ≡ fresh_inode self.old }
-        ensures fixed { KeepsFixed self.old self.new }
-        ensures options { KeepsOptions self.old self.new }
         ensures rates { OnOk result (rates_of self.new ≡ faults_of self.old) }
         ensures directories { SameDirectories self.old self.new }
     {
@@ -109,10 +108,7 @@ impl<R: Rng + Drop> FileSystem<R> {
 
     /// Lets the wrapper draw no faults until the next call begins.
     pub(crate) fn draw_nothing(&mut self)
-        ensures names { KeepsNames self.old self.new }
-        ensures told { KeepsTold self.old self.new }
-        ensures fixed { KeepsFixed self.old self.new }
-        ensures options { KeepsOptions self.old self.new }
+        ensures { KeepsState self.old self.new }
     {
         self.store.set_config(Config::default());
     }
@@ -139,13 +135,10 @@ impl<R: Rng + Drop> FileSystem<R> {
     /// Those of the journal. No name has changed.
     pub(crate) fn make(&mut self, edit: Edit, about: About) -> Result<(), FsError>
         requires fits { ∥ AllNamed (edited (names_of self.old) (edit_of edit)) self.old.files ∥₁ }
-        ensures made { OnOk result (MakesEdit (edit_of edit) self.old self.new) }
-        ensures refused { OnErr result (SameNames self.old self.new) }
-        ensures told { OnOk result (AddsTold (edit_of edit) self.old self.new) }
-        ensures untold { OnErr result (KeepsTold self.old self.new) }
+        ensures made { OnOk result (Makes (edit_of edit) self.old self.new) }
+        ensures refused { OnErr result (Leaves self.old self.new) }
         ensures files { SameFiles self.old self.new }
-        ensures fixed { KeepsFixed self.old self.new }
-        ensures options { KeepsOptions self.old self.new }
+        ensures rest { KeepsFixedAndOptions self.old self.new }
         ensures noted { OnOk result (NotesEdit (edit_of edit) about self.old self.new) }
         ensures logged { OnOk result (LogsEdit (edit_of edit) self.old self.new) }
     {

@@ -1,7 +1,7 @@
 //! A commit of all edits to a new journal, without a crash.
 ghost use Rattle.std.specs.Prelude.{◌⊎◌, OnErr, OnOk};
-ghost use Rattle.blob_fs.specs.Files.{Commits, GivesTold, KeepsOptions, KeepsTold, SameNames, SettlesSome};
-ghost use Rattle.blob_fs.specs.Fixed.{KeepsFixed};
+ghost use Rattle.blob_fs.specs.Files.{Commits, GivesTold, KeepsTold, SameNames, SettlesSome};
+ghost use Rattle.blob_fs.specs.States.{KeepsFixedAndOptions};
 
 use crate::error::FsError;
 use crate::file_system::FileSystem;
@@ -20,8 +20,7 @@ impl<R: Rng + Drop> FileSystem<R> {
         ensures names { SameNames self.old self.new }
         ensures committed { OnOk result (Commits self.old self.new) }
         ensures some { OnErr result (SettlesSome self.old self.new) }
-        ensures fixed { KeepsFixed self.old self.new }
-        ensures options { KeepsOptions self.old self.new }
+        ensures rest { KeepsFixedAndOptions self.old self.new }
     {
         settling::<R>();
         self.begin_call()?;
@@ -35,8 +34,7 @@ impl<R: Rng + Drop> FileSystem<R> {
         ensures names { SameNames self.old self.new }
         ensures told { OnOk result (KeepsTold self.old self.new ⊎ GivesTold self.new) }
         ensures untold { OnErr result (KeepsTold self.old self.new) }
-        ensures fixed { KeepsFixed self.old self.new }
-        ensures options { KeepsOptions self.old self.new }
+        ensures rest { KeepsFixedAndOptions self.old self.new }
     {
         bindings();
         self.store.begin_anew()?;

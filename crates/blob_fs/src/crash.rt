@@ -4,7 +4,7 @@ ghost use Rattle.blob_fs.specs.Bytes.{FindsBytes, FindsEdits, FindsKnown, HasNoO
 ghost use Rattle.blob_fs.specs.Draws.{DrawsCrash};
 ghost use Rattle.blob_fs.specs.Errors.{IsLimited, IsExhaustedError, OnlyMemoryRefuses};
 ghost use Rattle.blob_fs.specs.Fixed.{FindsFixed, FixesFound};
-ghost use Rattle.blob_fs.specs.Files.{FindsKept, FindsTold, GivesNames, GivesTold, IsRecovered, KeepsNames, KeepsOptions, KeepsTold, SameNames};
+ghost use Rattle.blob_fs.specs.Files.{FindsKept, FindsTold, GivesNames, GivesTold, IsRecovered, KeepsEdits, KeepsOptions, SameNames};
 ghost use Rattle.blob_fs.specs.Places.{FindsPlaces};
 
 use crate::error::FsError;
@@ -78,10 +78,9 @@ impl<R: Rng + Drop> FileSystem<R> {
         ensures gives { OnOk result (GivesNames self.new) }
         ensures recovered { OnOk result (IsRecovered self.new) }
         ensures again { OnOk result (IsRecovered self.old → SameNames self.old self.new) }
-        ensures refused { OnErr result (KeepsNames self.old self.new) }
+        ensures refused { OnErr result (KeepsEdits self.old self.new) }
         ensures kept { OnOk result (FindsTold self.old self.new) }
         ensures told { OnOk result (GivesTold self.new) }
-        ensures untold { OnErr result (KeepsTold self.old self.new) }
         ensures bytes { IfOk result (λ crash. FindsBytes self.old crash self.new) }
         ensures known { OnOk result (FindsKnown self.old self.new) }
         ensures edits { IfOk result (λ crash. FindsEdits self.old crash) }

@@ -7,35 +7,24 @@ ghost use Rattle.blob_fs.specs.Writes.{KeepsAsSet, failed_write_of};
 use crate::error::FsError;
 use crate::file_system::FileSystem;
 use crate::switches::FailedWrite;
-use crate::writes::with_writes;
+use crate::writes::{decided, with_writes};
 use blob_base::{Error, Probability};
-use blob_faulty::{Config, PartialWriteMode, WriteConfig};
 use rand_core::Rng;
 
 impl<R: Rng + Drop> FileSystem<R> {
-    /// Draws a rate once for a call on a file. Nothing else changes.
-    fn draws(&mut self, inode: u64, rate: Probability) -> Result<bool, FsError>
+    /// Draws a rate once, and returns whether it is true. Nothing else changes.
+    fn draws(&mut self, rate: Probability) -> bool
         ensures { OnlyDraws self.old self.new }
     {
-        self.store.set_config(Config::default().read(rate));
-        let Some(found) = self.files.get(&inode) else {
-            return Err(FsError::Stale);
-        };
-        match self.store.read_file(&found.as_ref().blob, 0, &mut []) {
-            Ok(()) => Ok(false),
-            Err(Error::Injected) => Ok(true),
-            Err(error) => Err(error.into()),
-        }
+        self.store.draw(rate)
     }
 
     /// Draws a number above one and below another, by halves. There is one between them.
-    fn draw_between(&mut self, inode: u64, low: u64, high: u64) -> Result<u64, FsError>
+    fn draw_between(&mut self, low: u64, high: u64) -> u64
         ensures drawn { OnlyDraws self.old self.new }
-        ensures low { IfOk result (λ number. low ≤ number) }
+        ensures low { low ≤ result }
     {
-        let Some(even) = Probability::new(1, 2) else {
-            return Err(FsError::Stale);
-        };
+        let even = Probability::new(1, 2).unwrap();
         let mut first = low.saturating_add(1);
         let mut end = high;
         for _ in 0..64 {
@@ -44,11 +33,11 @@ impl<R: Rng + Drop> FileSystem<R> {
                 break;
             }
             let middle = first.saturating_add(count / 2);
-            let is_low = self.draws(inode, even)?;
+            let is_low = self.draws(even);
             first = if is_low { first } else { middle };
             end = if is_low { middle } else { end };
         }
-        Ok(first.max(low))
+        first.max(low)
     }
 
     /// Draws whether a truncation fails, by the rates of the layer's resizes. One that fails may be done in part, if it shortens
@@ -57,12 +46,7 @@ impl<R: Rng + Drop> FileSystem<R> {
     /// # Errors
     ///
     /// `Injected`: it fails and changes nothing.
-    pub(crate) fn draw_truncation(
-        &mut self,
-        inode: u64,
-        size: u64,
-        length: u64,
-    ) -> Result<(u64, bool), FsError>
+    pub(crate) fn draw_truncation(&mut self, size: u64, length: u64) -> Result<(u64, bool), FsError>
         ensures drawn { OnlyDraws self.old self.new }
         ensures reached { IfOk result (λ r. length ≤ r.0) }
         ensures whole { IfOk result (λ r. r.1 ≡ false → r.0 ≡ length) }
@@ -70,21 +54,14 @@ impl<R: Rng + Drop> FileSystem<R> {
         let Some(resizes) = self.options.faults.resize_rate else {
             return Ok((length, false));
         };
-        if !self.draws(inode, resizes.failure_rate)? {
+        if !self.draws(resizes.failure_rate) {
             return Ok((length, false));
         }
-        if !self.draws(inode, resizes.partial_rate)? || size.saturating_sub(length) <= 1 {
+        if !self.draws(resizes.partial_rate) || size.saturating_sub(length) <= 1 {
             return Err(Error::Injected.into());
         }
-        let reached = self.draw_between(inode, length, size)?;
+        let reached = self.draw_between(length, size);
         Ok((reached, true))
-    }
-
-    fn has_truncations(&self, inode: u64) -> bool {
-        match self.files.get(&inode) {
-            None => false,
-            Some(file) => !file.as_ref().truncations.is_empty(),
-        }
     }
 
     /// Draws whether a write fails, if the file has a truncation that no sync made durable: then a failed write leaves nothing,
@@ -93,18 +70,18 @@ impl<R: Rng + Drop> FileSystem<R> {
     /// # Errors
     ///
     /// `Injected`: it fails.
-    pub(crate) fn draw_write(&mut self, inode: u64) -> Result<FailedWrite, FsError>
+    pub(crate) fn draw_write(&mut self, is_cut: bool) -> Result<FailedWrite, FsError>
         ensures how { IfOk result (λ how. failed_write_of self.old ≡ ByMode → how ≡ ByMode) }
         ensures drawn { OnlyDraws self.old self.new }
         ensures rates { OnOk result (KeepsAsSet self.old → KeepsAsSet self.new) }
     {
-        if !self.has_truncations(inode) {
+        if !is_cut {
             return Ok(self.options.failed_write);
         }
         let Some(writes) = self.options.faults.write_rate else {
             return Ok(self.options.failed_write);
         };
-        if self.draws(inode, writes.failure_rate)? {
+        if self.draws(writes.failure_rate) {
             return Err(Error::Injected.into());
         }
         let config = with_writes(&self.options.faults, Probability::ZERO, writes);
@@ -120,50 +97,24 @@ impl<R: Rng + Drop> FileSystem<R> {
     /// Those of `draw_write`.
     pub(crate) fn draw_growth(
         &mut self,
-        inode: u64,
+        is_cut: bool,
         is_plain: bool,
     ) -> Result<(FailedWrite, bool), FsError>
         ensures how { IfOk result (λ r. failed_write_of self.old ≡ ByMode → r.0 ≡ ByMode) }
         ensures drawn { OnlyDraws self.old self.new }
         ensures rates { OnOk result (is_plain ≡ true → KeepsAsSet self.old → KeepsAsSet self.new) }
     {
-        if is_plain || self.has_truncations(inode) {
-            let how = self.draw_write(inode)?;
+        if is_plain || is_cut {
+            let how = self.draw_write(is_cut)?;
             return Ok((how, true));
         }
         let Some(writes) = self.options.faults.write_rate else {
             return Ok((self.options.failed_write, false));
         };
-        let is_failed = self.draws(inode, writes.failure_rate)?;
-        let config = growth_config(
-            &self.options.faults,
-            self.options.failed_write,
-            writes,
-            is_failed,
-        );
-        self.store.set_config(config);
+        let is_failed = self.draws(writes.failure_rate);
+        let how = self.options.failed_write;
+        self.store
+            .set_config(decided(&self.options.faults, how, writes, is_failed));
         Ok((FailedWrite::ByMode, !is_failed))
-    }
-}
-
-/// Returns the faults of a write of which it is drawn whether it fails.
-fn growth_config(
-    faults: &Config,
-    how: FailedWrite,
-    writes: WriteConfig,
-    is_failed: bool,
-) -> Config {
-    if !is_failed {
-        return with_writes(faults, Probability::ZERO, writes);
-    }
-    match how {
-        FailedWrite::ByMode => with_writes(faults, Probability::ONE, writes),
-        FailedWrite::Prefix => {
-            let prefix = WriteConfig {
-                mode: PartialWriteMode::Prefix,
-                ..writes
-            };
-            with_writes(faults, Probability::ONE, prefix)
-        }
     }
 }

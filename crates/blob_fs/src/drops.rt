@@ -1,14 +1,15 @@
 //! A sync that fails and drops what was unsynced: what reads return after it.
 ghost use Rattle.std.specs.Prelude.{◌≡◌, ◌≤◌, ◌+◌, None, OnOk, drop, length, take};
-ghost use Rattle.blob_fs.specs.Files.{KeepsNames, KeepsOptions, KeepsTold, SameLinks, SameOpens, journaled_of};
-ghost use Rattle.blob_fs.specs.Fixed.{KeepsFixed, KeepsSeen};
+ghost use Rattle.blob_fs.specs.States.{KeepsState};
+ghost use Rattle.blob_fs.specs.Files.{SameLinks, SameOpens, journaled_of};
+ghost use Rattle.blob_fs.specs.Fixed.{KeepsSeen};
 ghost use Rattle.blob_fs.specs.Named.{links_of};
 ghost use Rattle.blob_fs.specs.Noted.{ShowsSize};
 ghost use Rattle.blob_fs.specs.Open.{SameContent};
 ghost use Rattle.blob_fs.specs.Reads.{ReadsFrom};
+ghost use Rattle.blob_fs.specs.States.{KeepsNamesAndTold};
 ghost use Rattle.blob_fs.specs.Tracked.{freed_of};
 ghost use Rattle.blob_journal.specs.Fixed.{KeepsOpen};
-ghost use Rattle.blob_journal.specs.Keeping.{KeepsTable, KeepsTold as keeps_told};
 
 use crate::error::FsError;
 use crate::file_system::{File, FileSystem};
@@ -35,8 +36,7 @@ impl File {
         alloc: Global,
         store: &mut Journaled<R>,
     ) -> Result<Vec<u8>, Error>
-        ensures names { KeepsTable store.old store.new }
-        ensures told { keeps_told store.old store.new }
+        ensures keeps { KeepsNamesAndTold store.old store.new }
         ensures still { KeepsOpen store.old store.new }
     {
         let mut bytes = Vec::new(alloc);
@@ -54,8 +54,7 @@ impl File {
         buf: &mut [u8],
     ) -> Result<(), Error>
         ensures read { OnOk result (ReadsFrom store.old self.now offset (length buf.old) buf.new) }
-        ensures names { KeepsTable store.old store.new }
-        ensures told { keeps_told store.old store.new }
+        ensures keeps { KeepsNamesAndTold store.old store.new }
         ensures still { KeepsOpen store.old store.new }
     {
         let Some(shown) = &self.shown else {
@@ -126,10 +125,7 @@ impl<R: Rng + Drop> FileSystem<R> {
     ///
     /// `Memory`. The bytes are unsynced as before.
     pub(crate) fn drop_unsynced(&mut self, inode: u64) -> Result<(), FsError>
-        ensures names { KeepsNames self.old self.new }
-        ensures told { KeepsTold self.old self.new }
-        ensures fixed { KeepsFixed self.old self.new }
-        ensures options { KeepsOptions self.old self.new }
+        ensures { KeepsState self.old self.new }
     {
         self.store.set_config(Config::default());
         let Some(file) = self.files.get_mut(&inode) else {
@@ -148,11 +144,8 @@ impl<R: Rng + Drop> FileSystem<R> {
         ensures opens { SameOpens self.old self.new }
         ensures links { SameLinks self.old self.new }
         ensures store { journaled_of self.new ≡ journaled_of self.old }
-        ensures names { KeepsNames self.old self.new }
-        ensures told { KeepsTold self.old self.new }
-        ensures fixed { KeepsFixed self.old self.new }
+        ensures keeps { KeepsState self.old self.new }
         ensures seen { KeepsSeen self.old self.new }
-        ensures options { KeepsOptions self.old self.new }
     {
         let Some(file) = self.files.get_mut(&inode) else {
             return;

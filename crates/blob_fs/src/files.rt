@@ -2,7 +2,7 @@
 ghost use Rattle.std.specs.Prelude.{◌≡◌, ◌≤◌, ◌+◌, [], false, length, max, true, IfOk, IsSome, None, Some, OnOk};
 ghost use Rattle.blob_fs.specs.declared.switches.FailedWrite.TheVariants.{ByMode};
 ghost use Rattle.blob_fs.specs.Writes.{RecordsWrite, failed_write_of, leaves_zeros, profile_of, writes_zeros};
-ghost use Rattle.blob_fs.specs.Fixed.{KeepsFixed, KeepsFixedBut, KeepsSpared};
+ghost use Rattle.blob_fs.specs.Fixed.{KeepsFixedBut, KeepsSpared};
 ghost use Rattle.blob_fs.specs.Noted.{KeepsCuts, HasSize, IsEnd, size_in, size_read};
 ghost use Rattle.blob_fs.specs.Named.{links_of};
 ghost use Rattle.blob_fs.specs.Open.{SameContent};
@@ -10,6 +10,7 @@ ghost use Rattle.blob_fs.specs.Reads.{AreZeros, Reads, ShowsWrite};
 ghost use Rattle.blob_fs.specs.Tracked.{freed_of};
 ghost use Rattle.blob_journal.specs.Fixed.{IsBeside};
 ghost use Rattle.blob_fs.specs.Files.{KeepsNames, KeepsOptions, KeepsTold, MayResize, SameFiles, SameLinks, SameOpens, fresh_inode, inode_opened, journaled_of};
+ghost use Rattle.blob_fs.specs.States.{KeepsState};
 
 use crate::error::FsError;
 use crate::file_system::{Descriptor, File, FileSystem};
@@ -17,7 +18,18 @@ use crate::writes::{chosen, write_grown, zeros_between, zeros_end};
 use blob_directory::edit::Kind;
 use blob_journal::FileBlob;
 use rand_core::Rng;
-use std::alloc::Global;
+use std::alloc::{AllocError, Global};
+
+/// Where a file ends.
+#[derive(Clone, Copy)]
+struct Extent {
+    /// The size that calls see.
+    size: u64,
+    /// The end of its blob.
+    end: u64,
+    /// Whether it has a truncation that no sync made durable.
+    is_cut: bool,
+}
 
 impl File {
     /// Returns a new file, which has one name and is not open.
@@ -79,10 +91,7 @@ impl<R: Rng + Drop> FileSystem<R> {
     pub fn open_inode(&mut self, inode: u64) -> Result<Descriptor, FsError>
         ensures opened { IfOk result (λ file. inode_opened self.new file ≡ Some inode) }
         ensures links { SameLinks self.old self.new }
-        ensures names { KeepsNames self.old self.new }
-        ensures told { KeepsTold self.old self.new }
-        ensures fixed { KeepsFixed self.old self.new }
-        ensures options { KeepsOptions self.old self.new }
+        ensures keeps { KeepsState self.old self.new }
         ensures store { journaled_of self.new ≡ journaled_of self.old }
     {
         if self.directories.contains_key(&inode) {
@@ -106,10 +115,7 @@ impl<R: Rng + Drop> FileSystem<R> {
     fn add_open(&mut self, inode: u64)
         ensures opens { SameOpens self.old self.new }
         ensures links { SameLinks self.old self.new }
-        ensures names { KeepsNames self.old self.new }
-        ensures told { KeepsTold self.old self.new }
-        ensures fixed { KeepsFixed self.old self.new }
-        ensures options { KeepsOptions self.old self.new }
+        ensures keeps { KeepsState self.old self.new }
         ensures store { journaled_of self.new ≡ journaled_of self.old }
     {
         if let Some(file) = self.files.get_mut(&inode) {
@@ -120,10 +126,7 @@ impl<R: Rng + Drop> FileSystem<R> {
 
     /// Counts one descriptor of a file less.
     fn drop_open(&mut self, inode: u64)
-        ensures names { KeepsNames self.old self.new }
-        ensures told { KeepsTold self.old self.new }
-        ensures fixed { KeepsFixed self.old self.new }
-        ensures options { KeepsOptions self.old self.new }
+        ensures { KeepsState self.old self.new }
     {
         if let Some(file) = self.files.get_mut(&inode) {
             let file = file.as_mut();
@@ -169,10 +172,7 @@ impl<R: Rng + Drop> FileSystem<R> {
     ///
     /// `Stale`, `Memory`. The file is still open.
     pub fn close(&mut self, file: Descriptor) -> Result<(), FsError>
-        ensures names { KeepsNames self.old self.new }
-        ensures told { KeepsTold self.old self.new }
-        ensures fixed { KeepsFixed self.old self.new }
-        ensures options { KeepsOptions self.old self.new }
+        ensures keeps { KeepsState self.old self.new }
         ensures open { OnOk result (IsSome (inode_opened self.old file)) }
     {
         self.begin_call()?;
@@ -217,10 +217,7 @@ impl<R: Rng + Drop> FileSystem<R> {
     /// `Stale`, and `Injected` of the layer's read.
     pub fn read(&mut self, file: Descriptor, offset: u64, buf: &mut [u8]) -> Result<usize, FsError>
         ensures read { IfOk result (λ n. Reads self.old file offset (length buf.old) n buf.new) }
-        ensures names { KeepsNames self.old self.new }
-        ensures told { KeepsTold self.old self.new }
-        ensures fixed { KeepsFixed self.old self.new }
-        ensures options { KeepsOptions self.old self.new }
+        ensures keeps { KeepsState self.old self.new }
         ensures open { OnOk result (IsSome (inode_opened self.old file)) }
         ensures count { IfOk result (λ n. n ≤ length buf.old) }
     {
@@ -254,10 +251,7 @@ impl<R: Rng + Drop> FileSystem<R> {
         ensures store { journaled_of self.new ≡ journaled_of self.old }
         ensures files { SameFiles self.old self.new }
         ensures number { fresh_inode self.new ≡ fresh_inode self.old }
-        ensures names { KeepsNames self.old self.new }
-        ensures told { KeepsTold self.old self.new }
-        ensures fixed { KeepsFixed self.old self.new }
-        ensures options { KeepsOptions self.old self.new }
+        ensures keeps { KeepsState self.old self.new }
     {
         self.used = self.used.saturating_sub(size).saturating_add(now);
     }
@@ -270,24 +264,33 @@ impl<R: Rng + Drop> FileSystem<R> {
         }
     }
 
-    /// Returns the end of a file's blob, and the zeros that a write from an offset up to an end first writes there. The only error is
-    /// `Memory`.
-    fn zeros_of(&self, inode: u64, offset: u64, end: u64) -> Result<(u64, Vec<u8>), FsError>
-        ensures none { IfOk result (λ r. leaves_zeros (profile_of self.now) r.0 offset end ≡ false → length r.1.items ≡ 0) }
-        ensures zeros { IfOk result (λ r. AreZeros r.1.items) }
-        ensures within { IfOk result (λ r. r.0 + length r.1.items ≤ max r.0 (max offset end)) }
-        ensures end { IfOk result (λ r. IsEnd self.now inode r.0) }
+    /// Returns where the file of a number ends, or `Stale` if there is none.
+    fn extent_of(&self, inode: u64) -> Result<Extent, FsError>
+        ensures { IfOk result (λ extent. IsEnd self.now inode extent.end) }
     {
         let Some(found) = self.files.get(&inode) else {
-            return Ok((0, Vec::new(self.alloc)));
+            return Err(FsError::Stale);
         };
-        let from = found.as_ref().blob.size();
+        let found = found.as_ref();
+        Ok(Extent {
+            size: found.size(),
+            end: found.blob.size(),
+            is_cut: !found.truncations.is_empty(),
+        })
+    }
+
+    /// Returns the zeros that a write from an offset up to an end first writes, from the end of the file's blob on. The only error is
+    /// `Memory`.
+    fn zeros_from(&self, from: u64, offset: u64, end: u64) -> Result<Vec<u8>, AllocError>
+        ensures none { IfOk result (λ zeros. leaves_zeros (profile_of self.now) from offset end ≡ false → length zeros.items ≡ 0) }
+        ensures zeros { IfOk result (λ zeros. AreZeros zeros.items) }
+        ensures within { IfOk result (λ zeros. from + length zeros.items ≤ max from (max offset end)) }
+    {
         if !self.keeps_writes() {
-            return Ok((from, Vec::new(self.alloc)));
+            return Ok(Vec::new(self.alloc));
         }
         let to = zeros_end(&self.options.profile, from, offset, end);
-        let zeros = zeros_between(self.alloc, from, to)?;
-        Ok((from, zeros))
+        zeros_between(self.alloc, from, to)
     }
 
     /// Writes bytes at an offset, unsynced.
@@ -312,11 +315,11 @@ impl<R: Rng + Drop> FileSystem<R> {
     {
         self.begin_call()?;
         let inode = self.inode_of(file)?;
-        let size = self.size(file)?;
+        let extent = self.extent_of(inode)?;
         let end = offset.saturating_add(bytes.len() as u64);
-        self.check_room(size, end)?;
-        let (from, zeros) = self.zeros_of(inode, offset, end)?;
-        let (how, is_zeroed) = self.draw_growth(inode, zeros.is_empty())?;
+        self.check_room(extent.size, end)?;
+        let zeros = self.zeros_from(extent.end, offset, end)?;
+        let (how, is_zeroed) = self.draw_growth(extent.is_cut, zeros.is_empty())?;
         let zeros = chosen(is_zeroed, &zeros);
         let next_edit = self.store.next_edit();
         let Some(found) = self.files.get_mut(&inode) else {
@@ -329,11 +332,11 @@ impl<R: Rng + Drop> FileSystem<R> {
             &mut self.store,
             how,
             &self.options.faults,
-            (from, zeros),
+            (extent.end, zeros),
             (offset, bytes),
         );
-        let now = found.end_write(written.is_ok(), offset, bytes, size, next_edit);
-        self.count(size, now);
+        let now = found.end_write(written.is_ok(), offset, bytes, extent.size, next_edit);
+        self.count(extent.size, now);
         match written {
             Ok(()) => Ok(()),
             Err(error) => Err(error.into()),

@@ -1,7 +1,7 @@
 //! What a rename over a name leaves of the file that moves, if the profile flushes.
 ghost use Rattle.std.specs.Prelude.{◌≡◌};
-ghost use Rattle.blob_fs.specs.Files.{KeepsNames, KeepsOptions, KeepsTold, journaled_of};
-ghost use Rattle.blob_fs.specs.Fixed.{KeepsFixed};
+ghost use Rattle.blob_fs.specs.Files.{journaled_of};
+ghost use Rattle.blob_fs.specs.States.{KeepsState};
 ghost use Rattle.blob_journal.specs.Settling.{KeepsUnsettled};
 
 use crate::error::FsError;
@@ -14,10 +14,7 @@ impl<R: Rng + Drop> FileSystem<R> {
     /// Reserves capacity for the note of a flush. The only error is `Memory`.
     pub(crate) fn reserve_flush(&mut self, inode: u64) -> Result<(), FsError>
         ensures unsettled { KeepsUnsettled (journaled_of self.old) (journaled_of self.new) }
-        ensures names { KeepsNames self.old self.new }
-        ensures told { KeepsTold self.old self.new }
-        ensures fixed { KeepsFixed self.old self.new }
-        ensures options { KeepsOptions self.old self.new }
+        ensures keeps { KeepsState self.old self.new }
     {
         let Some(found) = self.files.get_mut(&inode) else {
             return Ok(());
@@ -46,10 +43,7 @@ impl<R: Rng + Drop> FileSystem<R> {
     /// now. There is capacity for the note; without it the edit would flush nothing.
     pub(crate) fn note_flush(&mut self, inode: u64, edit: u64)
         ensures store { journaled_of self.new ≡ journaled_of self.old }
-        ensures names { KeepsNames self.old self.new }
-        ensures told { KeepsTold self.old self.new }
-        ensures fixed { KeepsFixed self.old self.new }
-        ensures options { KeepsOptions self.old self.new }
+        ensures keeps { KeepsState self.old self.new }
     {
         if !self.is_flushed(inode) {
             return;

@@ -1,9 +1,10 @@
 //! Names by directory: files are created, linked and unlinked, directories are made, removed and listed.
 ghost use Rattle.std.specs.Prelude.{◌≡◌, ◌∷◌, [], None, Some, OnOk, OnErr, IfOk, IsSome, pred};
-ghost use Rattle.blob_fs.specs.Files.{AddsTold, KeepsNames, KeepsOptions, KeepsTold, MakesEdit, NotesBinding, NotesFreeing, SameNames, about_name, file_of, fresh_inode, inode_opened, journaled_of, names_of, told_of};
+ghost use Rattle.blob_fs.specs.Files.{NotesBinding, NotesFreeing, about_name, file_of, fresh_inode, inode_opened, journaled_of, names_of, told_of};
 ghost use Rattle.blob_fs.specs.Bytes.{file_in};
-ghost use Rattle.blob_fs.specs.Fixed.{KeepsFixed, KeepsFixedBut};
 ghost use Rattle.blob_fs.specs.Named.{links_in};
+ghost use Rattle.blob_fs.specs.States.{KeepsFixedAndOptions, KeepsState, KeepsStateBut};
+ghost use Rattle.blob_fs.specs.Calls.{Leaves, Makes};
 ghost use Rattle.blob_journal.specs.Bindings.{MayName};
 ghost use Rattle.blob_journal.specs.Fixed.{IsOpen};
 ghost use Rattle.blob_directory.specs.Counts.{NamedAtMost};
@@ -62,14 +63,11 @@ impl<R: Rng + Drop> FileSystem<R> {
     /// `Exists`, `NotFound` and `NotDirectory` of the directory, those of `check_name`, `NoSpace`, and those of the
     /// layer's open of a new blob.
     pub fn create_at(&mut self, directory: u64, name: &[u8]) -> Result<Descriptor, FsError>
-        ensures made { OnOk result (MakesEdit (binds directory name.now (file (fresh_inode self.old))) self.old self.new) }
+        ensures made { OnOk result (Makes (binds directory name.now (file (fresh_inode self.old))) self.old self.new) }
         ensures free { OnOk result (names_of self.old (entry directory name.now) ≡ None) }
         ensures opened { IfOk result (λ f. inode_opened self.new f ≡ Some (fresh_inode self.old)) }
-        ensures refused { OnErr result (SameNames self.old self.new) }
-        ensures told { OnOk result (AddsTold (binds directory name.now (file (fresh_inode self.old))) self.old self.new) }
-        ensures untold { OnErr result (KeepsTold self.old self.new) }
-        ensures fixed { KeepsFixed self.old self.new }
-        ensures options { KeepsOptions self.old self.new }
+        ensures refused { OnErr result (Leaves self.old self.new) }
+        ensures rest { KeepsFixedAndOptions self.old self.new }
         ensures noted { OnOk result (NotesBinding directory name.now (file (fresh_inode self.old)) self.old self.new) }
     {
         let inode = self.next_inode;
@@ -95,10 +93,7 @@ impl<R: Rng + Drop> FileSystem<R> {
         requires opened { IsOpen (journaled_of self.old) inode blob }
         requires unnamed { ∥ NamedAtMost (names_of self.old) inode 0 ∥₁ }
         ensures links { OnOk result (links_in (file_in self.new inode) ≡ 1) }
-        ensures names { KeepsNames self.old self.new }
-        ensures told { KeepsTold self.old self.new }
-        ensures fixed { KeepsFixedBut inode self.old self.new }
-        ensures options { KeepsOptions self.old self.new }
+        ensures keeps { KeepsStateBut inode self.old self.new }
         ensures store { journaled_of self.new ≡ journaled_of self.old }
     {
         let mut file = File::new(self.alloc, blob);
@@ -115,10 +110,7 @@ impl<R: Rng + Drop> FileSystem<R> {
         requires unfound { MayName (told_of self.old) inode → ⊥ }
         ensures opened { IfOk result (λ f. inode_opened self.new f ≡ Some inode) }
         ensures links { OnOk result (links_in (file_in self.new inode) ≡ 1) }
-        ensures names { KeepsNames self.old self.new }
-        ensures told { KeepsTold self.old self.new }
-        ensures fixed { KeepsFixedBut inode self.old self.new }
-        ensures options { KeepsOptions self.old self.new }
+        ensures keeps { KeepsStateBut inode self.old self.new }
         ensures store { OnOk result (journaled_of self.new ≡ journaled_of self.old) }
     {
         self.add_file(inode, blob)?;
@@ -138,13 +130,10 @@ impl<R: Rng + Drop> FileSystem<R> {
     /// `Exists`, `NotFound` and `NotDirectory` of the directory, those of `check_name`, `NoSpace`, `Memory`.
     pub fn make_directory_at(&mut self, directory: u64, name: &[u8]) -> Result<u64, FsError>
         ensures number { IfOk result (λ d. d ≡ fresh_inode self.old) }
-        ensures made { IfOk result (λ d. MakesEdit (binds directory name.now (directory_at d)) self.old self.new) }
+        ensures made { IfOk result (λ d. Makes (binds directory name.now (directory_at d)) self.old self.new) }
         ensures free { OnOk result (names_of self.old (entry directory name.now) ≡ None) }
-        ensures refused { OnErr result (SameNames self.old self.new) }
-        ensures told { IfOk result (λ d. AddsTold (binds directory name.now (directory_at d)) self.old self.new) }
-        ensures untold { OnErr result (KeepsTold self.old self.new) }
-        ensures fixed { KeepsFixed self.old self.new }
-        ensures options { KeepsOptions self.old self.new }
+        ensures refused { OnErr result (Leaves self.old self.new) }
+        ensures rest { KeepsFixedAndOptions self.old self.new }
         ensures noted { IfOk result (λ d. NotesBinding directory name.now (directory_at d) self.old self.new) }
     {
         let inode = self.next_inode;
@@ -170,13 +159,10 @@ impl<R: Rng + Drop> FileSystem<R> {
     /// `IsDirectory` and `NotFound` of the inode, `TooManyLinks` at 65,000 names, `Exists`, `NotFound` and `NotDirectory`
     /// of the directory, those of `check_name`, `Memory`.
     pub fn link_at(&mut self, inode: u64, directory: u64, name: &[u8]) -> Result<(), FsError>
-        ensures made { OnOk result (MakesEdit (binds directory name.now (file inode)) self.old self.new) }
+        ensures made { OnOk result (Makes (binds directory name.now (file inode)) self.old self.new) }
         ensures free { OnOk result (names_of self.old (entry directory name.now) ≡ None) }
-        ensures refused { OnErr result (SameNames self.old self.new) }
-        ensures told { OnOk result (AddsTold (binds directory name.now (file inode)) self.old self.new) }
-        ensures untold { OnErr result (KeepsTold self.old self.new) }
-        ensures fixed { KeepsFixed self.old self.new }
-        ensures options { KeepsOptions self.old self.new }
+        ensures refused { OnErr result (Leaves self.old self.new) }
+        ensures rest { KeepsFixedAndOptions self.old self.new }
         ensures noted { OnOk result (NotesBinding directory name.now (file inode) self.old self.new) }
     {
         self.begin_call()?;
@@ -206,10 +192,7 @@ impl<R: Rng + Drop> FileSystem<R> {
     fn set_links(&mut self, inode: u64, links: u32)
         requires fits { ∥ NamedAtMost (names_of self.old) inode links ∥₁ }
         ensures set { IsSome (file_of self.old inode) → links_in (file_in self.new inode) ≡ links }
-        ensures names { KeepsNames self.old self.new }
-        ensures told { KeepsTold self.old self.new }
-        ensures fixed { KeepsFixed self.old self.new }
-        ensures options { KeepsOptions self.old self.new }
+        ensures keeps { KeepsState self.old self.new }
         ensures store { journaled_of self.new ≡ journaled_of self.old }
     {
         if let Some(file) = self.files.get_mut(&inode) {
@@ -221,10 +204,7 @@ impl<R: Rng + Drop> FileSystem<R> {
     /// Counts one name of a file less. The name is removed already.
     fn drop_name(&mut self, inode: u64)
         requires fewer { ∥ NamedAtMost (names_of self.old) inode (pred (links_in (file_in self.old inode))) ∥₁ }
-        ensures names { KeepsNames self.old self.new }
-        ensures told { KeepsTold self.old self.new }
-        ensures fixed { KeepsFixed self.old self.new }
-        ensures options { KeepsOptions self.old self.new }
+        ensures keeps { KeepsState self.old self.new }
         ensures store { journaled_of self.new ≡ journaled_of self.old }
     {
         if let Some(file) = self.files.get_mut(&inode) {
@@ -237,10 +217,7 @@ impl<R: Rng + Drop> FileSystem<R> {
     /// capacity.
     pub(crate) fn drop_link(&mut self, inode: u64)
         requires fewer { ∥ NamedAtMost (names_of self.old) inode (pred (links_in (file_in self.old inode))) ∥₁ }
-        ensures names { KeepsNames self.old self.new }
-        ensures told { KeepsTold self.old self.new }
-        ensures fixed { KeepsFixed self.old self.new }
-        ensures options { KeepsOptions self.old self.new }
+        ensures keeps { KeepsState self.old self.new }
         ensures store { journaled_of self.new ≡ journaled_of self.old }
     {
         self.drop_name(inode);
@@ -253,12 +230,9 @@ impl<R: Rng + Drop> FileSystem<R> {
     ///
     /// `NotFound`, `IsDirectory`, `NotFound` and `NotDirectory` of the directory, those of `check_name`, `Memory`.
     pub fn unlink_at(&mut self, directory: u64, name: &[u8]) -> Result<(), FsError>
-        ensures made { OnOk result (MakesEdit (frees directory name.now) self.old self.new) }
-        ensures refused { OnErr result (SameNames self.old self.new) }
-        ensures told { OnOk result (AddsTold (frees directory name.now) self.old self.new) }
-        ensures untold { OnErr result (KeepsTold self.old self.new) }
-        ensures fixed { KeepsFixed self.old self.new }
-        ensures options { KeepsOptions self.old self.new }
+        ensures made { OnOk result (Makes (frees directory name.now) self.old self.new) }
+        ensures refused { OnErr result (Leaves self.old self.new) }
+        ensures rest { KeepsFixedAndOptions self.old self.new }
         ensures noted { OnOk result (NotesFreeing directory name.now self.old self.new) }
     {
         self.begin_call()?;
@@ -281,12 +255,9 @@ impl<R: Rng + Drop> FileSystem<R> {
     /// `NotFound`, `NotDirectory`, `NotEmpty`, `NotFound` and `NotDirectory` of the directory that has it, those of
     /// `check_name`, `Memory`.
     pub fn remove_directory_at(&mut self, directory: u64, name: &[u8]) -> Result<(), FsError>
-        ensures made { OnOk result (MakesEdit (frees directory name.now) self.old self.new) }
-        ensures refused { OnErr result (SameNames self.old self.new) }
-        ensures told { OnOk result (AddsTold (frees directory name.now) self.old self.new) }
-        ensures untold { OnErr result (KeepsTold self.old self.new) }
-        ensures fixed { KeepsFixed self.old self.new }
-        ensures options { KeepsOptions self.old self.new }
+        ensures made { OnOk result (Makes (frees directory name.now) self.old self.new) }
+        ensures refused { OnErr result (Leaves self.old self.new) }
+        ensures rest { KeepsFixedAndOptions self.old self.new }
         ensures noted { OnOk result (NotesFreeing directory name.now self.old self.new) }
     {
         self.begin_call()?;

@@ -3,10 +3,10 @@ ghost use Rattle.std.specs.Prelude.{◌≡◌, IfOk, OnErr, OnOk, Some};
 ghost use Rattle.blob_directory.specs.Names.{directory_at, entry};
 ghost use Rattle.blob_directory.specs.Paths.{IsPlace, LeadsTo};
 ghost use Rattle.blob_fs.specs.declared.switches.Syncs.TheVariants.{Honest};
-ghost use Rattle.blob_fs.specs.Calls.{Leaves};
-ghost use Rattle.blob_fs.specs.Fixed.{KeepsFixed};
-ghost use Rattle.blob_fs.specs.Files.{KeepsNames, KeepsOptions, KeepsTold, MayResizeSome, SettlesSomeOf, names_of, syncs_of};
+ghost use Rattle.blob_fs.specs.Calls.{Leaves, MaySettleIn};
+ghost use Rattle.blob_fs.specs.Files.{KeepsNames, KeepsOptions, MayResizeSome, names_of, syncs_of};
 ghost use Rattle.blob_fs.specs.Paths.{CreatesAt, FreesAt, IsBound, KeepsFixedBeside, LinksAt, Lists, MakesDirectoryAt, OpensPath, RenamesPath, SyncsPath};
+ghost use Rattle.blob_fs.specs.States.{KeepsFixedAndOptions, KeepsState};
 
 use crate::error::FsError;
 use crate::file_system::{Descriptor, FileSystem, ROOT};
@@ -76,8 +76,7 @@ impl<R: Rng + Drop> FileSystem<R> {
     pub fn create(&mut self, path: &[u8]) -> Result<Descriptor, FsError>
         ensures made { OnOk result (CreatesAt path.now self.old self.new) }
         ensures refused { OnErr result (Leaves self.old self.new) }
-        ensures fixed { KeepsFixed self.old self.new }
-        ensures options { KeepsOptions self.old self.new }
+        ensures rest { KeepsFixedAndOptions self.old self.new }
     {
         let (directory, name) = self.place_of(path)?;
         self.create_at(directory, name)
@@ -86,10 +85,7 @@ impl<R: Rng + Drop> FileSystem<R> {
     /// Opens a file that is there. The errors are those of `directory_of` and of `open_inode`.
     pub fn open(&mut self, path: &[u8]) -> Result<Descriptor, FsError>
         ensures opened { IfOk result (λ f. OpensPath path.now self.old f self.new) }
-        ensures names { KeepsNames self.old self.new }
-        ensures told { KeepsTold self.old self.new }
-        ensures fixed { KeepsFixed self.old self.new }
-        ensures options { KeepsOptions self.old self.new }
+        ensures keeps { KeepsState self.old self.new }
     {
         self.begin_call()?;
         let found = self.find(path)?;
@@ -113,8 +109,7 @@ impl<R: Rng + Drop> FileSystem<R> {
     pub fn link(&mut self, path: &[u8], to: &[u8]) -> Result<(), FsError>
         ensures made { OnOk result (LinksAt path.now to.now self.old self.new) }
         ensures refused { OnErr result (Leaves self.old self.new) }
-        ensures fixed { KeepsFixed self.old self.new }
-        ensures options { KeepsOptions self.old self.new }
+        ensures rest { KeepsFixedAndOptions self.old self.new }
     {
         let found = self.find(path)?;
         let (directory, name) = self.place_of(to)?;
@@ -125,8 +120,7 @@ impl<R: Rng + Drop> FileSystem<R> {
     pub fn unlink(&mut self, path: &[u8]) -> Result<(), FsError>
         ensures made { OnOk result (FreesAt path.now self.old self.new) }
         ensures refused { OnErr result (Leaves self.old self.new) }
-        ensures fixed { KeepsFixed self.old self.new }
-        ensures options { KeepsOptions self.old self.new }
+        ensures rest { KeepsFixedAndOptions self.old self.new }
     {
         let (directory, name) = self.place_of(path)?;
         self.unlink_at(directory, name)
@@ -136,8 +130,7 @@ impl<R: Rng + Drop> FileSystem<R> {
     pub fn rename(&mut self, path: &[u8], to: &[u8], how: Rename) -> Result<(), FsError>
         ensures renamed { OnOk result (RenamesPath how path.now to.now self.old self.new) }
         ensures refused { OnErr result (Leaves self.old self.new) }
-        ensures fixed { KeepsFixed self.old self.new }
-        ensures options { KeepsOptions self.old self.new }
+        ensures rest { KeepsFixedAndOptions self.old self.new }
     {
         let from = self.place_of(path)?;
         let to = self.place_of(to)?;
@@ -148,8 +141,7 @@ impl<R: Rng + Drop> FileSystem<R> {
     pub fn make_directory(&mut self, path: &[u8]) -> Result<(), FsError>
         ensures made { OnOk result (MakesDirectoryAt path.now self.old self.new) }
         ensures refused { OnErr result (Leaves self.old self.new) }
-        ensures fixed { KeepsFixed self.old self.new }
-        ensures options { KeepsOptions self.old self.new }
+        ensures rest { KeepsFixedAndOptions self.old self.new }
     {
         let (directory, name) = self.place_of(path)?;
         self.make_directory_at(directory, name)?;
@@ -160,8 +152,7 @@ impl<R: Rng + Drop> FileSystem<R> {
     pub fn remove_directory(&mut self, path: &[u8]) -> Result<(), FsError>
         ensures made { OnOk result (FreesAt path.now self.old self.new) }
         ensures refused { OnErr result (Leaves self.old self.new) }
-        ensures fixed { KeepsFixed self.old self.new }
-        ensures options { KeepsOptions self.old self.new }
+        ensures rest { KeepsFixedAndOptions self.old self.new }
     {
         let (directory, name) = self.place_of(path)?;
         self.remove_directory_at(directory, name)
@@ -177,11 +168,9 @@ impl<R: Rng + Drop> FileSystem<R> {
 
     /// Settles the edits of a directory. The errors are those of `directory_of` and of `sync_directory_at`.
     pub fn sync_directory(&mut self, path: &[u8]) -> Result<(), FsError>
-        ensures names { KeepsNames self.old self.new }
-        ensures some { SettlesSomeOf self.old self.new }
+        ensures some { MaySettleIn self.old self.new }
         ensures settled { OnOk result (syncs_of self.old ≡ Honest → SyncsPath path.now self.old self.new) }
-        ensures fixed { KeepsFixed self.old self.new }
-        ensures options { KeepsOptions self.old self.new }
+        ensures rest { KeepsFixedAndOptions self.old self.new }
     {
         let directory = self.directory_of(path)?;
         self.sync_directory_at(directory)

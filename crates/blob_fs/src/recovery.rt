@@ -11,15 +11,15 @@ ghost use Rattle.blob_fs.specs.Truncations.{lost_of};
 ghost use Rattle.blob_fs.specs.Fixed.{AllFixed, AreWhole, FixesFound, IsWhole};
 ghost use Rattle.blob_fs.specs.Open.{AllOpen, MayChange};
 ghost use Rattle.blob_fs.specs.Named.{AllNamed, CountsLinks};
+ghost use Rattle.blob_fs.specs.States.{KeepsNamesAndTold};
 ghost use Rattle.blob_fs.specs.Tracked.{AllPresent};
-ghost use Rattle.blob_fs.specs.Files.{FindsAgain, FindsNames, FindsTold, GivesNames, GivesTold, KeepsNames, KeepsOptions, KeepsTold, RepresentsFiles, fresh_inode, journaled_of, keeps_of, table_of};
+ghost use Rattle.blob_fs.specs.Files.{FindsAgain, FindsNames, FindsTold, GivesNames, GivesTold, KeepsEdits, KeepsOptions, RepresentsFiles, fresh_inode, journaled_of, keeps_of, table_of};
 ghost use Rattle.blob_journal.specs.Blobs.{ChangesFile, SameFilesBut};
 ghost use Rattle.blob_journal.specs.Currents.{KeepsFiles};
 ghost use Rattle.blob_journal.specs.Errors.{FailsAtLimits, IsFaultless, IsReady, KeepsReady, TracksSize};
 ghost use Rattle.blob_journal.specs.Fixed.{KeepsHandles, KeepsOpenBut};
 ghost use Rattle.blob_journal.specs.Journals.{GivesNames as gives_names, KeepsFile, KeepsFilesOf, store_of};
 ghost use Rattle.blob_journal.specs.Settling.{FindsEdits};
-ghost use Rattle.blob_journal.specs.Keeping.{KeepsTable, KeepsTold as keeps_told};
 
 use crate::boxed_file::BoxedFile;
 use crate::error::FsError;
@@ -40,8 +40,7 @@ fn cut_to<R: Rng + Drop>(
     blob: &mut FileBlob,
     length: u64,
 ) -> Result<(), Error>
-    ensures names { KeepsTable store.old store.new }
-    ensures told { keeps_told store.old store.new }
+    ensures keeps { KeepsNamesAndTold store.old store.new }
     ensures files { KeepsFilesOf blob.old store.old store.new }
     ensures cut { OnOk result (CutsTo length store.old blob.old store.new blob.new) }
     ensures others { OnOk result (ChangesFile store.old blob.old store.new) }
@@ -62,8 +61,7 @@ fn rewrite<R: Rng + Drop>(
     blob: &mut FileBlob,
     bytes: &[u8],
 ) -> Result<(), Error>
-    ensures names { KeepsTable store.old store.new }
-    ensures told { keeps_told store.old store.new }
+    ensures keeps { KeepsNamesAndTold store.old store.new }
     ensures files { KeepsFilesOf blob.old store.old store.new }
     ensures given { KeepsFile blob.old store.old blob.new store.new }
     ensures rewritten { OnOk result (Rewrites bytes.now store.old blob.old store.new blob.new) }
@@ -89,8 +87,7 @@ fn truncate_left<R: Rng + Drop>(
     kept: &Kept,
     loss: &Loss,
 ) -> Result<(), Error>
-    ensures names { KeepsTable store.old store.new }
-    ensures told { keeps_told store.old store.new }
+    ensures keeps { KeepsNamesAndTold store.old store.new }
     ensures files { KeepsFilesOf blob.old store.old store.new }
     ensures given { KeepsFile blob.old store.old blob.new store.new }
     ensures truncated { OnOk result (Truncates kept.now loss.now inode old.now store.old blob.old store.new blob.new) }
@@ -120,8 +117,7 @@ fn cut_from<R: Rng + Drop>(
     live: &FileBlob,
     start: u64,
 ) -> Result<(), Error>
-    ensures names { KeepsTable store.old store.new }
-    ensures told { keeps_told store.old store.new }
+    ensures keeps { KeepsNamesAndTold store.old store.new }
     ensures files { KeepsFilesOf blob.old store.old store.new }
     ensures cut { OnOk result (CutsFrom start live.now store.old blob.old store.new blob.new) }
     ensures others { OnOk result (ChangesOnly store.old blob.old store.new) }
@@ -151,8 +147,7 @@ fn cut<R: Rng + Drop>(
     old: &File,
     loss: &Loss,
 ) -> Result<(), Error>
-    ensures names { KeepsTable store.old store.new }
-    ensures told { keeps_told store.old store.new }
+    ensures keeps { KeepsNamesAndTold store.old store.new }
     ensures files { KeepsFilesOf blob.old store.old store.new }
     ensures cut { OnOk result (CutsFile loss.now old.now store.old blob.old store.new blob.new) }
     ensures others { OnOk result (ChangesOnly store.old blob.old store.new) }
@@ -179,8 +174,7 @@ fn open_cut<R: Rng + Drop>(
     loss: &Loss,
 ) -> Result<(FileBlob, u64), Error>
     requires known { is_some (get nat_cmp old.now inode) ≡ true }
-    ensures names { KeepsTable store.old store.new }
-    ensures told { keeps_told store.old store.new }
+    ensures keeps { KeepsNamesAndTold store.old store.new }
     ensures files { KeepsFiles (store_of store.old) (store_of store.new) }
     ensures left { IfOk result (λ r. OpensLeft store.old inode old.now kept.now loss.now store.new r.0 r.1) }
     ensures others { OnOk result (SameFilesBut inode store.old store.new) }
@@ -210,8 +204,7 @@ fn open_left<R: Rng + Drop>(
     loss: &Loss,
 ) -> Result<(FileBlob, u64), Error>
     requires known { is_some (get nat_cmp old.now inode) ≡ true }
-    ensures names { KeepsTable store.old store.new }
-    ensures told { keeps_told store.old store.new }
+    ensures keeps { KeepsNamesAndTold store.old store.new }
     ensures files { KeepsFiles (store_of store.old) (store_of store.new) }
     ensures left { IfOk result (λ r. OpensLeft store.old inode old.now kept.now loss.now store.new r.0 r.1) }
     ensures others { OnOk result (SameFilesBut inode store.old store.new) }
@@ -237,8 +230,7 @@ fn reopen<R: Rng + Drop>(
     loss: &Loss,
 ) -> Result<File, Error>
     requires known { is_some (get nat_cmp old.now inode) ≡ true }
-    ensures names { KeepsTable store.old store.new }
-    ensures told { keeps_told store.old store.new }
+    ensures keeps { KeepsNamesAndTold store.old store.new }
     ensures files { KeepsFiles (store_of store.old) (store_of store.new) }
     ensures left { IfOk result (λ file. Reopens store.old inode old.now kept.now loss.now store.new file) }
     ensures others { OnOk result (SameFilesBut inode store.old store.new) }
@@ -281,8 +273,7 @@ fn reopen_all<R: Rng + Drop>(
     loss: &Loss,
 ) -> Result<BTreeMap<u64, BoxedFile>, FsError>
     requires known { (inode : ℕ) → has_link tree.now inode ≡ true → is_some (get nat_cmp old.now inode) ≡ true }
-    ensures names { KeepsTable store.old store.new }
-    ensures told { keeps_told store.old store.new }
+    ensures keeps { KeepsNamesAndTold store.old store.new }
     ensures files { KeepsFiles (store_of store.old) (store_of store.new) }
     ensures left { IfOk result (λ files. ReopensAll store.old old.now tree.now kept.now loss.now store.new files) }
     ensures known { IfOk result (HasOnlyKnown old.now) }
@@ -306,8 +297,7 @@ fn reopen_all<R: Rng + Drop>(
 
 /// Removes the blob of a file. If memory runs out, it stays until the next crash.
 fn remove_blob<R: Rng + Drop>(store: &mut Journaled<R>, inode: u64)
-    ensures names { KeepsTable store.old store.new }
-    ensures told { keeps_told store.old store.new }
+    ensures keeps { KeepsNamesAndTold store.old store.new }
     ensures gives { gives_names store.old → gives_names store.new }
     ensures others { SameFilesBut inode store.old store.new }
     ensures still { KeepsOpenBut inode store.old store.new }
@@ -321,8 +311,7 @@ fn remove_unnamed<R: Rng + Drop>(
     old: &BTreeMap<u64, BoxedFile>,
     files: &BTreeMap<u64, BoxedFile>,
 )
-    ensures names { KeepsTable store.old store.new }
-    ensures told { keeps_told store.old store.new }
+    ensures keeps { KeepsNamesAndTold store.old store.new }
     ensures gives { gives_names store.old → gives_names store.new }
     ensures kept { KeepsBlobsOf files.now store.old store.new }
     ensures opened { AllOpen store.old files.now → AllOpen store.new files.now }
@@ -343,10 +332,9 @@ impl<R: Rng + Drop> FileSystem<R> {
         ensures found { OnOk result (FindsNames self.old self.new) }
         ensures gives { OnOk result (RepresentsFiles self.old → GivesNames self.new) }
         ensures again { OnOk result (FindsAgain self.old self.new) }
-        ensures refused { OnErr result (KeepsNames self.old self.new) }
+        ensures refused { OnErr result (KeepsEdits self.old self.new) }
         ensures kept { OnOk result (FindsTold self.old self.new) }
         ensures told { OnOk result (GivesTold self.new) }
-        ensures untold { OnErr result (KeepsTold self.old self.new) }
         ensures bytes { IfOk result (λ e. RecoversBytes kept.now (lost_of numbers.now e.items) self.old self.new) }
         ensures known { OnOk result (FindsKnown self.old self.new) }
         ensures edits { IfOk result (λ e. FindsEdits (journaled_of self.old) (keeps_of self.old) e.items) }
@@ -380,8 +368,7 @@ impl<R: Rng + Drop> FileSystem<R> {
         ensures names { OnOk result (table_of self.new ≡ tree.names) }
         ensures gives { OnOk result (RepresentsFiles self.old → GivesNames self.new) }
         ensures told { OnOk result (GivesTold self.new) }
-        ensures refused { OnErr result (KeepsNames self.old self.new) }
-        ensures untold { OnErr result (KeepsTold self.old self.new) }
+        ensures refused { OnErr result (KeepsEdits self.old self.new) }
         ensures files { OnOk result (self.new.files ≡ files) }
         ensures kept { OnOk result (KeepsBlobsOf files (journaled_of self.old) (journaled_of self.new)) }
         ensures opened { OnOk result (AllOpen (journaled_of self.new) files) }

@@ -1,9 +1,9 @@
 //! Renames, in one step.
 ghost use Rattle.std.specs.Prelude.{◌≡◌, ◌≢◌, MatchBool, None, OnOk, OnErr, Some};
 ghost use Rattle.blob_fs.specs.Below.{IsNotBelow, StaysApart};
-ghost use Rattle.blob_fs.specs.Calls.{Leaves, Renames, RenamesAt};
-ghost use Rattle.blob_fs.specs.Files.{AddsTold, GrowsTold, KeepsNames, KeepsOptions, KeepsTold, MakesEdit, NotesExchange, NotesMove, SameFiles, SameNames, is_file, journaled_of, names_of};
-ghost use Rattle.blob_fs.specs.Fixed.{KeepsFixed};
+ghost use Rattle.blob_fs.specs.Calls.{Leaves, Makes, Renames, RenamesAt};
+ghost use Rattle.blob_fs.specs.Files.{GrowsTold, NotesExchange, NotesMove, SameFiles, is_file, journaled_of, names_of};
+ghost use Rattle.blob_fs.specs.States.{KeepsFixedAndOptions, KeepsState};
 ghost use Rattle.blob_directory.specs.declared.edit.Kind.TheVariants.{Directory};
 ghost use Rattle.blob_directory.specs.Names.{exchanges, moves};
 
@@ -106,11 +106,9 @@ impl<R: Rng + Drop> FileSystem<R> {
     ) -> Result<(), FsError>
         ensures renamed { OnOk result (RenamesAt how from.entry.0 from.entry.1.now to.entry.0 to.entry.1.now self.old self.new) }
         ensures apart { OnOk result (StaysApart self.old from.entry.0 from.entry.1.now to.entry.0) }
-        ensures refused { OnErr result (SameNames self.old self.new) }
+        ensures refused { OnErr result (Leaves self.old self.new) }
         ensures grows { GrowsTold self.old self.new }
-        ensures untold { OnErr result (KeepsTold self.old self.new) }
-        ensures fixed { KeepsFixed self.old self.new }
-        ensures options { KeepsOptions self.old self.new }
+        ensures rest { KeepsFixedAndOptions self.old self.new }
     {
         self.begin_call()?;
         let old = self.entry_in(from.0, from.1)?;
@@ -136,8 +134,7 @@ impl<R: Rng + Drop> FileSystem<R> {
         requires free { names_of self.old to.0.items ≡ None }
         ensures renamed { OnOk result (Renames how from.1 to.1 from.0.items to.0.items self.old self.new) }
         ensures refused { OnErr result (Leaves self.old self.new) }
-        ensures fixed { KeepsFixed self.old self.new }
-        ensures options { KeepsOptions self.old self.new }
+        ensures rest { KeepsFixedAndOptions self.old self.new }
     {
         match how {
             Rename::Exchange => Err(FsError::NotFound),
@@ -158,8 +155,7 @@ impl<R: Rng + Drop> FileSystem<R> {
         requires taken { names_of self.old to.0.items ≡ Some bound.1 }
         ensures renamed { OnOk result (Renames how from.1 to.1 from.0.items to.0.items self.old self.new) }
         ensures refused { OnErr result (Leaves self.old self.new) }
-        ensures fixed { KeepsFixed self.old self.new }
-        ensures options { KeepsOptions self.old self.new }
+        ensures rest { KeepsFixedAndOptions self.old self.new }
     {
         let (moved, was) = bound;
         match how {
@@ -182,10 +178,7 @@ impl<R: Rng + Drop> FileSystem<R> {
     /// Records that a directory is in another one now.
     fn place(&mut self, binding: Binding, directory: u64)
         ensures files { SameFiles self.old self.new }
-        ensures names { KeepsNames self.old self.new }
-        ensures told { KeepsTold self.old self.new }
-        ensures fixed { KeepsFixed self.old self.new }
-        ensures options { KeepsOptions self.old self.new }
+        ensures keeps { KeepsState self.old self.new }
         ensures store { journaled_of self.new ≡ journaled_of self.old }
     {
         if let Some(above) = self.directories.get_mut(&binding.inode) {
@@ -200,13 +193,10 @@ impl<R: Rng + Drop> FileSystem<R> {
         moved: Binding,
     ) -> Result<(), FsError>
         requires bound { names_of self.old from.0.items ≡ Some moved }
-        ensures made { OnOk result (MakesEdit (moves from.0.items to.0.items moved) self.old self.new) }
-        ensures refused { OnErr result (SameNames self.old self.new) }
-        ensures told { OnOk result (AddsTold (moves from.0.items to.0.items moved) self.old self.new) }
-        ensures untold { OnErr result (KeepsTold self.old self.new) }
+        ensures made { OnOk result (Makes (moves from.0.items to.0.items moved) self.old self.new) }
+        ensures refused { OnErr result (Leaves self.old self.new) }
         ensures files { SameFiles self.old self.new }
-        ensures fixed { KeepsFixed self.old self.new }
-        ensures options { KeepsOptions self.old self.new }
+        ensures rest { KeepsFixedAndOptions self.old self.new }
         ensures noted { OnOk result (NotesMove from.1 to.1 from.0.items to.0.items moved self.old self.new) }
     {
         let about = About {
@@ -231,12 +221,9 @@ impl<R: Rng + Drop> FileSystem<R> {
         requires bound { names_of self.old from.0.items ≡ Some moved }
         requires taken { names_of self.old to.0.items ≡ Some was }
         requires differ { was ≢ moved }
-        ensures made { OnOk result (MakesEdit (moves from.0.items to.0.items moved) self.old self.new) }
-        ensures refused { OnErr result (SameNames self.old self.new) }
-        ensures told { OnOk result (AddsTold (moves from.0.items to.0.items moved) self.old self.new) }
-        ensures untold { OnErr result (KeepsTold self.old self.new) }
-        ensures fixed { KeepsFixed self.old self.new }
-        ensures options { KeepsOptions self.old self.new }
+        ensures made { OnOk result (Makes (moves from.0.items to.0.items moved) self.old self.new) }
+        ensures refused { OnErr result (Leaves self.old self.new) }
+        ensures rest { KeepsFixedAndOptions self.old self.new }
         ensures noted { OnOk result (NotesMove from.1 to.1 from.0.items to.0.items moved self.old self.new) }
     {
         self.check_replaces(was, moved)?;
@@ -263,12 +250,9 @@ impl<R: Rng + Drop> FileSystem<R> {
         requires bound { names_of self.old from.0.items ≡ Some moved }
         requires taken { names_of self.old to.0.items ≡ Some was }
         requires differ { was ≢ moved }
-        ensures made { OnOk result (MakesEdit (exchanges from.0.items to.0.items moved was) self.old self.new) }
-        ensures refused { OnErr result (SameNames self.old self.new) }
-        ensures told { OnOk result (AddsTold (exchanges from.0.items to.0.items moved was) self.old self.new) }
-        ensures untold { OnErr result (KeepsTold self.old self.new) }
-        ensures fixed { KeepsFixed self.old self.new }
-        ensures options { KeepsOptions self.old self.new }
+        ensures made { OnOk result (Makes (exchanges from.0.items to.0.items moved was) self.old self.new) }
+        ensures refused { OnErr result (Leaves self.old self.new) }
+        ensures rest { KeepsFixedAndOptions self.old self.new }
         ensures apart { OnOk result (was.kind ≡ Directory → IsNotBelow self.old was.inode from.1) }
         ensures noted { OnOk result (NotesExchange from.1 to.1 from.0.items to.0.items moved was self.old self.new) }
     {

@@ -1,9 +1,11 @@
 //! Syncs of files and of directories.
 ghost use Rattle.std.specs.Prelude.{◌≡◌, ◌<◌, IfOk, OnOk};
 ghost use Rattle.blob_fs.specs.declared.switches.Syncs.TheVariants.{Honest};
-ghost use Rattle.blob_fs.specs.Fixed.{FixesAll, FixesFile, FixesInode, KeepsFixed, KeepsSeen, ListsFiles};
-ghost use Rattle.blob_fs.specs.Files.{KeepsJournal, KeepsNames, KeepsOptions, KeepsTold, SettlesEdits, SettlesSome, SettlesSomeOf, SyncsAll, SyncsData, SyncsDirectory, SyncsFile, SyncsMoved, TellsAndSettles, fresh_inode, journaled_of, syncs_of};
+ghost use Rattle.blob_fs.specs.Fixed.{FixesAll, FixesFile, FixesInode, KeepsSeen, ListsFiles};
+ghost use Rattle.blob_fs.specs.Files.{KeepsJournal, KeepsNames, SettlesEdits, SyncsAll, SyncsData, SyncsDirectory, SyncsFile, SyncsMoved, TellsAndSettles, fresh_inode, journaled_of, syncs_of};
 ghost use Rattle.blob_fs.specs.Noted.{IsUncut};
+ghost use Rattle.blob_fs.specs.States.{KeepsFixedAndOptions, KeepsState};
+ghost use Rattle.blob_fs.specs.Calls.{MaySettle, MaySettleIn};
 ghost use Rattle.blob_journal.specs.Moves.{BindsMoved, TellsAgain};
 
 use crate::error::FsError;
@@ -18,11 +20,9 @@ use rand_core::Rng;
 impl<R: Rng + Drop> FileSystem<R> {
     /// Settles the edits that a sync settles by the profile.
     fn settle_by(&mut self, settles: Settles, synced: Synced) -> Result<(), FsError>
-        ensures names { KeepsNames self.old self.new }
-        ensures some { SettlesSome self.old self.new }
+        ensures some { MaySettle self.old self.new }
         ensures settled { OnOk result (SettlesEdits settles synced self.old self.new) }
-        ensures fixed { KeepsFixed self.old self.new }
-        ensures options { KeepsOptions self.old self.new }
+        ensures rest { KeepsFixedAndOptions self.old self.new }
     {
         settling::<R>();
         bindings();
@@ -36,8 +36,7 @@ impl<R: Rng + Drop> FileSystem<R> {
         ensures names { KeepsNames self.old self.new }
         ensures told { TellsAgain (journaled_of self.old) (journaled_of self.new) }
         ensures bound { OnOk result (BindsMoved directory (journaled_of self.old) (journaled_of self.new)) }
-        ensures fixed { KeepsFixed self.old self.new }
-        ensures options { KeepsOptions self.old self.new }
+        ensures rest { KeepsFixedAndOptions self.old self.new }
     {
         bindings();
         self.store.bind_moved(directory, self.options.edit_rate)?;
@@ -49,8 +48,7 @@ impl<R: Rng + Drop> FileSystem<R> {
         ensures names { KeepsNames self.old self.new }
         ensures some { TellsAndSettles self.old self.new }
         ensures settled { OnOk result (SyncsMoved self.old directory self.new) }
-        ensures fixed { KeepsFixed self.old self.new }
-        ensures options { KeepsOptions self.old self.new }
+        ensures rest { KeepsFixedAndOptions self.old self.new }
     {
         self.bind_moved(directory)?;
         self.settle_by(Settles::Names, Synced::Directory(directory))?;
@@ -59,11 +57,9 @@ impl<R: Rng + Drop> FileSystem<R> {
 
     /// Settles the edits that a sync of a directory settles by the profile.
     fn settle_directory(&mut self, directory: u64) -> Result<(), FsError>
-        ensures names { KeepsNames self.old self.new }
-        ensures some { SettlesSomeOf self.old self.new }
+        ensures some { MaySettleIn self.old self.new }
         ensures settled { OnOk result (SyncsDirectory self.old directory self.new) }
-        ensures fixed { KeepsFixed self.old self.new }
-        ensures options { KeepsOptions self.old self.new }
+        ensures rest { KeepsFixedAndOptions self.old self.new }
     {
         let settles = self.options.profile.settles;
         if settles == Settles::Names {
@@ -89,14 +85,11 @@ impl<R: Rng + Drop> FileSystem<R> {
 
     /// Syncs an inode's bytes. Returns the number of the next edit after its size last changed.
     fn sync_bytes(&mut self, inode: u64) -> Result<u64, FsError>
-        ensures names { KeepsNames self.old self.new }
-        ensures told { KeepsTold self.old self.new }
+        ensures keeps { KeepsState self.old self.new }
         ensures journal { OnOk result (KeepsJournal self.old self.new) }
-        ensures fixed { KeepsFixed self.old self.new }
         ensures fixes { OnOk result (FixesInode inode self.old self.new) }
         ensures seen { OnOk result (KeepsSeen self.old self.new) }
         ensures uncut { OnOk result (IsUncut self.new inode) }
-        ensures options { KeepsOptions self.old self.new }
     {
         let sized = self.sized(inode)?;
         let Some(file) = self.files.get_mut(&inode) else {
@@ -113,10 +106,7 @@ impl<R: Rng + Drop> FileSystem<R> {
 
     /// Returns the error of a sync of a file's bytes that failed. If the options say so, the bytes are dropped.
     fn fail_sync(&mut self, inode: u64, error: Error) -> FsError
-        ensures names { KeepsNames self.old self.new }
-        ensures told { KeepsTold self.old self.new }
-        ensures fixed { KeepsFixed self.old self.new }
-        ensures options { KeepsOptions self.old self.new }
+        ensures { KeepsState self.old self.new }
     {
         if self.options.failed_sync == FailedSync::Drops && matches!(error, Error::Injected) {
             if let Err(error) = self.drop_unsynced(inode) {
@@ -134,12 +124,10 @@ impl<R: Rng + Drop> FileSystem<R> {
     /// settled. After `Injected` with `FailedSync::Drops`, what was unsynced is dropped.
     #[tactic(auto, using(crate::proofs::Settling::settles_kept, crate::proofs::Settling::settles_then, crate::proofs::Settling::settles_from))]
     pub fn sync(&mut self, file: Descriptor) -> Result<(), FsError>
-        ensures names { KeepsNames self.old self.new }
-        ensures some { SettlesSome self.old self.new }
+        ensures some { MaySettle self.old self.new }
         ensures settled { OnOk result (syncs_of self.old ≡ Honest → SyncsFile self.old file self.new) }
-        ensures fixed { KeepsFixed self.old self.new }
+        ensures rest { KeepsFixedAndOptions self.old self.new }
         ensures fixes { OnOk result (syncs_of self.old ≡ Honest → FixesFile self.old file self.new) }
-        ensures options { KeepsOptions self.old self.new }
     {
         settling::<R>();
         self.begin_call()?;
@@ -161,12 +149,10 @@ impl<R: Rng + Drop> FileSystem<R> {
     /// Those of `sync`.
     #[tactic(auto, using(crate::proofs::Settling::settles_kept, crate::proofs::Settling::settles_then, crate::proofs::Settling::settles_from))]
     pub fn sync_data(&mut self, file: Descriptor) -> Result<(), FsError>
-        ensures names { KeepsNames self.old self.new }
-        ensures some { SettlesSome self.old self.new }
+        ensures some { MaySettle self.old self.new }
         ensures settled { OnOk result (syncs_of self.old ≡ Honest → SyncsData self.old file self.new) }
-        ensures fixed { KeepsFixed self.old self.new }
+        ensures rest { KeepsFixedAndOptions self.old self.new }
         ensures fixes { OnOk result (syncs_of self.old ≡ Honest → FixesFile self.old file self.new) }
-        ensures options { KeepsOptions self.old self.new }
     {
         settling::<R>();
         self.begin_call()?;
@@ -188,11 +174,9 @@ impl<R: Rng + Drop> FileSystem<R> {
     /// `NotDirectory`, `NotFound`, `Memory`. Some of the edits may be settled.
     #[tactic(auto, using(crate::proofs::Settling::settles_kept, crate::proofs::Settling::settles_then, crate::proofs::Settling::settles_from))]
     pub fn sync_directory_at(&mut self, directory: u64) -> Result<(), FsError>
-        ensures names { KeepsNames self.old self.new }
-        ensures some { SettlesSomeOf self.old self.new }
+        ensures some { MaySettleIn self.old self.new }
         ensures settled { OnOk result (syncs_of self.old ≡ Honest → SyncsDirectory self.old directory self.new) }
-        ensures fixed { KeepsFixed self.old self.new }
-        ensures options { KeepsOptions self.old self.new }
+        ensures rest { KeepsFixedAndOptions self.old self.new }
     {
         settling::<R>();
         self.begin_call()?;
@@ -211,11 +195,9 @@ impl<R: Rng + Drop> FileSystem<R> {
 
     /// Settles all edits.
     pub(crate) fn settle_names(&mut self) -> Result<(), FsError>
-        ensures names { KeepsNames self.old self.new }
-        ensures some { SettlesSome self.old self.new }
+        ensures some { MaySettle self.old self.new }
         ensures settled { OnOk result (SyncsAll self.old self.new) }
-        ensures fixed { KeepsFixed self.old self.new }
-        ensures options { KeepsOptions self.old self.new }
+        ensures rest { KeepsFixedAndOptions self.old self.new }
     {
         self.settle_by(Settles::All, Synced::Directory(0))
     }
@@ -227,12 +209,10 @@ impl<R: Rng + Drop> FileSystem<R> {
     /// `Injected` of the layer's syncs, `Memory`. What was done until then stays.
     #[tactic(auto, using(crate::proofs::Settling::settles_kept, crate::proofs::Settling::settles_then, crate::proofs::Settling::settles_from))]
     pub fn sync_all(&mut self) -> Result<(), FsError>
-        ensures names { KeepsNames self.old self.new }
-        ensures some { SettlesSome self.old self.new }
+        ensures some { MaySettle self.old self.new }
         ensures settled { OnOk result (syncs_of self.old ≡ Honest → SyncsAll self.old self.new) }
-        ensures fixed { KeepsFixed self.old self.new }
+        ensures rest { KeepsFixedAndOptions self.old self.new }
         ensures fixes { OnOk result (syncs_of self.old ≡ Honest → FixesAll self.old self.new) }
-        ensures options { KeepsOptions self.old self.new }
     {
         settling::<R>();
         self.begin_call()?;
@@ -268,12 +248,10 @@ impl<R: Rng + Drop> FileSystem<R> {
     /// `Memory`. What was done until then stays.
     #[tactic(auto, using(crate::proofs::Settling::settles_kept, crate::proofs::Settling::settles_then, crate::proofs::Settling::settles_from))]
     pub fn settle(&mut self) -> Result<(), FsError>
-        ensures names { KeepsNames self.old self.new }
-        ensures some { SettlesSome self.old self.new }
+        ensures some { MaySettle self.old self.new }
         ensures settled { OnOk result (SyncsAll self.old self.new) }
-        ensures fixed { KeepsFixed self.old self.new }
+        ensures rest { KeepsFixedAndOptions self.old self.new }
         ensures fixes { OnOk result (FixesAll self.old self.new) }
-        ensures options { KeepsOptions self.old self.new }
     {
         settling::<R>();
         self.begin_call()?;

@@ -63,7 +63,7 @@ impl<R: Rng + Drop> FileSystem<R> {
         let inode = self.inode_of(file)?;
         let size = self.size(file)?;
         self.check_room(size, length)?;
-        let (reached, is_failed) = self.draw_truncation(inode, size, length)?;
+        let (reached, is_failed) = self.draw_truncation(size, length)?;
         if length == size && !is_failed {
             return Ok(());
         }

@@ -1,8 +1,8 @@
 //! Files that no name and no descriptor refers to.
 ghost use Rattle.std.specs.Prelude.{◌≡◌, take, true};
 ghost use Rattle.blob_directory.specs.Counts.{NamedAtMost};
-ghost use Rattle.blob_fs.specs.Files.{IsGoneBy, KeepsJournal, KeepsNames, KeepsOptions, KeepsTold, journaled_of, names_of, told_of};
-ghost use Rattle.blob_fs.specs.Fixed.{KeepsFixed};
+ghost use Rattle.blob_fs.specs.States.{KeepsState};
+ghost use Rattle.blob_fs.specs.Files.{IsGoneBy, KeepsJournal, journaled_of, names_of, told_of};
 ghost use Rattle.blob_journal.specs.Bindings.{MayName};
 ghost use Rattle.blob_directory.specs.Settled.{AreSettled};
 
@@ -22,10 +22,7 @@ pub(crate) struct Gone {
 impl<R: Rng + Drop> FileSystem<R> {
     /// Lets a file go if no name and no descriptor refers to it: its bytes don't count any more. `gone` has capacity.
     pub(crate) fn let_go(&mut self, inode: u64)
-        ensures names { KeepsNames self.old self.new }
-        ensures told { KeepsTold self.old self.new }
-        ensures fixed { KeepsFixed self.old self.new }
-        ensures options { KeepsOptions self.old self.new }
+        ensures keeps { KeepsState self.old self.new }
         ensures store { journaled_of self.new ≡ journaled_of self.old }
     {
         bindings();
@@ -60,11 +57,8 @@ impl<R: Rng + Drop> FileSystem<R> {
     /// Removes a file and its blob if it went while the journal had at most this many edits. These are settled.
     fn remove_settled(&mut self, inode: u64, settled: u64)
         requires settled { AreSettled (take settled (told_of self.old)) }
-        ensures names { KeepsNames self.old self.new }
-        ensures told { KeepsTold self.old self.new }
+        ensures keeps { KeepsState self.old self.new }
         ensures journal { KeepsJournal self.old self.new }
-        ensures fixed { KeepsFixed self.old self.new }
-        ensures options { KeepsOptions self.old self.new }
     {
         bindings();
         if self.is_gone_by(inode, settled) {
@@ -74,14 +68,16 @@ impl<R: Rng + Drop> FileSystem<R> {
 
     /// Removes the files that are gone, if all edits from before that are settled. Makes no draw.
     pub(crate) fn remove_gone(&mut self)
-        ensures names { KeepsNames self.old self.new }
-        ensures told { KeepsTold self.old self.new }
+        ensures keeps { KeepsState self.old self.new }
         ensures journal { KeepsJournal self.old self.new }
-        ensures fixed { KeepsFixed self.old self.new }
-        ensures options { KeepsOptions self.old self.new }
     {
         settling::<R>();
         let settled = self.store.settled_edits();
+        if let Some(first) = self.gone.first() {
+            if first.edits > settled {
+                return;
+            }
+        }
         for i in 0..self.gone.len() {
             let Some(gone) = self.gone.get(i).copied() else {
                 break;
@@ -99,11 +95,8 @@ impl<R: Rng + Drop> FileSystem<R> {
     pub(crate) fn remove_file(&mut self, inode: u64)
         requires unnamed { ∥ NamedAtMost (names_of self.old) inode 0 ∥₁ }
         requires unfound { MayName (told_of self.old) inode → ⊥ }
-        ensures names { KeepsNames self.old self.new }
-        ensures told { KeepsTold self.old self.new }
+        ensures keeps { KeepsState self.old self.new }
         ensures journal { KeepsJournal self.old self.new }
-        ensures fixed { KeepsFixed self.old self.new }
-        ensures options { KeepsOptions self.old self.new }
     {
         settling::<R>();
         self.store.set_config(Config::default());

@@ -1,6 +1,5 @@
 //! All files and directories at once, for a reader that looks at the outcome of a test.
-ghost use Rattle.blob_fs.specs.Fixed.{KeepsFixed};
-ghost use Rattle.blob_fs.specs.Files.{KeepsNames, KeepsOptions, KeepsTold};
+ghost use Rattle.blob_fs.specs.States.{KeepsState};
 
 use crate::error::FsError;
 use crate::file_system::{FileSystem, ROOT};
@@ -49,10 +48,7 @@ impl<R: Rng + Drop> FileSystem<R> {
     ///
     /// `NotFound`, `Crashed`, `Memory`.
     pub fn bytes_of(&mut self, inode: u64) -> Result<Vec<u8>, FsError>
-        ensures names { KeepsNames self.old self.new }
-        ensures told { KeepsTold self.old self.new }
-        ensures fixed { KeepsFixed self.old self.new }
-        ensures options { KeepsOptions self.old self.new }
+        ensures { KeepsState self.old self.new }
     {
         self.begin_call()?;
         self.draw_nothing();
@@ -79,10 +75,7 @@ impl<R: Rng + Drop> FileSystem<R> {
     ///
     /// `Crashed`, `Memory`.
     pub fn tree(&mut self) -> Result<Vec<TreeEntry>, FsError>
-        ensures names { KeepsNames self.old self.new }
-        ensures told { KeepsTold self.old self.new }
-        ensures fixed { KeepsFixed self.old self.new }
-        ensures options { KeepsOptions self.old self.new }
+        ensures { KeepsState self.old self.new }
     {
         let mut found = Vec::new(self.alloc);
         let mut left = Vec::new(self.alloc);

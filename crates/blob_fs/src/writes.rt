@@ -6,9 +6,9 @@ ghost use Rattle.blob_draws.specs.Faults.{retention};
 ghost use Rattle.blob_fs.specs.declared.switches.FailedWrite.TheVariants.{ByMode};
 ghost use Rattle.blob_fs.specs.Noted.{ResizesOpen};
 ghost use Rattle.blob_fs.specs.Reads.{AreZeros, Shows, write_some};
+ghost use Rattle.blob_fs.specs.States.{KeepsNamesAndTold};
 ghost use Rattle.blob_fs.specs.Writes.{leaves_zeros};
 ghost use Rattle.blob_journal.specs.Fixed.{ChangesOpen, IsBeside};
-ghost use Rattle.blob_journal.specs.Keeping.{KeepsTable, KeepsTold};
 ghost use Rattle.blob_journal.specs.Settling.{KeepsUnsettled};
 ghost use Rattle.blob_journal.specs.Writes.{RecordsWrite};
 
@@ -29,6 +29,28 @@ pub(crate) fn with_writes(faults: &Config, failure_rate: Probability, writes: Wr
         failure_rate,
         ..writes
     })
+}
+
+/// Returns the faults of a write of which it is drawn whether it fails.
+pub(crate) fn decided(
+    faults: &Config,
+    how: FailedWrite,
+    writes: WriteConfig,
+    is_failed: bool,
+) -> Config {
+    if !is_failed {
+        return with_writes(faults, Probability::ZERO, writes);
+    }
+    match how {
+        FailedWrite::ByMode => with_writes(faults, Probability::ONE, writes),
+        FailedWrite::Prefix => {
+            let prefix = WriteConfig {
+                mode: PartialWriteMode::Prefix,
+                ..writes
+            };
+            with_writes(faults, Probability::ONE, prefix)
+        }
+    }
 }
 
 /// The bytes of a page of the kernel's cache.
@@ -56,9 +78,7 @@ pub(crate) fn zeros_between(alloc: Global, from: u64, to: u64) -> Result<Vec<u8>
     ensures count { IfOk result (λ zeros. length zeros.items ≡ to - from) }
     ensures zeros { IfOk result (λ zeros. AreZeros zeros.items) }
 {
-    let mut zeros = Vec::new(alloc);
-    zeros.resize(to.saturating_sub(from) as usize, 0)?;
-    Ok(zeros)
+    Vec::from_elem(alloc, 0, to.saturating_sub(from) as usize)
 }
 
 /// Writes zeros, unsynced. If there are none, it does nothing.
@@ -68,8 +88,7 @@ fn put_zeros<R: Rng + Drop>(
     offset: u64,
     zeros: &[u8],
 ) -> Result<(), Error>
-    ensures names { KeepsTable store.old store.new }
-    ensures told { KeepsTold store.old store.new }
+    ensures keeps { KeepsNamesAndTold store.old store.new }
     ensures unsettled { OnOk result (KeepsUnsettled store.old store.new) }
     ensures none { length zeros.now ≡ 0 → (store.new ≡ store.old) × (blob.new ≡ blob.old) }
     ensures shows { OnOk result (Shows store.old blob.old (λ seen. write_some seen offset zeros.now) blob.new) }
@@ -91,8 +110,7 @@ pub(crate) fn write_grown<R: Rng + Drop>(
     bytes: (u64, &[u8]),
 ) -> Result<(), Error>
     requires { size_of blob.old.blob ≤ zeros.0 }
-    ensures names { KeepsTable store.old store.new }
-    ensures told { KeepsTold store.old store.new }
+    ensures keeps { KeepsNamesAndTold store.old store.new }
     ensures recorded { OnOk result (how ≡ ByMode → length zeros.entry.1.now ≡ 0
         → RecordsWrite bytes.entry.0 bytes.entry.1.now store.old blob.old store.new blob.new) }
     ensures shows { OnOk result (how ≡ ByMode
@@ -110,8 +128,7 @@ pub(crate) fn cut_page<R: Rng + Drop>(
     length: u64,
     zeros: &[u8],
 ) -> Result<(), Error>
-    ensures names { KeepsTable store.old store.new }
-    ensures told { KeepsTold store.old store.new }
+    ensures keeps { KeepsNamesAndTold store.old store.new }
     ensures unsettled { OnOk result (KeepsUnsettled store.old store.new) }
     ensures sized { OnOk result (ResizesOpen length store.old blob.old blob.new) }
     ensures still { ChangesOpen (λ at. at < length) store.old blob.old store.new blob.new }
@@ -147,8 +164,7 @@ pub(crate) fn write_blob<R: Rng + Drop>(
     offset: u64,
     bytes: &[u8],
 ) -> Result<(), Error>
-    ensures names { KeepsTable store.old store.new }
-    ensures told { KeepsTold store.old store.new }
+    ensures keeps { KeepsNamesAndTold store.old store.new }
     ensures recorded { OnOk result (how ≡ ByMode → RecordsWrite offset bytes.now store.old blob.old store.new blob.new) }
     ensures shows { OnOk result (how ≡ ByMode → Shows store.old blob.old (λ seen. write_live seen offset bytes.now) blob.new) }
     ensures still { ChangesOpen (IsBeside offset (length bytes.now)) store.old blob.old store.new blob.new }
@@ -159,8 +175,8 @@ pub(crate) fn write_blob<R: Rng + Drop>(
     }
 }
 
-/// Writes bytes, unsynced. An empty write draws whether the write fails. If it does, a prefix of the bytes is written, as by a
-/// failed write in the mode `Prefix`.
+/// Writes bytes, unsynced. First it draws whether the write fails. If it does, a prefix of the bytes is written, as by a failed write
+/// in the mode `Prefix`.
 fn write_by_prefix<R: Rng + Drop>(
     blob: &mut FileBlob,
     store: &mut Journaled<R>,
@@ -168,28 +184,13 @@ fn write_by_prefix<R: Rng + Drop>(
     offset: u64,
     bytes: &[u8],
 ) -> Result<(), Error>
-    ensures names { KeepsTable store.old store.new }
-    ensures told { KeepsTold store.old store.new }
+    ensures keeps { KeepsNamesAndTold store.old store.new }
     ensures still { ChangesOpen (IsBeside offset (length bytes.now)) store.old blob.old store.new blob.new }
 {
     let Some(writes) = faults.write_rate else {
         return store.write_file(blob, offset, bytes);
     };
-    let draws = WriteConfig {
-        retention_rate: Probability::ZERO,
-        ..writes
-    };
-    store.set_config(with_writes(faults, writes.failure_rate, draws));
-    let drawn = store.write_file(blob, 0, &[]);
-    let config = if drawn.is_ok() {
-        with_writes(faults, Probability::ZERO, writes)
-    } else {
-        let prefix = WriteConfig {
-            mode: PartialWriteMode::Prefix,
-            ..writes
-        };
-        with_writes(faults, Probability::ONE, prefix)
-    };
-    store.set_config(config);
+    let is_failed = store.draw(writes.failure_rate);
+    store.set_config(decided(faults, FailedWrite::Prefix, writes, is_failed));
     store.write_file(blob, offset, bytes)
 }

@@ -1,6 +1,7 @@
 //! Edits of the names, each in the journal, and the syncs that settle them.
 ghost use Rattle.std.specs.Prelude.{◌≡◌, None, [], IfOk, OnOk, OnErr, length, take};
 ghost use Rattle.blob_memory.specs.Store.{place};
+ghost use Rattle.blob_model.specs.Rates.{sample};
 ghost use Rattle.blob_faulty.specs.Wrapper.{config_of, inside, next_write_of};
 ghost use Rattle.blob_directory.specs.Names.{Same, edit_of, resizes};
 ghost use Rattle.blob_directory.specs.Settled.{AreSettled};
@@ -111,6 +112,19 @@ impl<R: Rng + Drop> Journaled<R> {
         ensures still { KeepsOpen self.old self.new }
     {
         self.store.replace_rng(rng)
+    }
+
+    /// Draws a rate once, as a call on a file does, and returns whether it is true. Nothing else changes.
+    pub fn draw(&mut self, rate: Probability) -> bool
+        ensures drawn { (result, R.stream (generator_in self.new)) ≡ sample rate (R.stream (generator_in self.old)) }
+        ensures set { self.new ≡ with_generator self.old (generator_in self.new) }
+        ensures names { KeepsTable self.old self.new }
+        ensures journal { KeepsJournal self.old self.new }
+        ensures crashes { SameCrashes self.old self.new }
+        ensures log { KeepsLog self.old self.new }
+        ensures still { KeepsOpen self.old self.new }
+    {
+        self.store.draw(rate)
     }
 
     /// Replaces the fault rates of calls on files. What is pending keeps the mode and the rate of its issue.

@@ -3,6 +3,7 @@ use blob_base::{Probability, SectorSize};
 use blob_faulty::{Config, PartialWriteMode, ResizeConfig, Storage as Wrapper, WriteConfig};
 use blob_lab::ScriptedRng;
 use blob_memory::Storage as Memory;
+use std::test::Fail;
 
 /// No write fails; a crash keeps what half of the draws choose.
 fn halves(mode: PartialWriteMode) -> WriteConfig {
@@ -56,4 +57,21 @@ pub fn number(mode: PartialWriteMode) -> u64 {
 
 pub fn replace_rng(store: &mut Wrapper<Memory, ScriptedRng>, rng: ScriptedRng) -> ScriptedRng {
     store.replace_rng(rng)
+}
+
+/// A rate between takes a word, 0 and 1 take none.
+#[test]
+fn draws_of_a_rate(rt: HostRuntime) -> Result<(), Fail> {
+    let alloc = rt.alloc();
+    let mut words = Vec::new(alloc);
+    words.push(0)?;
+    words.push(u64::MAX)?;
+    let rng = ScriptedRng::new(words);
+    let mut store = Wrapper::new(alloc, Memory::new(alloc), rng, Config::default());
+    let half = Probability::new(1, 2).unwrap_or(Probability::ZERO);
+    assert!(rt; store.draw(Probability::ONE) && !store.draw(Probability::ZERO));
+    assert!(rt; store.draw(half));
+    assert!(rt; !store.draw(half));
+    assert!(rt; store.rng().left() == Some(0));
+    Ok(())
 }

@@ -1,9 +1,10 @@
-use Rattle.std.proofs.Common.{◌≡◌, ◌∷◌, ℕ, [], List, subst, ◌∙◌}
+use Rattle.std.proofs.Common.{◌≡◌, ◌∷◌, ℕ, [], List, subst}
 use Rattle.std.specs.Map.Iter.{deref_pair}
 use Rattle.std.proofs.lemmas.Map.Iter.{rest_all, rest_more}
 use Rattle.blob_journal.specs.Fixed.{IsOpen}
 use Rattle.blob_fs.proofs.Counting.{CountsAllBut, counts_all, counts_more}
 use Rattle.blob_fs.proofs.Fixing.{open_more, whole_more}
+use Rattle.blob_fs.proofs.States.{store_twice}
 use Rattle.blob_fs.proofs.Tracked.{present_more}
 use Rattle.blob_fs.proofs.Recovering.{AreLinked, Ascend, Stands, ascend_rest, ends, known_more, linked_first, linked_rest, only_more, takes}
 use Rattle.std.specs.Prelude.{Err}
@@ -28,14 +29,13 @@ loop-inode-preserved g c =
     let file = c.in_ok-file.file in
     let own : IsOpen c.reopen.new.store k file.blob = laws.is_open c.reopen.new.store k file.blob _ c.in_ok-file.ensures.left.left.has in
     record {
-      names = c.reopen.ensures.names ∙ i.names;
+      keeps = store_twice i.keeps c.reopen.ensures.keeps;
       files = λ r. c.reopen.ensures.files (i.files r);
       ascend = ascend_rest c.loop-inode.inode-iterator rest (k, links) is i.ascend;
       counted = linked_rest tree k links rest counted;
       left = takes j old tree c.args.kept.now c.args.loss.now laws.current laws.stays laws.twice k links rest c.loop-inode.store c.reopen.new.store c.loop-inode.files c.put.new.files c.in_ok-file.file
           (subst Ascend is i.ascend) c.in_ok-put.ensures.updated.0 c.in_ok-file.ensures.others c.in_ok-file.ensures.left
           (subst (λ (l : List (ℕ × ℕ)). Stands j old tree c.args.kept.now c.args.loss.now l c.loop-inode.store c.loop-inode.files) is i.left);
-      told = c.reopen.ensures.told ∙ i.told;
       handles = λ inode file is. c.reopen.ensures.handles inode file (i.handles inode file is);
       linked = only_more tree c.loop-inode.files c.put.new.files k c.in_ok-file.file c.in_ok-put.ensures.updated (linked_first tree k links rest counted) i.linked;
       opened = open_more c.loop-inode.store c.reopen.new.store c.loop-inode.files c.put.new.files k file c.in_ok-put.ensures.updated.0 c.in_ok-file.ensures.still i.opened own;

@@ -15,16 +15,16 @@ returns-in-LookUp g c = performed _ _ _ c.args.self.now c.args.self.now (ap act_
 pub returns-in-Commit : goal.returns-in-Commit
 returns-in-Commit g c =
     let e = c.commit.ensures in
-    performs _ _ _ _ c.args.self.now c.commit.new.self (ap act_of c.in-Commit.is) c.done.ensures e.options
-    (commits c.commit.result c.args.self.now c.commit.new.self e.names e.committed e.some e.fixed)
+    performs _ _ _ _ c.args.self.now c.commit.new.self (ap act_of c.in-Commit.is) c.done.ensures e.rest.options
+    (commits c.commit.result c.args.self.now c.commit.new.self e.names e.committed e.some e.rest.fixed)
 
 pub returns-in-Crash : goal.returns-in-Crash
 returns-in-Crash g c =
     let e = c.crash.ensures in
     performs _ _ _ _ c.args.self.now c.crash.new.self (ap act_of c.in-Crash.is) c.crashed.ensures e.options
-    (crashes c.crash.result c.args.self.now c.crash.new.self e.found e.kept e.told e.bytes e.known e.edits e.orphans e.fixed e.fixes e.places e.refused e.untold e.errors)
+    (crashes c.crash.result c.args.self.now c.crash.new.self e.found e.kept e.told e.bytes e.known e.edits e.orphans e.fixed e.fixes e.places e.refused e.errors)
 
 pub returns-in-Tree : goal.returns-in-Tree
 returns-in-Tree g c =
     performs _ _ _ _ c.args.self.now c.tree.new.self (ap act_of c.in-Tree.is) c.walked.ensures c.tree.ensures.options
-    (walks c.tree.result c.args.self.now c.tree.new.self c.tree.ensures.names c.tree.ensures.told c.tree.ensures.fixed)
+    (walks c.tree.result c.args.self.now c.tree.new.self c.tree.ensures)

@@ -1,4 +1,4 @@
-use Rattle.std.proofs.Common.{◌≤◌, arith, sym}
+use Rattle.std.proofs.Common.{◌≤◌, arith, refl, sym}
 use Rattle.blob_journal.specs.Keeping.{names_in}
 use Rattle.blob_fs.proofs.Fixed.{contents_self, fixed_after, opened_store}
 use Rattle.blob_fs.proofs.Named.{named_names}
@@ -15,8 +15,8 @@ invariant_of-self g c =
       tracked = tracked_begun c.bindings.ensures.within_given c.begin_anew.result fs.store c.begin_anew.new.self fs.files c.begin_anew.ensures.names c.begin_anew.ensures.told c.begin_anew.ensures.untold named fs.tracked;
     }
 
-pub returns-clause-fixed : goal.returns-clause-fixed
-returns-clause-fixed g c =
+pub returns-clause-rest : goal.returns-clause-rest
+returns-clause-rest g c =
     let fs = c.args.self.now in
     let more : fs.next_inode ≤ fs.next_inode = omega arith in
-    fixed_after fs _ more (contents_self fs.files) c.begin_anew.ensures.still
+    record { fixed = fixed_after fs _ more (contents_self fs.files) c.begin_anew.ensures.still; options = refl }

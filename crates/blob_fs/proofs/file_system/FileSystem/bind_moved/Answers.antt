@@ -1,4 +1,4 @@
-use Rattle.std.proofs.Common.{◌≤◌, arith}
+use Rattle.std.proofs.Common.{◌≤◌, arith, refl}
 use Rattle.blob_fs.proofs.Fixed.{contents_self, fixed_after, opened_store}
 use Rattle.blob_fs.proofs.Named.{named_store}
 use Rattle.blob_fs.proofs.Tracked.{tracked_again}
@@ -12,8 +12,8 @@ invariant_of-self g c = record {
       c.args.self.now.store c.bind_moved.new.self c.args.self.now.files c.bind_moved.ensures.names c.bind_moved.ensures.told c.args.self.now.named c.args.self.now.tracked;
 }
 
-pub returns-clause-fixed : goal.returns-clause-fixed
-returns-clause-fixed g c =
+pub returns-clause-rest : goal.returns-clause-rest
+returns-clause-rest g c =
     let fs = c.args.self.now in
     let more : fs.next_inode ≤ fs.next_inode = omega arith in
-    fixed_after fs _ more (contents_self fs.files) c.bind_moved.ensures.still
+    record { fixed = fixed_after fs _ more (contents_self fs.files) c.bind_moved.ensures.still; options = refl }

@@ -1,4 +1,4 @@
-use Rattle.blob_fs.proofs.Fixed.{fixed_twice}
+use Rattle.blob_fs.proofs.States.{rest_before, rest_twice}
 use Rattle.blob_fs.proofs.file_system.FileSystem.commit.Goals as goal
 
 pub returns-clause-committed : goal.returns-clause-committed
@@ -8,11 +8,11 @@ returns-clause-committed g c = record {
   begun = c.in_ok-begin_journal.ensures.told;
 }
 
-pub returns-clause-fixed : goal.returns-clause-fixed
-returns-clause-fixed g c = fixed_twice c.args.self.now c.settle_names.new.self c.begin_journal.new.self (fixed_twice c.args.self.now c.begin_call.new.self c.settle_names.new.self c.begin_call.ensures.fixed c.settle_names.ensures.fixed) c.begin_journal.ensures.fixed
+pub returns-clause-rest : goal.returns-clause-rest
+returns-clause-rest g c = rest_before c.begin_call.ensures.keeps (rest_twice c.settle_names.ensures.rest c.begin_journal.ensures.rest)
 
-pub returns-in_err-settle_names-clause-fixed : goal.returns-in_err-settle_names-clause-fixed
-returns-in_err-settle_names-clause-fixed g c = fixed_twice c.args.self.now c.begin_call.new.self c.settle_names.new.self c.begin_call.ensures.fixed c.settle_names.ensures.fixed
+pub returns-in_err-settle_names-clause-rest : goal.returns-in_err-settle_names-clause-rest
+returns-in_err-settle_names-clause-rest g c = rest_before c.begin_call.ensures.keeps c.settle_names.ensures.rest
 
-pub returns-in_err-begin_journal-clause-fixed : goal.returns-in_err-begin_journal-clause-fixed
-returns-in_err-begin_journal-clause-fixed g c = fixed_twice c.args.self.now c.settle_names.new.self c.begin_journal.new.self (fixed_twice c.args.self.now c.begin_call.new.self c.settle_names.new.self c.begin_call.ensures.fixed c.settle_names.ensures.fixed) c.begin_journal.ensures.fixed
+pub returns-in_err-begin_journal-clause-rest : goal.returns-in_err-begin_journal-clause-rest
+returns-in_err-begin_journal-clause-rest g c = rest_before c.begin_call.ensures.keeps (rest_twice c.settle_names.ensures.rest c.begin_journal.ensures.rest)

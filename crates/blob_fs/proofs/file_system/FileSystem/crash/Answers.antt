@@ -18,8 +18,6 @@ use Rattle.blob_fs.specs.Bytes.{HasBytes, bytes_found, bytes_left, unsettled_num
 use Rattle.blob_fs.specs.Truncations.{lost_of}
 use Rattle.blob_fs.proofs.Crashed.{finds_byte}
 use Rattle.blob_fs.proofs.Fixed.{opened_store, some_same}
-use Rattle.blob_fs.proofs.Named.{named_store}
-use Rattle.blob_fs.proofs.Tracked.{tracked_store}
 use Rattle.std.proofs.Common.{◌≤◌, arith, length}
 use Rattle.blob_draws.specs.Rows.{rows_of}
 use Rattle.blob_journal.specs.Journals.{store_of}
@@ -27,6 +25,7 @@ use Rattle.blob_fs.specs.declared.crash.Place.{Place}
 use Rattle.blob_fs.specs.Places.{FindsPlaces}
 use Rattle.blob_fs.proofs.CrashRows.{rows_fit, rows_found}
 use Rattle.blob_fs.specs.Errors.{next_number}
+use Rattle.blob_fs.proofs.Standing.{standing_store}
 use Rattle.blob_fs.proofs.file_system.FileSystem.crash.Goals as goal
 
 pub returns-clause-found : goal.returns-clause-found
@@ -99,18 +98,10 @@ returns-clause-fixed g c = λ name inode at byte below named f.
     }
 
 pub invariant_of-self : goal.invariant_of-self
-invariant_of-self g c = record {
-  opened = opened_store c.args.self.now.store c.crash.new.self c.args.self.now.files c.crash.ensures.still c.args.self.now.opened;
-  named = named_store c.args.self.now.store c.crash.new.self c.args.self.now.files c.crash.ensures.names c.args.self.now.named;
-  tracked = tracked_store c.args.self.now.store c.crash.new.self c.args.self.now.files c.crash.ensures.names c.crash.ensures.told c.args.self.now.tracked;
-}
+invariant_of-self g c = standing_store c.args.self.now c.crash.new.self c.crash.ensures.still c.crash.ensures.names c.crash.ensures.told
 
 pub invariant_of-self-2 : goal.invariant_of-self-2
-invariant_of-self-2 g c = record {
-  opened = opened_store c.args.self.now.store c.crash.new.self c.args.self.now.files c.crash.ensures.still c.args.self.now.opened;
-  named = named_store c.args.self.now.store c.crash.new.self c.args.self.now.files c.crash.ensures.names c.args.self.now.named;
-  tracked = tracked_store c.args.self.now.store c.crash.new.self c.args.self.now.files c.crash.ensures.names c.crash.ensures.told c.args.self.now.tracked;
-}
+invariant_of-self-2 g c = standing_store c.args.self.now c.crash.new.self c.crash.ensures.still c.crash.ensures.names c.crash.ensures.told
 
 pub returns-clause-fixes : goal.returns-clause-fixes
 returns-clause-fixes g c = λ inode at byte below numbered f.

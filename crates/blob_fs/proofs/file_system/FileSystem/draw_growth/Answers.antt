@@ -1,24 +1,19 @@
 use Rattle.std.proofs.Common.{◌≤◌, arith, ◌∙◌}
 use Rattle.blob_fs.proofs.Drawing.{crashes_twice}
-use Rattle.blob_fs.proofs.Fixed.{contents_self, fixed_after, fixed_twice, opened_store}
-use Rattle.blob_fs.proofs.Named.{named_store}
-use Rattle.blob_fs.proofs.Tracked.{tracked_store}
+use Rattle.blob_fs.proofs.Fixed.{contents_self, fixed_after, fixed_twice}
+use Rattle.blob_fs.proofs.Standing.{standing_store}
 use Rattle.blob_fs.proofs.file_system.FileSystem.draw_growth.Goals as goal
 
 pub invariant_of-self : goal.invariant_of-self
 invariant_of-self g c =
-    let one = c.draws.new.self in
-    record {
-      opened = opened_store one.store c.set_config.new.self one.files c.set_config.ensures.still one.opened;
-      named = named_store one.store c.set_config.new.self one.files c.set_config.ensures.names one.named;
-      tracked = tracked_store one.store c.set_config.new.self one.files c.set_config.ensures.names c.set_config.ensures.journal.told one.tracked;
-    }
+    let one = c.draws-is_failed.new.self in
+    standing_store one c.set_config.new.self c.set_config.ensures.still c.set_config.ensures.names c.set_config.ensures.journal.told
 
 pub returns-clause-drawn : goal.returns-clause-drawn
 returns-clause-drawn g c =
     let fs = c.args.self.now in
-    let one = c.draws.new.self in
-    let drawn = c.draws.ensures in
+    let one = c.draws-is_failed.new.self in
+    let drawn = c.draws-is_failed.ensures in
     let more : one.next_inode ≤ one.next_inode = omega arith in
     record {
       files = record { files = drawn.files.files; opens = drawn.files.opens; options = drawn.files.options };

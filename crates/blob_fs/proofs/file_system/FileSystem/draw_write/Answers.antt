@@ -1,18 +1,13 @@
 use Rattle.std.proofs.Common.{◌≤◌, arith, ◌∙◌}
 use Rattle.blob_fs.proofs.Drawing.{crashes_twice}
-use Rattle.blob_fs.proofs.Fixed.{contents_self, fixed_after, fixed_twice, opened_store}
-use Rattle.blob_fs.proofs.Named.{named_store}
-use Rattle.blob_fs.proofs.Tracked.{tracked_store}
+use Rattle.blob_fs.proofs.Fixed.{contents_self, fixed_after, fixed_twice}
+use Rattle.blob_fs.proofs.Standing.{standing_store}
 use Rattle.blob_fs.proofs.file_system.FileSystem.draw_write.Goals as goal
 
 pub invariant_of-self : goal.invariant_of-self
 invariant_of-self g c =
     let one = c.draws.new.self in
-    record {
-      opened = opened_store one.store c.set_config.new.self one.files c.set_config.ensures.still one.opened;
-      named = named_store one.store c.set_config.new.self one.files c.set_config.ensures.names one.named;
-      tracked = tracked_store one.store c.set_config.new.self one.files c.set_config.ensures.names c.set_config.ensures.journal.told one.tracked;
-    }
+    standing_store one c.set_config.new.self c.set_config.ensures.still c.set_config.ensures.names c.set_config.ensures.journal.told
 
 pub returns-clause-drawn : goal.returns-clause-drawn
 returns-clause-drawn g c =

@@ -3,9 +3,10 @@ use Rattle.blob_directory.specs.Counts.{NamedAtMost}
 use Rattle.blob_fs.specs.Files.{names_of}
 use Rattle.blob_fs.specs.Named.{links_in}
 use Rattle.blob_fs.specs.declared.file_system.File.{File}
-use Rattle.blob_fs.proofs.Fixed.{opened_none, opened_through, sets_through}
-use Rattle.blob_fs.proofs.Named.{links_less, named_none, named_set}
-use Rattle.blob_fs.proofs.Tracked.{tracked_none, tracked_through}
+use Rattle.blob_fs.proofs.Fixed.{opened_through, sets_through}
+use Rattle.blob_fs.proofs.Named.{links_less, named_set}
+use Rattle.blob_fs.proofs.Tracked.{tracked_through}
+use Rattle.blob_fs.proofs.Standing.{standing_none}
 use Rattle.blob_fs.proofs.file_system.FileSystem.drop_name.Goals as goal
 
 pub invariant_of-self : goal.invariant_of-self
@@ -24,8 +25,4 @@ invariant_of-self g c =
     }
 
 pub invariant_of-self-in_default : goal.invariant_of-self-in_default
-invariant_of-self-in_default g c = record {
-  opened = opened_none c.args.self.now.store c.args.self.now.files _ c.get_mut.follows.holds-at-none c.args.self.now.opened;
-  named = named_none c.args.self.now.store c.args.self.now.files _ c.get_mut.follows.holds-at-none c.args.self.now.named;
-  tracked = tracked_none c.args.self.now.store c.args.self.now.files _ c.get_mut.follows.holds-at-none c.args.self.now.tracked;
-}
+invariant_of-self-in_default g c = standing_none c.args.self.now _ c.get_mut.follows.holds-at-none

@@ -3,10 +3,12 @@ use Rattle.std.specs.Prelude.{All}
 use Rattle.blob_fs.specs.declared.truncation.Truncation.{Truncation}
 use Rattle.blob_journal.specs.Fixed.{KeepsOpen}
 use Rattle.blob_fs.specs.declared.file_system.File.{File}
-use Rattle.blob_fs.proofs.Fixed.{all_none, contents_same, contents_through, fixed_after, opened_after, sets_through, still_twice}
+use Rattle.blob_fs.proofs.Fixed.{all_none, contents_same, contents_through, opened_after, sets_through, still_twice}
 use Rattle.blob_fs.proofs.Syncing.{fixed_again, opened_again, reopens_after}
 use Rattle.blob_fs.proofs.Named.{at_most_self, links_same, links_set, named_after}
 use Rattle.blob_fs.proofs.Tracked.{freed_same, freed_set, tracked_after}
+use Rattle.blob_fs.proofs.States.{keeps_changed}
+use Rattle.blob_fs.proofs.Standing.{standing_lent}
 use Rattle.blob_fs.proofs.file_system.FileSystem.drop_unsynced.Goals as goal
 
 pub invariant_of-self : goal.invariant_of-self
@@ -23,22 +25,17 @@ invariant_of-self-in-Break-1 g c =
     let fs = c.args.self.now in
     let file = c.as_mut-file.result.now in
     let there = ap Some c.as_mut-file.ensures.value ∙ c.in-Some.ensures.value in
-    record {
-      opened = opened_after fs.store c.shown_bytes.new.store fs.files (c.get_mut.follows.lender file)
-          (contents_through fs.files (c.get_mut.follows.lender file) c.args.inode file file there (c.get_mut.follows.holds file) (record { blob = refl; synced = refl; truncations = refl }))
-          (still_twice fs.store c.set_config.new.self c.shown_bytes.new.store c.set_config.ensures.still c.shown_bytes.ensures.still) fs.opened;
-      named = named_after fs.store c.shown_bytes.new.store fs.files (c.get_mut.follows.lender file) (c.shown_bytes.ensures.names ∙ c.set_config.ensures.names)
-          (links_set fs.files (c.get_mut.follows.lender file) c.args.inode file file there
-          (sets_through fs.files (c.get_mut.follows.lender file) c.args.inode file file there (c.get_mut.follows.holds file)) (at_most_self _)) fs.named;
-      tracked = tracked_after fs.store c.shown_bytes.new.store fs.files (c.get_mut.follows.lender file) (c.shown_bytes.ensures.names ∙ c.set_config.ensures.names) (c.shown_bytes.ensures.told ∙ c.set_config.ensures.journal.told) (freed_set fs.files (c.get_mut.follows.lender file) c.args.inode file file there (sets_through fs.files (c.get_mut.follows.lender file) c.args.inode file file there (c.get_mut.follows.holds file)) refl) fs.tracked;
-    }
+    standing_lent fs c.shown_bytes.new.store (c.get_mut.follows.lender file) c.args.inode file file there (c.get_mut.follows.holds file) (record { blob = refl; synced = refl; truncations = refl }) (at_most_self _) refl
+    (still_twice fs.store c.set_config.new.self c.shown_bytes.new.store c.set_config.ensures.still c.shown_bytes.ensures.still)
+    (c.shown_bytes.ensures.keeps.names ∙ c.set_config.ensures.names) (c.shown_bytes.ensures.keeps.told ∙ c.set_config.ensures.journal.told)
 
-pub returns-in_err-shown-clause-fixed : goal.returns-in_err-shown-clause-fixed
-returns-in_err-shown-clause-fixed g c =
+pub returns-in_err-shown : goal.returns-in_err-shown
+returns-in_err-shown g c =
     let fs = c.args.self.now in
     let file = c.as_mut-file.result.now in
-    fixed_after fs _ (omega arith)
+    keeps_changed fs _
     (contents_through fs.files (c.get_mut.follows.lender file) c.args.inode file file (ap Some c.as_mut-file.ensures.value ∙ c.in-Some.ensures.value) (c.get_mut.follows.holds file) (record { blob = refl; synced = refl; truncations = refl }))
+    refl refl (c.shown_bytes.ensures.keeps.names ∙ c.set_config.ensures.names) (c.shown_bytes.ensures.keeps.told ∙ c.set_config.ensures.journal.told)
     (still_twice fs.store c.set_config.new.self c.shown_bytes.new.store c.set_config.ensures.still c.shown_bytes.ensures.still)
 
 pub invariant_of-self-in-Break-branch-2 : goal.invariant_of-self-in-Break-branch-2
@@ -47,15 +44,9 @@ invariant_of-self-in-Break-branch-2 g c =
     let file = c.as_mut-file.result.now in
     let there = ap Some c.as_mut-file.ensures.value ∙ c.in-Some.ensures.value in
     let shown : KeepsOpen fs.store c.shown_bytes.new.store = still_twice fs.store c.set_config.new.self c.shown_bytes.new.store c.set_config.ensures.still c.shown_bytes.ensures.still in
-    record {
-      opened = opened_after fs.store c.reopen_file.new.self fs.files (c.get_mut.follows.lender file)
-          (contents_through fs.files (c.get_mut.follows.lender file) c.args.inode file file there (c.get_mut.follows.holds file) (record { blob = refl; synced = refl; truncations = refl }))
-          (still_twice fs.store c.shown_bytes.new.store c.reopen_file.new.self shown c.reopen_file.ensures.still) fs.opened;
-      named = named_after fs.store c.reopen_file.new.self fs.files (c.get_mut.follows.lender file) (c.reopen_file.ensures.names ∙ c.shown_bytes.ensures.names ∙ c.set_config.ensures.names)
-          (links_set fs.files (c.get_mut.follows.lender file) c.args.inode file file there
-          (sets_through fs.files (c.get_mut.follows.lender file) c.args.inode file file there (c.get_mut.follows.holds file)) (at_most_self _)) fs.named;
-      tracked = tracked_after fs.store c.reopen_file.new.self fs.files (c.get_mut.follows.lender file) (c.reopen_file.ensures.names ∙ c.shown_bytes.ensures.names ∙ c.set_config.ensures.names) (c.reopen_file.ensures.told ∙ c.shown_bytes.ensures.told ∙ c.set_config.ensures.journal.told) (freed_set fs.files (c.get_mut.follows.lender file) c.args.inode file file there (sets_through fs.files (c.get_mut.follows.lender file) c.args.inode file file there (c.get_mut.follows.holds file)) refl) fs.tracked;
-    }
+    standing_lent fs c.reopen_file.new.self (c.get_mut.follows.lender file) c.args.inode file file there (c.get_mut.follows.holds file) (record { blob = refl; synced = refl; truncations = refl }) (at_most_self _) refl
+    (still_twice fs.store c.shown_bytes.new.store c.reopen_file.new.self shown c.reopen_file.ensures.still)
+    (c.reopen_file.ensures.names ∙ c.shown_bytes.ensures.keeps.names ∙ c.set_config.ensures.names) (c.reopen_file.ensures.told ∙ c.shown_bytes.ensures.keeps.told ∙ c.set_config.ensures.journal.told)
 
 pub invariant_of-self-2 : goal.invariant_of-self-2
 invariant_of-self-2 g c =
@@ -70,22 +61,27 @@ invariant_of-self-2 g c =
           (still_twice fs.store c.shown_bytes.new.store c.reopen_file.new.self shown c.reopen_file.ensures.still)
           (reopens_after fs.store c.shown_bytes.new.store c.reopen_file.new.self c.args.inode new.blob shown c.in_ok-file.ensures.reopened)
           fs.opened;
-      named = named_after fs.store c.reopen_file.new.self fs.files (c.get_mut.follows.lender new) (c.reopen_file.ensures.names ∙ c.shown_bytes.ensures.names ∙ c.set_config.ensures.names)
+      named = named_after fs.store c.reopen_file.new.self fs.files (c.get_mut.follows.lender new) (c.reopen_file.ensures.names ∙ c.shown_bytes.ensures.keeps.names ∙ c.set_config.ensures.names)
           (links_set fs.files (c.get_mut.follows.lender new) c.args.inode file new there
           (sets_through fs.files (c.get_mut.follows.lender new) c.args.inode file new there (c.get_mut.follows.holds new)) (at_most_self _)) fs.named;
-      tracked = tracked_after fs.store c.reopen_file.new.self fs.files (c.get_mut.follows.lender new) (c.reopen_file.ensures.names ∙ c.shown_bytes.ensures.names ∙ c.set_config.ensures.names) (c.reopen_file.ensures.told ∙ c.shown_bytes.ensures.told ∙ c.set_config.ensures.journal.told) (freed_set fs.files (c.get_mut.follows.lender new) c.args.inode file new there (sets_through fs.files (c.get_mut.follows.lender new) c.args.inode file new there (c.get_mut.follows.holds new)) refl) fs.tracked;
+      tracked = tracked_after fs.store c.reopen_file.new.self fs.files (c.get_mut.follows.lender new) (c.reopen_file.ensures.names ∙ c.shown_bytes.ensures.keeps.names ∙ c.set_config.ensures.names) (c.reopen_file.ensures.told ∙ c.shown_bytes.ensures.keeps.told ∙ c.set_config.ensures.journal.told) (freed_set fs.files (c.get_mut.follows.lender new) c.args.inode file new there (sets_through fs.files (c.get_mut.follows.lender new) c.args.inode file new there (c.get_mut.follows.holds new)) refl) fs.tracked;
     }
 
-pub returns-clause-fixed : goal.returns-clause-fixed
-returns-clause-fixed g c =
+pub returns : goal.returns
+returns g c =
     let fs = c.args.self.now in
     let file = c.as_mut-file.result.now in
     let there = ap Some c.as_mut-file.ensures.value ∙ c.in-Some.ensures.value in
     let new : File = record file { blob = c.in_ok-file.field-0; shown = Some c.in_ok-shown.shown; truncations = c.clear.new.self } in
     let shown : KeepsOpen fs.store c.shown_bytes.new.store = still_twice fs.store c.set_config.new.self c.shown_bytes.new.store c.set_config.ensures.still c.shown_bytes.ensures.still in
-    fixed_again fs _ (omega arith) c.args.inode file new there
-    (sets_through fs.files (c.get_mut.follows.lender new) c.args.inode file new there (c.get_mut.follows.holds new))
-    (λ at s. record { below = s.below; uncut = subst (λ (ts : List Truncation). All (λ t. at < t.length) ts) (sym c.clear.ensures.items) (all_none (λ t. at < t.length)) })
-    (still_twice fs.store c.shown_bytes.new.store c.reopen_file.new.self shown c.reopen_file.ensures.still)
-    (reopens_after fs.store c.shown_bytes.new.store c.reopen_file.new.self c.args.inode new.blob shown c.in_ok-file.ensures.reopened)
-    fs.opened
+    record {
+      names = c.reopen_file.ensures.names ∙ c.shown_bytes.ensures.keeps.names ∙ c.set_config.ensures.names;
+      told = c.reopen_file.ensures.told ∙ c.shown_bytes.ensures.keeps.told ∙ c.set_config.ensures.journal.told;
+      fixed = fixed_again fs _ (omega arith) c.args.inode file new there
+          (sets_through fs.files (c.get_mut.follows.lender new) c.args.inode file new there (c.get_mut.follows.holds new))
+          (λ at s. record { below = s.below; uncut = subst (λ (ts : List Truncation). All (λ t. at < t.length) ts) (sym c.clear.ensures.items) (all_none (λ t. at < t.length)) })
+          (still_twice fs.store c.shown_bytes.new.store c.reopen_file.new.self shown c.reopen_file.ensures.still)
+          (reopens_after fs.store c.shown_bytes.new.store c.reopen_file.new.self c.args.inode new.blob shown c.in_ok-file.ensures.reopened)
+          fs.opened;
+      options = refl;
+    }

@@ -1,7 +1,7 @@
 use Rattle.blob_directory.specs.Names.{binds, file}
 use Rattle.blob_fs.proofs.Calls.{always, on_ok}
 use Rattle.blob_fs.proofs.Renaming.{nothing}
-use Rattle.blob_fs.proofs.Walking.{left_by, makes_at}
+use Rattle.blob_fs.proofs.Walking.{makes_at}
 use Rattle.blob_fs.proofs.file_system.FileSystem.link.Goals as goal
 
 pub returns-in_err-found-clause-refused : goal.returns-in_err-found-clause-refused
@@ -14,14 +14,5 @@ pub returns-clause-made : goal.returns-clause-made
 returns-clause-made g c =
     let r = c.link_at.result in
     let made = makes_at r c.args.to.now (λ d n. binds d n (file c.in_ok-found.found.inode)) c.args.self.now c.link_at.new.self c.in_ok-directory.directory c.in_ok-directory.name.now
-    c.in_ok-directory.ensures c.link_at.ensures.made c.link_at.ensures.told in
+    c.in_ok-directory.ensures c.link_at.ensures.made in
     on_ok r made made (λ m _. record { found = c.in_ok-found.found; bound = c.in_ok-found.ensures; made = m })
-
-pub returns-clause-refused : goal.returns-clause-refused
-returns-clause-refused g c = left_by c.link_at.result c.args.self.now c.link_at.new.self c.link_at.ensures.refused c.link_at.ensures.untold
-
-pub returns-in_err-found-clause-fixed : goal.returns-in_err-found-clause-fixed
-returns-in_err-found-clause-fixed g c = λ inode at byte below f. f
-
-pub returns-in_err-directory-clause-fixed : goal.returns-in_err-directory-clause-fixed
-returns-in_err-directory-clause-fixed g c = λ inode at byte below f. f

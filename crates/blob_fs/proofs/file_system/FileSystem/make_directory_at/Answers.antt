@@ -1,30 +1,23 @@
 use Rattle.std.proofs.Common.{arith, refl}
 use Rattle.blob_fs.specs.Files.{names_of}
 use Rattle.blob_fs.proofs.Named.{edit_is, placed}
-use Rattle.blob_fs.proofs.Growing.{told_as}
-use Rattle.blob_fs.specs.Files.{told_of}
 use Rattle.blob_directory.specs.Names.{directory_at}
 use Rattle.std.proofs.Common.{◌∷◌, [], List, Some, ap, ℕ, ◌∙◌}
 use Rattle.blob_fs.proofs.Noting.{noted_between}
 use Rattle.blob_fs.specs.declared.file_system.Options.{Options}
+use Rattle.blob_fs.proofs.States.{keeps_as, keeps_self, makes_after, rest_after, rest_before, rest_numbered, rest_of}
 use Rattle.blob_fs.proofs.file_system.FileSystem.make_directory_at.Goals as goal
 
-pub returns-in_err-insert-clause-fixed : goal.returns-in_err-insert-clause-fixed
-returns-in_err-insert-clause-fixed g c = λ inode at byte below f.
-    let one = c.begin_call.ensures.fixed inode at byte below f in
-    record { numbered = one.numbered; synced = one.synced; fixed = one.fixed }
+pub returns-in_err-insert-clause-rest : goal.returns-in_err-insert-clause-rest
+returns-in_err-insert-clause-rest g c = rest_of (keeps_as _ c.begin_call.ensures.keeps refl refl refl refl)
 
-pub returns-in-Err-clause-fixed : goal.returns-in-Err-clause-fixed
-returns-in-Err-clause-fixed g c = λ inode at byte below f.
-    let one = c.begin_call.ensures.fixed inode at byte below f in
-    let two = c.make.ensures.fixed inode at byte below (record { numbered = one.numbered; synced = one.synced; fixed = one.fixed }) in
-    record { numbered = two.numbered; synced = two.synced; fixed = two.fixed }
+pub returns-in-Err-clause-rest : goal.returns-in-Err-clause-rest
+returns-in-Err-clause-rest g c =
+    rest_after (rest_before (keeps_as _ c.begin_call.ensures.keeps refl refl refl refl) c.make.ensures.rest) (keeps_as _ (keeps_self c.make.new.self) refl refl refl refl)
 
-pub returns-clause-fixed : goal.returns-clause-fixed
-returns-clause-fixed g c = λ inode at byte below f.
-    let one = c.begin_call.ensures.fixed inode at byte below f in
-    let two = c.make.ensures.fixed inode at byte below (record { numbered = one.numbered; synced = one.synced; fixed = one.fixed }) in
-    record { numbered = omega (arith, two.numbered, c.max-self.ensures); synced = two.synced; fixed = two.fixed }
+pub returns-clause-rest : goal.returns-clause-rest
+returns-clause-rest g c =
+    rest_numbered _ (rest_before (keeps_as _ c.begin_call.ensures.keeps refl refl refl refl) c.make.ensures.rest) refl (omega (arith, c.max-self.ensures)) refl refl
 
 pub make-requires : goal.make-requires
 make-requires g c =
@@ -33,11 +26,12 @@ make-requires g c =
       fits = placed (names_of one) _ one.files _ c.args.self.now.next_inode (edit_is (names_of one) _ _ c.one-edit.ensures) one.named;
     }
 
-pub returns-clause-told : goal.returns-clause-told
-returns-clause-told g c = told_as (told_of c.args.self.now) (told_of c.begin_call.new.self) (told_of c.make.new.self) _ _
-    (c.one-edit.ensures ∙ ap (λ (x : List ℕ). (x, Some (directory_at c.args.self.now.next_inode)) ∷ []) c.in_ok-entry.ensures) c.begin_call.ensures.told c.in_default.ensures.told
+pub returns-clause-made : goal.returns-clause-made
+returns-clause-made g c =
+    let edit = c.one-edit.ensures ∙ ap (λ (x : List ℕ). (x, Some (directory_at c.args.self.now.next_inode)) ∷ []) c.in_ok-entry.ensures in
+    makes_after c.args.self.now _ c.make.new.self _ _ _ edit c.begin_call.ensures.keeps.names c.begin_call.ensures.keeps.told c.in_default.ensures.made refl refl
 
 pub returns-clause-noted : goal.returns-clause-noted
 returns-clause-noted g c = noted_between c.args.self.now.store c.begin_call.new.self.store c.make.new.self.store c.make.new.self.store _ _ _ _ _ _
-    (c.one-edit.ensures ∙ ap (λ (x : List ℕ). (x, Some (directory_at c.args.self.now.next_inode)) ∷ []) c.in_ok-entry.ensures) c.about.ensures (ap (λ (o : Options). o.edit_rate) c.begin_call.ensures.options)
+    (c.one-edit.ensures ∙ ap (λ (x : List ℕ). (x, Some (directory_at c.args.self.now.next_inode)) ∷ []) c.in_ok-entry.ensures) c.about.ensures (ap (λ (o : Options). o.edit_rate) c.begin_call.ensures.keeps.options)
     c.in_ok-begin_call.ensures.journal.unsettled c.in_default.ensures.noted refl

@@ -2,10 +2,11 @@ use Rattle.blob_fs.specs.Files.{about_move, names_of}
 use Rattle.blob_fs.proofs.Named.{edit_is, moved_on}
 use Rattle.std.proofs.Common.{Bool, ap, refl}
 use Rattle.blob_fs.proofs.Noting.{noted_between}
+use Rattle.blob_fs.proofs.States.{rest_after}
 use Rattle.blob_fs.proofs.file_system.FileSystem.move_name.Goals as goal
 
-pub returns-clause-fixed : goal.returns-clause-fixed
-returns-clause-fixed g c = λ inode at byte below f. c.place.ensures.fixed inode at byte below (c.make.ensures.fixed inode at byte below f)
+pub returns-clause-rest : goal.returns-clause-rest
+returns-clause-rest g c = rest_after c.make.ensures.rest c.place.ensures.keeps
 
 pub make-requires : goal.make-requires
 make-requires g c =

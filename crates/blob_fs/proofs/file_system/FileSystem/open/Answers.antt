@@ -1,5 +1,5 @@
-use Rattle.blob_fs.proofs.Fixed.{fixed_twice}
+use Rattle.blob_fs.proofs.States.{keeps_twice}
 use Rattle.blob_fs.proofs.file_system.FileSystem.open.Goals as goal
 
-pub returns-clause-fixed : goal.returns-clause-fixed
-returns-clause-fixed g c = fixed_twice c.args.self.now c.begin_call.new.self c.open_inode.new.self c.begin_call.ensures.fixed c.open_inode.ensures.fixed
+pub returns-clause-keeps : goal.returns-clause-keeps
+returns-clause-keeps g c = keeps_twice c.begin_call.ensures.keeps c.open_inode.ensures.keeps

@@ -1,4 +1,6 @@
+use Rattle.std.proofs.Common.{refl}
+use Rattle.blob_fs.proofs.States.{keeps_as, keeps_self, keeps_twice}
 use Rattle.blob_fs.proofs.file_system.FileSystem.open_inode.Goals as goal
 
-pub returns-clause-fixed : goal.returns-clause-fixed
-returns-clause-fixed g c = λ inode at byte below f. c.show_blob.ensures.fixed inode at byte below (c.add_open.ensures.fixed inode at byte below (record { numbered = f.numbered; synced = f.synced; fixed = f.fixed }))
+pub returns-clause-keeps : goal.returns-clause-keeps
+returns-clause-keeps g c = keeps_twice (keeps_as _ (keeps_self c.args.self.now) refl refl refl refl) (keeps_twice c.add_open.ensures.keeps c.show_blob.ensures.keeps)

@@ -7,38 +7,25 @@ use Rattle.blob_fs.specs.declared.file_system.File.{File}
 use Rattle.blob_fs.specs.Bytes.{bytes_read}
 use Rattle.blob_fs.specs.Files.{descriptor_number}
 use Rattle.blob_fs.specs.Noted.{size_read}
-use Rattle.blob_fs.proofs.Fixed.{opened_store}
-use Rattle.blob_fs.proofs.Named.{named_store}
-use Rattle.blob_fs.proofs.Tracked.{tracked_store}
 use Rattle.blob_fs.proofs.Reading.{read_part, size_bytes}
+use Rattle.blob_fs.proofs.States.{keeps_as, keeps_opened}
+use Rattle.blob_fs.proofs.Standing.{standing_store}
 use Rattle.blob_fs.proofs.file_system.FileSystem.read.Goals as goal
 
-pub returns-in_default-clause-fixed : goal.returns-in_default-clause-fixed
-returns-in_default-clause-fixed g c = λ inode at byte below f.
-    let one = c.begin_call.ensures.fixed inode at byte below f in
-    record { numbered = one.numbered; synced = one.synced; fixed = one.fixed }
+pub returns-in_default-clause-keeps : goal.returns-in_default-clause-keeps
+returns-in_default-clause-keeps g c = keeps_as _ c.begin_call.ensures.keeps refl refl refl refl
 
-pub returns-then-count-eq0-clause-fixed : goal.returns-then-count-eq0-clause-fixed
-returns-then-count-eq0-clause-fixed g c = λ inode at byte below f.
-    let one = c.begin_call.ensures.fixed inode at byte below f in
-    record { numbered = one.numbered; synced = one.synced; fixed = one.fixed }
+pub returns-then-count-eq0-clause-keeps : goal.returns-then-count-eq0-clause-keeps
+returns-then-count-eq0-clause-keeps g c = keeps_as _ c.begin_call.ensures.keeps refl refl refl refl
 
 pub invariant_of-self-2 : goal.invariant_of-self-2
-invariant_of-self-2 g c = record {
-  opened = opened_store c.begin_call.new.self.store c.read_into.new.store c.begin_call.new.self.files c.read_into.ensures.still c.begin_call.new.self.opened;
-  named = named_store c.begin_call.new.self.store c.read_into.new.store c.begin_call.new.self.files c.read_into.ensures.names c.begin_call.new.self.named;
-  tracked = tracked_store c.begin_call.new.self.store c.read_into.new.store c.begin_call.new.self.files c.read_into.ensures.names c.read_into.ensures.told c.begin_call.new.self.tracked;
-}
+invariant_of-self-2 g c = standing_store c.begin_call.new.self c.read_into.new.store c.read_into.ensures.still c.read_into.ensures.keeps.names c.read_into.ensures.keeps.told
 
-pub returns-in_err-read_into-clause-fixed : goal.returns-in_err-read_into-clause-fixed
-returns-in_err-read_into-clause-fixed g c = λ inode at byte below f.
-    let one = c.begin_call.ensures.fixed inode at byte below f in
-    record { numbered = one.numbered; synced = one.synced; fixed = λ was there. c.read_into.ensures.still.fixed was.blob at byte (one.fixed was there) }
+pub returns-in_err-read_into-clause-keeps : goal.returns-in_err-read_into-clause-keeps
+returns-in_err-read_into-clause-keeps g c = keeps_opened _ c.begin_call.ensures.keeps refl refl refl c.read_into.ensures.keeps.names c.read_into.ensures.keeps.told c.read_into.ensures.still
 
-pub returns-clause-fixed : goal.returns-clause-fixed
-returns-clause-fixed g c = λ inode at byte below f.
-    let one = c.begin_call.ensures.fixed inode at byte below f in
-    record { numbered = one.numbered; synced = one.synced; fixed = λ was there. c.read_into.ensures.still.fixed was.blob at byte (one.fixed was there) }
+pub returns-clause-keeps : goal.returns-clause-keeps
+returns-clause-keeps g c = keeps_opened _ c.begin_call.ensures.keeps refl refl refl c.read_into.ensures.keeps.names c.read_into.ensures.keeps.told c.read_into.ensures.still
 
 pub returns-then-count-eq0-clause-read : goal.returns-then-count-eq0-clause-read
 returns-then-count-eq0-clause-read g c =

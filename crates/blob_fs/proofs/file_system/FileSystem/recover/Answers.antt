@@ -29,6 +29,7 @@ use Rattle.std.specs.Prelude.{Err}
 use Rattle.blob_fs.specs.Errors.{StopsAtLimits}
 use Rattle.blob_fs.specs.declared.error.FsError.TheVariants.{Store}
 use Rattle.blob_fs.proofs.Errors.{sizes_tracked}
+use Rattle.blob_fs.proofs.Standing.{standing_store}
 use Rattle.blob_fs.proofs.file_system.FileSystem.recover.Goals as goal
 
 pub returns-clause-found : goal.returns-clause-found
@@ -95,11 +96,7 @@ pub returns-clause-opened : goal.returns-clause-opened
 returns-clause-opened g c = subst (AllOpen c.begin_life.new.self.store) (sym c.in_ok-begin_life.ensures.files) c.in_ok-begin_life.ensures.opened
 
 pub invariant_of-self : goal.invariant_of-self
-invariant_of-self g c = record {
-  opened = opened_store c.args.self.now.store c.find_names.new.self c.args.self.now.files c.find_names.ensures.still c.args.self.now.opened;
-  named = named_store c.args.self.now.store c.find_names.new.self c.args.self.now.files c.find_names.ensures.names c.args.self.now.named;
-  tracked = tracked_store c.args.self.now.store c.find_names.new.self c.args.self.now.files c.find_names.ensures.names c.find_names.ensures.told c.args.self.now.tracked;
-}
+invariant_of-self g c = standing_store c.args.self.now c.find_names.new.self c.find_names.ensures.still c.find_names.ensures.names c.find_names.ensures.told
 
 pub invariant_of-self-2 : goal.invariant_of-self-2
 invariant_of-self-2 g c =
@@ -107,8 +104,8 @@ invariant_of-self-2 g c =
     record {
       opened = opened_handles c.find_names.new.self c.reopen_all.new.store fs.files c.reopen_all.ensures.handles
           (opened_store fs.store c.find_names.new.self fs.files c.find_names.ensures.still fs.opened);
-      named = named_store fs.store c.reopen_all.new.store fs.files (c.reopen_all.ensures.names ∙ c.find_names.ensures.names) fs.named;
-      tracked = tracked_store fs.store c.reopen_all.new.store fs.files (c.reopen_all.ensures.names ∙ c.find_names.ensures.names) (c.reopen_all.ensures.told ∙ c.find_names.ensures.told) fs.tracked;
+      named = named_store fs.store c.reopen_all.new.store fs.files (c.reopen_all.ensures.keeps.names ∙ c.find_names.ensures.names) fs.named;
+      tracked = tracked_store fs.store c.reopen_all.new.store fs.files (c.reopen_all.ensures.keeps.names ∙ c.find_names.ensures.names) (c.reopen_all.ensures.keeps.told ∙ c.find_names.ensures.told) fs.tracked;
     }
 
 pub begin_life-requires : goal.begin_life-requires
@@ -127,11 +124,7 @@ reopen_all-requires g c = record {
 pub invariant_of-self-in-Break-branch-2 : goal.invariant_of-self-in-Break-branch-2
 invariant_of-self-in-Break-branch-2 g c =
     let fs = c.args.self.now in
-    record {
-      opened = opened_store fs.store c.find_names.new.self fs.files c.find_names.ensures.still fs.opened;
-      named = named_store fs.store c.find_names.new.self fs.files c.find_names.ensures.names fs.named;
-      tracked = tracked_store fs.store c.find_names.new.self fs.files c.find_names.ensures.names c.find_names.ensures.told fs.tracked;
-    }
+    standing_store fs c.find_names.new.self c.find_names.ensures.still c.find_names.ensures.names c.find_names.ensures.told
 
 pub returns-clause-fixes : goal.returns-clause-fixes
 returns-clause-fixes g c =

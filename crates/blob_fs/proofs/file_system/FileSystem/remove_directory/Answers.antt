@@ -1,7 +1,7 @@
 use Rattle.blob_directory.specs.Names.{frees}
 use Rattle.blob_fs.proofs.Calls.{always}
 use Rattle.blob_fs.proofs.Renaming.{nothing}
-use Rattle.blob_fs.proofs.Walking.{left_by, makes_at}
+use Rattle.blob_fs.proofs.Walking.{makes_at}
 use Rattle.blob_fs.proofs.file_system.FileSystem.remove_directory.Goals as goal
 
 pub returns-in_err-directory-clause-refused : goal.returns-in_err-directory-clause-refused
@@ -10,10 +10,4 @@ returns-in_err-directory-clause-refused g c = always _ (nothing c.args.self.now)
 pub returns-clause-made : goal.returns-clause-made
 returns-clause-made g c =
     makes_at c.remove_directory_at.result c.args.path.now (λ d n. frees d n) c.args.self.now c.remove_directory_at.new.self c.in_ok-directory.directory c.in_ok-directory.name.now
-    c.in_ok-directory.ensures c.remove_directory_at.ensures.made c.remove_directory_at.ensures.told
-
-pub returns-clause-refused : goal.returns-clause-refused
-returns-clause-refused g c = left_by c.remove_directory_at.result c.args.self.now c.remove_directory_at.new.self c.remove_directory_at.ensures.refused c.remove_directory_at.ensures.untold
-
-pub returns-in_err-directory-clause-fixed : goal.returns-in_err-directory-clause-fixed
-returns-in_err-directory-clause-fixed g c = λ inode at byte below f. f
+    c.in_ok-directory.ensures c.remove_directory_at.ensures.made

@@ -1,8 +1,9 @@
-use Rattle.std.proofs.Common.{◌≤◌, ◌∙◌, arith}
+use Rattle.std.proofs.Common.{◌≤◌, ◌∙◌, arith, refl}
 use Rattle.blob_fs.specs.declared.file_system.FileSystem.{FileSystem}
 use Rattle.blob_fs.proofs.Fixed.{contents_self, fixed_after, fixed_twice, fixed_without, opened_store, opened_without}
-use Rattle.blob_fs.proofs.Named.{named_store, named_without}
-use Rattle.blob_fs.proofs.Tracked.{tracked_store, tracked_without}
+use Rattle.blob_fs.proofs.Named.{named_without}
+use Rattle.blob_fs.proofs.Standing.{standing_store}
+use Rattle.blob_fs.proofs.Tracked.{tracked_without}
 use Rattle.blob_fs.proofs.file_system.FileSystem.remove_file.Goals as goal
 
 pub returns-clause-journal : goal.returns-clause-journal
@@ -18,11 +19,16 @@ invariant_of-self g c = record {
       (c.remove_file.ensures.names ∙ c.set_config.ensures.names) (c.remove_file.ensures.told ∙ c.set_config.ensures.journal.told) c.requires.unfound c.args.self.now.tracked;
 }
 
-pub returns-clause-fixed : goal.returns-clause-fixed
-returns-clause-fixed g c =
+pub returns-clause-keeps : goal.returns-clause-keeps
+returns-clause-keeps g c =
     let fs = c.args.self.now in
-    let ready : FileSystem g.row.R.Denot = record fs { store = c.set_config.new.self; opened = opened_store fs.store c.set_config.new.self fs.files c.set_config.ensures.still fs.opened; named = named_store fs.store c.set_config.new.self fs.files c.set_config.ensures.names fs.named; tracked = tracked_store fs.store c.set_config.new.self fs.files c.set_config.ensures.names c.set_config.ensures.journal.told fs.tracked } in
+    let set = c.set_config.ensures in
+    let stands = standing_store fs c.set_config.new.self set.still set.names set.journal.told in
+    let ready : FileSystem g.row.R.Denot = record fs { store = c.set_config.new.self; opened = stands.opened; named = stands.named; tracked = stands.tracked } in
     let more : fs.next_inode ≤ fs.next_inode = omega arith in
-    fixed_twice fs ready _
-    (fixed_after fs ready more (contents_self fs.files) c.set_config.ensures.still)
-    (fixed_without ready _ more c.args.inode c.remove.ensures.updates c.remove_file.ensures.still ready.opened)
+    record {
+      names = c.remove_file.ensures.names ∙ set.names;
+      told = c.remove_file.ensures.told ∙ set.journal.told;
+      fixed = fixed_twice fs ready _ (fixed_after fs ready more (contents_self fs.files) set.still) (fixed_without ready _ more c.args.inode c.remove.ensures.updates c.remove_file.ensures.still ready.opened);
+      options = refl;
+    }

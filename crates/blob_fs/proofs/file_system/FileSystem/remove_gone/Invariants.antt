@@ -1,13 +1,9 @@
-use Rattle.std.proofs.Common.{◌≡◌}
-use Rattle.blob_fs.specs.Fixed.{KeepsFixed}
-use Rattle.blob_fs.specs.Files.{KeepsJournal, options_of, table_of, told_of}
+use Rattle.blob_fs.specs.Files.{KeepsJournal}
+use Rattle.blob_fs.specs.States.{KeepsState}
 use Rattle.blob_fs.proofs.file_system.FileSystem.remove_gone.Given as goal
 
 abbrev pub invariant-loop-i : goal.invariant-loop-i
 invariant-loop-i g l = record {
-  names : table_of l.self ≡ table_of l.fn.self;
   journal : KeepsJournal l.fn.self l.self;
-  told : told_of l.self ≡ told_of l.fn.self;
-  options : options_of l.self ≡ options_of l.fn.self;
-  fixed : KeepsFixed l.fn.self l.self;
+  keeps : KeepsState l.fn.self l.self;
 }

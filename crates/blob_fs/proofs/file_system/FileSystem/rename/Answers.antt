@@ -1,6 +1,5 @@
 use Rattle.blob_fs.proofs.Calls.{always, on_ok}
 use Rattle.blob_fs.proofs.Renaming.{nothing}
-use Rattle.blob_fs.proofs.Walking.{left_by}
 use Rattle.blob_fs.proofs.file_system.FileSystem.rename.Goals as goal
 
 pub returns-in_err-from-clause-refused : goal.returns-in_err-from-clause-refused
@@ -21,12 +20,3 @@ returns-clause-renamed g c =
       into = c.in_ok-to.ensures;
       renamed = x;
     })
-
-pub returns-clause-refused : goal.returns-clause-refused
-returns-clause-refused g c = left_by c.rename_at.result c.args.self.now c.rename_at.new.self c.rename_at.ensures.refused c.rename_at.ensures.untold
-
-pub returns-in_err-from-clause-fixed : goal.returns-in_err-from-clause-fixed
-returns-in_err-from-clause-fixed g c = λ inode at byte below f. f
-
-pub returns-in_err-to-clause-fixed : goal.returns-in_err-to-clause-fixed
-returns-in_err-to-clause-fixed g c = λ inode at byte below f. f

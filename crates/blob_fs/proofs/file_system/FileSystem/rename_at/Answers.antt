@@ -7,6 +7,7 @@ use Rattle.blob_fs.specs.Below.{StaysApart}
 use Rattle.blob_fs.proofs.Below.{stays_apart}
 use Rattle.blob_fs.proofs.Calls.{always_ok, either, grows_leaves, grows_renames, on_err, on_ok}
 use Rattle.blob_fs.proofs.Renaming.{Before, leaves_from, renames_at, renames_from}
+use Rattle.blob_fs.proofs.States.{rest_before}
 use Rattle.blob_fs.proofs.file_system.FileSystem.rename_at.Goals as goal
 
 pub rename_free-requires : goal.rename_free-requires
@@ -26,22 +27,20 @@ returns-in-None g c =
     let fs : FileSystem g.row.R.Denot = c.args.self.now in
     let one : FileSystem g.row.R.Denot = c.begin_call.new.self in
     let two : FileSystem g.row.R.Denot = c.rename_free.new.self in
-    let b : Before fs one = record { names = c.begin_call.ensures.names; told = c.begin_call.ensures.told; unsettled = c.in_ok-begin_call.ensures.journal.unsettled; options = c.begin_call.ensures.options } in
+    let b : Before fs one = record { keeps = c.begin_call.ensures.keeps; unsettled = c.in_ok-begin_call.ensures.journal.unsettled } in
     let r = c.rename_free.result in
     let renamed = on_ok r c.rename_free.ensures.renamed c.rename_free.ensures.renamed (λ x _.
     renames_at c.args.how _ _ _ _ _ _ fs two c.in_ok-old.ensures c.in_ok-new.ensures (renames_from c.args.how _ _ _ _ fs one two b x)) in
     let apart : StaysApart fs c.args.from.0 c.args.from.1.now c.args.to.0 = stays_apart fs one c.args.from.0 c.args.from.1.now c.args.to.0 c.in_ok-moved.moved
     (subst (λ (l : List ℕ). names_of one l ≡ Some c.in_ok-moved.moved) (c.deref.ensures.value ∙ c.in_ok-old.ensures) c.in_ok-moved.ensures)
-    c.begin_call.ensures.names c.begin_call.ensures.directories c.in_ok-check_move.ensures in
+    c.begin_call.ensures.keeps.names c.begin_call.ensures.directories c.in_ok-check_move.ensures in
     let refused = on_err r c.rename_free.ensures.refused c.rename_free.ensures.refused (λ x _. leaves_from fs one two b x) in
     record {
       renamed = renamed;
       apart = always_ok r apart;
-      refused = on_err r refused refused (λ l _. l.names);
+      refused = refused;
       grows = either r renamed refused (λ x. grows_renames c.args.how _ _ _ _ fs two x) (λ l. grows_leaves fs two l);
-      untold = on_err r refused refused (λ l _. l.recorded);
-      fixed = λ inode at byte below f. c.rename_free.ensures.fixed inode at byte below (c.begin_call.ensures.fixed inode at byte below f);
-      options = c.rename_free.ensures.options ∙ c.begin_call.ensures.options;
+      rest = rest_before c.begin_call.ensures.keeps c.rename_free.ensures.rest;
     }
 
 pub returns-in-Some : goal.returns-in-Some
@@ -49,20 +48,18 @@ returns-in-Some g c =
     let fs : FileSystem g.row.R.Denot = c.args.self.now in
     let one : FileSystem g.row.R.Denot = c.begin_call.new.self in
     let two : FileSystem g.row.R.Denot = c.rename_taken.new.self in
-    let b : Before fs one = record { names = c.begin_call.ensures.names; told = c.begin_call.ensures.told; unsettled = c.in_ok-begin_call.ensures.journal.unsettled; options = c.begin_call.ensures.options } in
+    let b : Before fs one = record { keeps = c.begin_call.ensures.keeps; unsettled = c.in_ok-begin_call.ensures.journal.unsettled } in
     let r = c.rename_taken.result in
     let renamed = on_ok r c.rename_taken.ensures.renamed c.rename_taken.ensures.renamed (λ x _.
     renames_at c.args.how _ _ _ _ _ _ fs two c.in_ok-old.ensures c.in_ok-new.ensures (renames_from c.args.how _ _ _ _ fs one two b x)) in
     let apart : StaysApart fs c.args.from.0 c.args.from.1.now c.args.to.0 = stays_apart fs one c.args.from.0 c.args.from.1.now c.args.to.0 c.in_ok-moved.moved
     (subst (λ (l : List ℕ). names_of one l ≡ Some c.in_ok-moved.moved) (c.deref.ensures.value ∙ c.in_ok-old.ensures) c.in_ok-moved.ensures)
-    c.begin_call.ensures.names c.begin_call.ensures.directories c.in_ok-check_move.ensures in
+    c.begin_call.ensures.keeps.names c.begin_call.ensures.directories c.in_ok-check_move.ensures in
     let refused = on_err r c.rename_taken.ensures.refused c.rename_taken.ensures.refused (λ x _. leaves_from fs one two b x) in
     record {
       renamed = renamed;
       apart = always_ok r apart;
-      refused = on_err r refused refused (λ l _. l.names);
+      refused = refused;
       grows = either r renamed refused (λ x. grows_renames c.args.how _ _ _ _ fs two x) (λ l. grows_leaves fs two l);
-      untold = on_err r refused refused (λ l _. l.recorded);
-      fixed = λ inode at byte below f. c.rename_taken.ensures.fixed inode at byte below (c.begin_call.ensures.fixed inode at byte below f);
-      options = c.rename_taken.ensures.options ∙ c.begin_call.ensures.options;
+      rest = rest_before c.begin_call.ensures.keeps c.rename_taken.ensures.rest;
     }

@@ -1,41 +1,33 @@
 use Rattle.std.proofs.Common.{ℕ, None, arith, refl, subst, sym, ◌∙◌, Some, ap}
 use Rattle.std.specs.BTreeMap.{BTreeMap}
 use Rattle.blob_fs.specs.declared.file_system.File.{File}
-use Rattle.blob_fs.proofs.Fixed.{Sets, contents_same, contents_through, contents_twice, fixed_after, opened_none, opened_through, sets_through, still_same}
+use Rattle.blob_fs.proofs.Fixed.{Sets, contents_same, contents_through, contents_twice, fixed_after, sets_through, still_same}
 use Rattle.blob_fs.proofs.Syncing.{seen_same, seen_set}
-use Rattle.blob_fs.proofs.Named.{at_most_self, named_none, named_through}
-use Rattle.blob_fs.proofs.Tracked.{tracked_none, tracked_through}
+use Rattle.blob_fs.proofs.Named.{at_most_self}
 use Rattle.std.proofs.Common.{◌∙◌}
 use Rattle.blob_fs.proofs.Named.{links_kept, links_through}
+use Rattle.blob_fs.proofs.Standing.{standing_none, standing_through}
+use Rattle.blob_fs.proofs.States.{keeps_contents}
 use Rattle.blob_fs.proofs.file_system.FileSystem.show_blob.Goals as goal
 
 pub invariant_of-self : goal.invariant_of-self
-invariant_of-self g c = record {
-  opened = opened_none c.args.self.now.store c.args.self.now.files c.get_mut.follows.lender-at-none c.get_mut.follows.holds-at-none c.args.self.now.opened;
-  named = named_none c.args.self.now.store c.args.self.now.files c.get_mut.follows.lender-at-none c.get_mut.follows.holds-at-none c.args.self.now.named;
-  tracked = tracked_none c.args.self.now.store c.args.self.now.files c.get_mut.follows.lender-at-none c.get_mut.follows.holds-at-none c.args.self.now.tracked;
-}
+invariant_of-self g c = standing_none c.args.self.now c.get_mut.follows.lender-at-none c.get_mut.follows.holds-at-none
 
 pub invariant_of-self-2 : goal.invariant_of-self-2
 invariant_of-self-2 g c =
     let there = ap Some c.as_mut-file.ensures.value ∙ c.in-Some.ensures.value in
     let new : File = record c.as_mut-file.result.now { shown = None } in
-    record {
-      opened = opened_through c.args.self.now.store c.args.self.now.files (c.get_mut.follows.lender new) c.args.inode c.as_mut-file.result.now new there (c.get_mut.follows.holds new) (record { blob = refl; synced = refl; truncations = refl }) c.args.self.now.opened;
-      named = named_through c.args.self.now.store c.args.self.now.files (c.get_mut.follows.lender new) c.args.inode c.as_mut-file.result.now new there (c.get_mut.follows.holds new) (at_most_self _) c.args.self.now.named;
-      tracked = tracked_through c.args.self.now.store c.args.self.now.files (c.get_mut.follows.lender new) c.args.inode c.as_mut-file.result.now new there (c.get_mut.follows.holds new) refl c.args.self.now.tracked;
-    }
+    standing_through c.args.self.now (c.get_mut.follows.lender new) c.args.inode c.as_mut-file.result.now new there (c.get_mut.follows.holds new) (record { blob = refl; synced = refl; truncations = refl }) (at_most_self _) refl
 
-pub returns-clause-fixed : goal.returns-clause-fixed
-returns-clause-fixed g c =
+pub returns-clause-keeps : goal.returns-clause-keeps
+returns-clause-keeps g c =
     let fs = c.args.self.now in
     let new : File = record c.as_mut-file.result.now { shown = None } in
-    let next = c.count.ensures.number in
-    fixed_after fs c.count.new.self (omega (arith, next))
+    keeps_contents fs c.count.new.self
     (contents_twice fs.files (c.get_mut.follows.lender new) c.count.new.self.files
     (contents_through fs.files (c.get_mut.follows.lender new) c.args.inode c.as_mut-file.result.now new (ap Some c.as_mut-file.ensures.value ∙ c.in-Some.ensures.value) (c.get_mut.follows.holds new) (record { blob = refl; synced = refl; truncations = refl }))
     (contents_same (c.get_mut.follows.lender new) c.count.new.self.files c.count.ensures.files.files))
-    (still_same fs.store c.count.new.self.store c.count.ensures.store)
+    c.count.ensures.number c.count.ensures.files.options c.count.ensures.store
 
 pub returns-clause-seen : goal.returns-clause-seen
 returns-clause-seen g c =

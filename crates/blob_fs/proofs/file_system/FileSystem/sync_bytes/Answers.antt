@@ -2,18 +2,15 @@ use Rattle.std.proofs.Common.{refl, ◌<◌, ◌≤◌, ◌^◌, inr, arith, ◌
 use Rattle.blob_fs.specs.declared.file_system.File.{File}
 use Rattle.std.proofs.Common.{◌≡◌, [], subst}
 use Rattle.blob_faulty.specs.Wrapper.{size_of}
-use Rattle.blob_fs.proofs.Fixed.{fixed_changed, fixed_twice, opened_changed, opened_none, sets_through}
+use Rattle.blob_fs.proofs.Fixed.{fixed_changed, sets_through}
 use Rattle.blob_fs.proofs.Syncing.{set_here, fixes_synced, seen_below, seen_synced, synced_whole}
-use Rattle.blob_fs.proofs.Named.{at_most_self, links_set, named_after, named_none}
-use Rattle.blob_fs.proofs.Tracked.{freed_set, tracked_after, tracked_none}
+use Rattle.blob_fs.proofs.Named.{at_most_self}
+use Rattle.blob_fs.proofs.States.{keeps_twice}
+use Rattle.blob_fs.proofs.Standing.{standing_changed, standing_none}
 use Rattle.blob_fs.proofs.file_system.FileSystem.sync_bytes.Goals as goal
 
 pub invariant_of-self : goal.invariant_of-self
-invariant_of-self g c = record {
-  opened = opened_none c.args.self.now.store c.args.self.now.files c.get_mut.follows.lender-at-none c.get_mut.follows.holds-at-none c.args.self.now.opened;
-  named = named_none c.args.self.now.store c.args.self.now.files c.get_mut.follows.lender-at-none c.get_mut.follows.holds-at-none c.args.self.now.named;
-  tracked = tracked_none c.args.self.now.store c.args.self.now.files c.get_mut.follows.lender-at-none c.get_mut.follows.holds-at-none c.args.self.now.tracked;
-}
+invariant_of-self g c = standing_none c.args.self.now c.get_mut.follows.lender-at-none c.get_mut.follows.holds-at-none
 
 pub invariant_of-self-in-Err-1 : goal.invariant_of-self-in-Err-1
 invariant_of-self-in-Err-1 g c =
@@ -21,29 +18,26 @@ invariant_of-self-in-Err-1 g c =
     let was = c.as_mut-file.result.now in
     let there = ap Some c.as_mut-file.ensures.value ∙ c.in-Some.ensures.value in
     let new : File = record was { blob = c.sync_file.new.file } in
-    record {
-      opened = opened_changed (λ at. Unit) fs.store c.sync_file.new.self fs.files (c.get_mut.follows.lender new) c.args.inode was new (omega arith) there
-          (sets_through fs.files (c.get_mut.follows.lender new) c.args.inode was new there (c.get_mut.follows.holds new)) c.sync_file.ensures.still fs.opened;
-      named = named_after fs.store c.sync_file.new.self fs.files (c.get_mut.follows.lender new) c.sync_file.ensures.names
-          (links_set fs.files (c.get_mut.follows.lender new) c.args.inode was new there
-          (sets_through fs.files (c.get_mut.follows.lender new) c.args.inode was new there (c.get_mut.follows.holds new)) (at_most_self _)) fs.named;
-      tracked = tracked_after fs.store c.sync_file.new.self fs.files (c.get_mut.follows.lender new) c.sync_file.ensures.names c.sync_file.ensures.told (freed_set fs.files (c.get_mut.follows.lender new) c.args.inode was new there (sets_through fs.files (c.get_mut.follows.lender new) c.args.inode was new there (c.get_mut.follows.holds new)) refl) fs.tracked;
-    }
+    standing_changed (λ at. Unit) fs c.sync_file.new.self (c.get_mut.follows.lender new) c.args.inode was new (omega arith) there (c.get_mut.follows.holds new) c.sync_file.ensures.still
+    (at_most_self _) refl c.sync_file.ensures.names c.sync_file.ensures.told
 
-pub returns-in-Err-clause-fixed : goal.returns-in-Err-clause-fixed
-returns-in-Err-clause-fixed g c =
+pub returns-in-Err-clause-keeps : goal.returns-in-Err-clause-keeps
+returns-in-Err-clause-keeps g c =
     let fs = c.args.self.now in
     let was = c.as_mut-file.result.now in
     let there = ap Some c.as_mut-file.ensures.value ∙ c.in-Some.ensures.value in
     let new : File = record was { blob = c.sync_file.new.file } in
     let more : fs.next_inode ≤ fs.next_inode = omega arith in
     let small : c.args.inode < 2 ^ 64 = omega arith in
-    fixed_twice fs _ c.fail_sync.new.self
-    (λ inode at byte below h.
-    fixed_changed fs _ more (λ at. Unit) c.args.inode was new small there
-    (sets_through fs.files (c.get_mut.follows.lender new) c.args.inode was new there (c.get_mut.follows.holds new)) c.sync_file.ensures.still fs.opened
-    inode at byte below (inr tt) (λ s long is. record { below = long.below; uncut = long.uncut }) h)
-    c.fail_sync.ensures.fixed
+    keeps_twice (record {
+      names = c.sync_file.ensures.names;
+      told = c.sync_file.ensures.told;
+      fixed = λ inode at byte below h.
+          fixed_changed fs _ more (λ at. Unit) c.args.inode was new small there
+          (sets_through fs.files (c.get_mut.follows.lender new) c.args.inode was new there (c.get_mut.follows.holds new)) c.sync_file.ensures.still fs.opened
+          inode at byte below (inr tt) (λ s long is. record { below = long.below; uncut = long.uncut }) h;
+      options = refl;
+    }) c.fail_sync.ensures
 
 pub invariant_of-self-2 : goal.invariant_of-self-2
 invariant_of-self-2 g c =
@@ -51,27 +45,26 @@ invariant_of-self-2 g c =
     let was = c.as_mut-file.result.now in
     let there = ap Some c.as_mut-file.ensures.value ∙ c.in-Some.ensures.value in
     let new : File = record was { blob = c.sync_file.new.file; synced = c.size-file.result; truncations = c.clear.new.self } in
-    record {
-      opened = opened_changed (λ at. Unit) fs.store c.sync_file.new.self fs.files (c.get_mut.follows.lender new) c.args.inode was new (omega arith) there
-          (sets_through fs.files (c.get_mut.follows.lender new) c.args.inode was new there (c.get_mut.follows.holds new)) c.sync_file.ensures.still fs.opened;
-      named = named_after fs.store c.sync_file.new.self fs.files (c.get_mut.follows.lender new) c.sync_file.ensures.names
-          (links_set fs.files (c.get_mut.follows.lender new) c.args.inode was new there
-          (sets_through fs.files (c.get_mut.follows.lender new) c.args.inode was new there (c.get_mut.follows.holds new)) (at_most_self _)) fs.named;
-      tracked = tracked_after fs.store c.sync_file.new.self fs.files (c.get_mut.follows.lender new) c.sync_file.ensures.names c.sync_file.ensures.told (freed_set fs.files (c.get_mut.follows.lender new) c.args.inode was new there (sets_through fs.files (c.get_mut.follows.lender new) c.args.inode was new there (c.get_mut.follows.holds new)) refl) fs.tracked;
-    }
+    standing_changed (λ at. Unit) fs c.sync_file.new.self (c.get_mut.follows.lender new) c.args.inode was new (omega arith) there (c.get_mut.follows.holds new) c.sync_file.ensures.still
+    (at_most_self _) refl c.sync_file.ensures.names c.sync_file.ensures.told
 
-pub returns-clause-fixed : goal.returns-clause-fixed
-returns-clause-fixed g c =
+pub returns-clause-keeps : goal.returns-clause-keeps
+returns-clause-keeps g c =
     let fs = c.args.self.now in
     let was = c.as_mut-file.result.now in
     let there = ap Some c.as_mut-file.ensures.value ∙ c.in-Some.ensures.value in
     let new : File = record was { blob = c.sync_file.new.file; synced = c.size-file.result; truncations = c.clear.new.self } in
     let more : fs.next_inode ≤ fs.next_inode = omega arith in
     let small : c.args.inode < 2 ^ 64 = omega arith in
-    λ inode at byte below h.
-    fixed_changed fs _ more (λ at. Unit) c.args.inode was new small there
-    (sets_through fs.files (c.get_mut.follows.lender new) c.args.inode was new there (c.get_mut.follows.holds new)) c.sync_file.ensures.still fs.opened
-    inode at byte below (inr tt) (λ s long is. synced_whole at new c.size-file.ensures c.clear.ensures.items (seen_below new.blob at byte is.seen)) h
+    record {
+      names = c.sync_file.ensures.names;
+      told = c.sync_file.ensures.told;
+      fixed = λ inode at byte below h.
+          fixed_changed fs _ more (λ at. Unit) c.args.inode was new small there
+          (sets_through fs.files (c.get_mut.follows.lender new) c.args.inode was new there (c.get_mut.follows.holds new)) c.sync_file.ensures.still fs.opened
+          inode at byte below (inr tt) (λ s long is. synced_whole at new c.size-file.ensures c.clear.ensures.items (seen_below new.blob at byte is.seen)) h;
+      options = refl;
+    }
 
 pub returns-clause-fixes : goal.returns-clause-fixes
 returns-clause-fixes g c =

@@ -4,7 +4,7 @@ use Rattle.std.specs.Ordering.{nat_cmp}
 use Rattle.blob_directory.specs.declared.unsettled.Synced.TheVariants.{Data}
 use Rattle.blob_fs.specs.declared.file_system.Options.{Options}
 use Rattle.blob_fs.specs.Files.{SettlesEdits, descriptor_number}
-use Rattle.blob_fs.proofs.Fixed.{fixed_twice}
+use Rattle.blob_fs.proofs.States.{keeps_twice, rest_before, rest_of}
 use Rattle.blob_fs.proofs.Syncing.{fixes_after, fixes_before}
 use Rattle.blob_fs.proofs.file_system.FileSystem.sync_data.Goals as goal
 
@@ -24,13 +24,8 @@ returns-clause-settled g c = λ honest.
           (c.settling.ensures.after one.options.profile.settles (Data c.in_ok-inode.inode c.in_ok-sized.sized) fs.store two.store three.store kept c.in_ok-settle_by.ensures.settled);
     }
 
-pub returns-clause-fixed : goal.returns-clause-fixed
-returns-clause-fixed g c =
-    let fs = c.args.self.now in
-    let one = c.begin_call.new.self in
-    let two = c.sync_bytes.new.self in
-    let three = c.settle_by.new.self in
-    fixed_twice fs two three (fixed_twice fs one two c.begin_call.ensures.fixed c.sync_bytes.ensures.fixed) c.settle_by.ensures.fixed
+pub returns-clause-rest : goal.returns-clause-rest
+returns-clause-rest g c = rest_before (keeps_twice c.begin_call.ensures.keeps c.sync_bytes.ensures.keeps) c.settle_by.ensures.rest
 
 pub returns-clause-fixes : goal.returns-clause-fixes
 returns-clause-fixes g c = λ honest.
@@ -42,16 +37,11 @@ returns-clause-fixes g c = λ honest.
     record {
       inode = c.in_ok-inode.inode;
       opened = ap (λ (m : BTreeMap ℕ ℕ). get nat_cmp m (descriptor_number c.args.file)) (sym same.opens) ∙ c.in_ok-inode.ensures;
-      fixes = fixes_after c.in_ok-inode.inode fs two three (fixes_before c.in_ok-inode.inode fs one two same.files c.in_ok-sized.ensures.fixes) c.settle_by.ensures.fixed;
+      fixes = fixes_after c.in_ok-inode.inode fs two three (fixes_before c.in_ok-inode.inode fs one two same.files c.in_ok-sized.ensures.fixes) c.settle_by.ensures.rest.fixed;
     }
 
-pub returns-in_err-sized-clause-fixed : goal.returns-in_err-sized-clause-fixed
-returns-in_err-sized-clause-fixed g c = fixed_twice c.args.self.now c.begin_call.new.self c.sync_bytes.new.self c.begin_call.ensures.fixed c.sync_bytes.ensures.fixed
+pub returns-in_err-sized-clause-rest : goal.returns-in_err-sized-clause-rest
+returns-in_err-sized-clause-rest g c = rest_of (keeps_twice c.begin_call.ensures.keeps c.sync_bytes.ensures.keeps)
 
-pub returns-in_err-settle_by-clause-fixed : goal.returns-in_err-settle_by-clause-fixed
-returns-in_err-settle_by-clause-fixed g c =
-    let fs = c.args.self.now in
-    let one = c.begin_call.new.self in
-    let two = c.sync_bytes.new.self in
-    let three = c.settle_by.new.self in
-    fixed_twice fs two three (fixed_twice fs one two c.begin_call.ensures.fixed c.sync_bytes.ensures.fixed) c.settle_by.ensures.fixed
+pub returns-in_err-settle_by-clause-rest : goal.returns-in_err-settle_by-clause-rest
+returns-in_err-settle_by-clause-rest g c = rest_before (keeps_twice c.begin_call.ensures.keeps c.sync_bytes.ensures.keeps) c.settle_by.ensures.rest

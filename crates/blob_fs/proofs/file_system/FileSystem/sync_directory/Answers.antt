@@ -9,7 +9,4 @@ returns-clause-settled g c =
     record { directory = c.in_ok-directory.directory; leads = c.in_ok-directory.ensures; settled = s honest })
 
 pub returns-in_err-directory-clause-some : goal.returns-in_err-directory-clause-some
-returns-in_err-directory-clause-some g c = some_kept _ _ refl
-
-pub returns-in_err-directory-clause-fixed : goal.returns-in_err-directory-clause-fixed
-returns-in_err-directory-clause-fixed g c = λ inode at byte below f. f
+returns-in_err-directory-clause-some g c = (refl, some_kept _ _ refl)

@@ -14,52 +14,49 @@ use Rattle.blob_fs.specs.declared.file_system.File.{File}
 use Rattle.blob_fs.specs.declared.truncation.Truncation.{Truncation}
 use Rattle.blob_fs.specs.Fixed.{KeepsFixed}
 use Rattle.blob_fs.specs.Files.{descriptor_number}
-use Rattle.blob_fs.proofs.Fixed.{changes_after, changes_again, changes_less, contents_same, contents_through, fixed_after, fixed_twice, keeps_spared, opened_after, opened_changed, opened_none, opened_through, sets_through, still_self, still_twice, synced_kept, synced_more}
-use Rattle.blob_fs.proofs.Named.{links_set, named_after, named_none, named_through, same_at_most}
-use Rattle.blob_fs.proofs.Tracked.{freed_set, tracked_after, tracked_freed, tracked_none, tracked_store, tracked_through}
+use Rattle.blob_fs.proofs.Fixed.{changes_after, changes_again, changes_less, contents_same, contents_through, fixed_after, fixed_twice, keeps_spared, opened_after, opened_changed, sets_through, still_self, still_twice, synced_kept, synced_more}
+use Rattle.blob_fs.proofs.Named.{links_set, named_after, same_at_most}
+use Rattle.blob_fs.proofs.Tracked.{freed_set, tracked_after, tracked_freed, tracked_store}
 use Rattle.blob_faulty.specs.Wrapper.{next_write_of, size_of}
 use Rattle.blob_journal.specs.Journals.{store_of}
 use Rattle.blob_journal.specs.declared.store.FileBlob.{FileBlob}
 use Rattle.blob_fs.proofs.Sizing.{resized_size}
 use Rattle.std.proofs.Common.{subst}
+use Rattle.blob_fs.proofs.Standing.{standing_lent, standing_none, standing_through}
 use Rattle.blob_fs.proofs.file_system.FileSystem.truncate.Goals as goal
 
 pub returns-in_err-begin_call-clause-fixed : goal.returns-in_err-begin_call-clause-fixed
-returns-in_err-begin_call-clause-fixed g c = λ inode at byte below spared f. c.begin_call.ensures.fixed inode at byte below f
+returns-in_err-begin_call-clause-fixed g c = λ inode at byte below spared f. c.begin_call.ensures.keeps.fixed inode at byte below f
 
 pub returns-in_err-inode-clause-fixed : goal.returns-in_err-inode-clause-fixed
-returns-in_err-inode-clause-fixed g c = λ inode at byte below spared f. c.begin_call.ensures.fixed inode at byte below f
+returns-in_err-inode-clause-fixed g c = λ inode at byte below spared f. c.begin_call.ensures.keeps.fixed inode at byte below f
 
 pub returns-in_err-size-clause-fixed : goal.returns-in_err-size-clause-fixed
-returns-in_err-size-clause-fixed g c = λ inode at byte below spared f. c.begin_call.ensures.fixed inode at byte below f
+returns-in_err-size-clause-fixed g c = λ inode at byte below spared f. c.begin_call.ensures.keeps.fixed inode at byte below f
 
 pub returns-in_err-check_room-clause-fixed : goal.returns-in_err-check_room-clause-fixed
-returns-in_err-check_room-clause-fixed g c = λ inode at byte below spared f. c.begin_call.ensures.fixed inode at byte below f
+returns-in_err-check_room-clause-fixed g c = λ inode at byte below spared f. c.begin_call.ensures.keeps.fixed inode at byte below f
 
 pub returns-in_err-reached-clause-fixed : goal.returns-in_err-reached-clause-fixed
-returns-in_err-reached-clause-fixed g c = λ inode at byte below spared f. c.draw_truncation.ensures.drawn.fixed inode at byte below (c.begin_call.ensures.fixed inode at byte below f)
+returns-in_err-reached-clause-fixed g c = λ inode at byte below spared f. c.draw_truncation.ensures.drawn.fixed inode at byte below (c.begin_call.ensures.keeps.fixed inode at byte below f)
 
 pub returns-then-not-is_failed-clause-fixed : goal.returns-then-not-is_failed-clause-fixed
 returns-then-not-is_failed-clause-fixed g c =
     let fs = c.args.self.now in
     let one = c.draw_truncation.new.self in
-    let keeps : KeepsFixed fs one = fixed_twice fs c.begin_call.new.self one c.begin_call.ensures.fixed c.draw_truncation.ensures.drawn.fixed in
+    let keeps : KeepsFixed fs one = fixed_twice fs c.begin_call.new.self one c.begin_call.ensures.keeps.fixed c.draw_truncation.ensures.drawn.fixed in
     λ inode at byte below spared f. keeps inode at byte below f
 
 pub invariant_of-self : goal.invariant_of-self
 invariant_of-self g c =
     let one = c.draw_truncation.new.self in
-    record {
-      opened = opened_none one.store one.files c.get_mut.follows.lender-at-none c.get_mut.follows.holds-at-none one.opened;
-      named = named_none one.store one.files c.get_mut.follows.lender-at-none c.get_mut.follows.holds-at-none one.named;
-      tracked = tracked_none one.store one.files c.get_mut.follows.lender-at-none c.get_mut.follows.holds-at-none one.tracked;
-    }
+    standing_none one c.get_mut.follows.lender-at-none c.get_mut.follows.holds-at-none
 
 pub returns-in_default-clause-fixed : goal.returns-in_default-clause-fixed
 returns-in_default-clause-fixed g c =
     let fs = c.args.self.now in
     let one = c.draw_truncation.new.self in
-    let keeps : KeepsFixed fs one = fixed_twice fs c.begin_call.new.self one c.begin_call.ensures.fixed c.draw_truncation.ensures.drawn.fixed in
+    let keeps : KeepsFixed fs one = fixed_twice fs c.begin_call.new.self one c.begin_call.ensures.keeps.fixed c.draw_truncation.ensures.drawn.fixed in
     let more : one.next_inode ≤ one.next_inode = omega arith in
     λ inode at byte below spared f.
     fixed_after one _ more (contents_same one.files c.get_mut.follows.lender-at-none c.get_mut.follows.holds-at-none) (still_self one.store) inode at byte below (keeps inode at byte below f)
@@ -70,17 +67,13 @@ invariant_of-self-in-Break-branch-7 g c =
     let was = c.as_mut-found.result.now in
     let there = ap Some c.as_mut-found.ensures.value ∙ c.in-Some.ensures.value in
     let new : File = c.reserve_shown.new.self in
-    record {
-      opened = opened_through one.store one.files (c.get_mut.follows.lender new) c.in_ok-inode.inode was new there (c.get_mut.follows.holds new) c.reserve_shown.ensures.content one.opened;
-      named = named_through one.store one.files (c.get_mut.follows.lender new) c.in_ok-inode.inode was new there (c.get_mut.follows.holds new) (same_at_most (sym c.reserve_shown.ensures.links)) one.named;
-      tracked = tracked_through one.store one.files (c.get_mut.follows.lender new) c.in_ok-inode.inode was new there (c.get_mut.follows.holds new) c.reserve_shown.ensures.gone one.tracked;
-    }
+    standing_through one (c.get_mut.follows.lender new) c.in_ok-inode.inode was new there (c.get_mut.follows.holds new) c.reserve_shown.ensures.content (same_at_most (sym c.reserve_shown.ensures.links)) c.reserve_shown.ensures.gone
 
 pub returns-in_err-reserve_shown-clause-fixed : goal.returns-in_err-reserve_shown-clause-fixed
 returns-in_err-reserve_shown-clause-fixed g c =
     let fs = c.args.self.now in
     let one = c.draw_truncation.new.self in
-    let keeps : KeepsFixed fs one = fixed_twice fs c.begin_call.new.self one c.begin_call.ensures.fixed c.draw_truncation.ensures.drawn.fixed in
+    let keeps : KeepsFixed fs one = fixed_twice fs c.begin_call.new.self one c.begin_call.ensures.keeps.fixed c.draw_truncation.ensures.drawn.fixed in
     let more : one.next_inode ≤ one.next_inode = omega arith in
     let was = c.as_mut-found.result.now in
     let new : File = c.reserve_shown.new.self in
@@ -95,18 +88,13 @@ invariant_of-self-in-Break-branch-8 g c =
     let was = c.as_mut-found.result.now in
     let there = ap Some c.as_mut-found.ensures.value ∙ c.in-Some.ensures.value in
     let new : File = record c.reserve_shown.new.self { truncations = c.reserve.new.self } in
-    record {
-      opened = opened_through one.store one.files (c.get_mut.follows.lender new) c.in_ok-inode.inode was new there (c.get_mut.follows.holds new)
-          (record { blob = c.reserve_shown.ensures.content.blob; synced = c.reserve_shown.ensures.content.synced; truncations = c.reserve.ensures.items ∙ c.reserve_shown.ensures.content.truncations }) one.opened;
-      named = named_through one.store one.files (c.get_mut.follows.lender new) c.in_ok-inode.inode was new there (c.get_mut.follows.holds new) (same_at_most (sym c.reserve_shown.ensures.links)) one.named;
-      tracked = tracked_through one.store one.files (c.get_mut.follows.lender new) c.in_ok-inode.inode was new there (c.get_mut.follows.holds new) c.reserve_shown.ensures.gone one.tracked;
-    }
+    standing_through one (c.get_mut.follows.lender new) c.in_ok-inode.inode was new there (c.get_mut.follows.holds new) (record { blob = c.reserve_shown.ensures.content.blob; synced = c.reserve_shown.ensures.content.synced; truncations = c.reserve.ensures.items ∙ c.reserve_shown.ensures.content.truncations }) (same_at_most (sym c.reserve_shown.ensures.links)) c.reserve_shown.ensures.gone
 
 pub returns-in_err-reserve-clause-fixed : goal.returns-in_err-reserve-clause-fixed
 returns-in_err-reserve-clause-fixed g c =
     let fs = c.args.self.now in
     let one = c.draw_truncation.new.self in
-    let keeps : KeepsFixed fs one = fixed_twice fs c.begin_call.new.self one c.begin_call.ensures.fixed c.draw_truncation.ensures.drawn.fixed in
+    let keeps : KeepsFixed fs one = fixed_twice fs c.begin_call.new.self one c.begin_call.ensures.keeps.fixed c.draw_truncation.ensures.drawn.fixed in
     let more : one.next_inode ≤ one.next_inode = omega arith in
     let was = c.as_mut-found.result.now in
     let new : File = record c.reserve_shown.new.self { truncations = c.reserve.new.self } in
@@ -121,19 +109,15 @@ invariant_of-self-in-Break-branch-9 g c =
     let was = c.as_mut-found.result.now in
     let there = ap Some c.as_mut-found.ensures.value ∙ c.in-Some.ensures.value in
     let new : File = record c.reserve_shown.new.self { truncations = c.reserve.new.self } in
-    record {
-      opened = opened_after one.store c.record_truncation.new.self one.files (c.get_mut.follows.lender new)
-          (contents_through one.files (c.get_mut.follows.lender new) c.in_ok-inode.inode was new there (c.get_mut.follows.holds new) (record { blob = c.reserve_shown.ensures.content.blob; synced = c.reserve_shown.ensures.content.synced; truncations = c.reserve.ensures.items ∙ c.reserve_shown.ensures.content.truncations })) c.record_truncation.ensures.still one.opened;
-      named = named_after one.store c.record_truncation.new.self one.files (c.get_mut.follows.lender new) c.record_truncation.ensures.names
-          (links_set one.files (c.get_mut.follows.lender new) c.in_ok-inode.inode was new there (sets_through one.files (c.get_mut.follows.lender new) c.in_ok-inode.inode was new there (c.get_mut.follows.holds new)) (same_at_most (sym c.reserve_shown.ensures.links))) one.named;
-      tracked = tracked_after one.store c.record_truncation.new.self one.files (c.get_mut.follows.lender new) c.record_truncation.ensures.names c.in_err-edit.ensures.untold (freed_set one.files (c.get_mut.follows.lender new) c.in_ok-inode.inode was new there (sets_through one.files (c.get_mut.follows.lender new) c.in_ok-inode.inode was new there (c.get_mut.follows.holds new)) c.reserve_shown.ensures.gone) one.tracked;
-    }
+    standing_lent one c.record_truncation.new.self (c.get_mut.follows.lender new) c.in_ok-inode.inode was new there (c.get_mut.follows.holds new)
+    (record { blob = c.reserve_shown.ensures.content.blob; synced = c.reserve_shown.ensures.content.synced; truncations = c.reserve.ensures.items ∙ c.reserve_shown.ensures.content.truncations })
+    (same_at_most (sym c.reserve_shown.ensures.links)) c.reserve_shown.ensures.gone c.record_truncation.ensures.still c.record_truncation.ensures.names c.in_err-edit.ensures.untold
 
 pub returns-in_err-edit-clause-fixed : goal.returns-in_err-edit-clause-fixed
 returns-in_err-edit-clause-fixed g c =
     let fs = c.args.self.now in
     let one = c.draw_truncation.new.self in
-    let keeps : KeepsFixed fs one = fixed_twice fs c.begin_call.new.self one c.begin_call.ensures.fixed c.draw_truncation.ensures.drawn.fixed in
+    let keeps : KeepsFixed fs one = fixed_twice fs c.begin_call.new.self one c.begin_call.ensures.keeps.fixed c.draw_truncation.ensures.drawn.fixed in
     let more : one.next_inode ≤ one.next_inode = omega arith in
     let was = c.as_mut-found.result.now in
     let new : File = record c.reserve_shown.new.self { truncations = c.reserve.new.self } in
@@ -159,8 +143,8 @@ invariant_of-self-in-Break-branch-10 g c =
     (changes_after spares one.store c.set_config.new.self c.cut_page.new.store c.reserve_shown.new.self.blob c.cut_page.new.blob still resized) in
     record {
       opened = opened_changed spares one.store c.cut_page.new.store one.files (c.get_mut.follows.lender new) c.in_ok-inode.inode was new (omega arith) there sets changes one.opened;
-      named = named_after one.store c.cut_page.new.store one.files (c.get_mut.follows.lender new) (c.cut_page.ensures.names ∙ c.set_config.ensures.names ∙ c.record_truncation.ensures.names) (links_set one.files (c.get_mut.follows.lender new) c.in_ok-inode.inode was new there sets (same_at_most (sym c.reserve_shown.ensures.links))) one.named;
-      tracked = tracked_store c.record_truncation.new.self c.cut_page.new.store (c.get_mut.follows.lender new) (c.cut_page.ensures.names ∙ c.set_config.ensures.names) (c.cut_page.ensures.told ∙ c.set_config.ensures.journal.told)
+      named = named_after one.store c.cut_page.new.store one.files (c.get_mut.follows.lender new) (c.cut_page.ensures.keeps.names ∙ c.set_config.ensures.names ∙ c.record_truncation.ensures.names) (links_set one.files (c.get_mut.follows.lender new) c.in_ok-inode.inode was new there sets (same_at_most (sym c.reserve_shown.ensures.links))) one.named;
+      tracked = tracked_store c.record_truncation.new.self c.cut_page.new.store (c.get_mut.follows.lender new) (c.cut_page.ensures.keeps.names ∙ c.set_config.ensures.names) (c.cut_page.ensures.keeps.told ∙ c.set_config.ensures.journal.told)
           (tracked_freed (record { may = c.bindings.ensures.one_more; within = c.bindings.ensures.within_one_more; freed = c.bindings.ensures.freed_one_more })
           one.store c.record_truncation.new.self c.in_ok-inode.inode one.files (c.get_mut.follows.lender new) c.record_truncation.ensures.names c.in_ok-edit.ensures.told
           (freed_set one.files (c.get_mut.follows.lender new) c.in_ok-inode.inode was new there sets c.reserve_shown.ensures.gone) one.named one.tracked);
@@ -170,7 +154,7 @@ pub returns-in_err-cut_page-clause-fixed : goal.returns-in_err-cut_page-clause-f
 returns-in_err-cut_page-clause-fixed g c =
     let fs = c.args.self.now in
     let one = c.draw_truncation.new.self in
-    let keeps : KeepsFixed fs one = fixed_twice fs c.begin_call.new.self one c.begin_call.ensures.fixed c.draw_truncation.ensures.drawn.fixed in
+    let keeps : KeepsFixed fs one = fixed_twice fs c.begin_call.new.self one c.begin_call.ensures.keeps.fixed c.draw_truncation.ensures.drawn.fixed in
     let was = c.as_mut-found.result.now in
     let there = ap Some c.as_mut-found.ensures.value ∙ c.in-Some.ensures.value in
     let new : File = record c.reserve_shown.new.self { blob = c.cut_page.new.blob; truncations = c.reserve.new.self } in
@@ -205,8 +189,8 @@ invariant_of-self-2 g c =
     (changes_after spares one.store c.set_config.new.self c.cut_page.new.store c.reserve_shown.new.self.blob c.cut_page.new.blob still resized) in
     record {
       opened = opened_changed spares one.store c.cut_page.new.store one.files (c.get_mut.follows.lender new) c.in_ok-inode.inode was new (omega arith) there sets changes one.opened;
-      named = named_after one.store c.cut_page.new.store one.files (c.get_mut.follows.lender new) (c.cut_page.ensures.names ∙ c.set_config.ensures.names ∙ c.record_truncation.ensures.names) (links_set one.files (c.get_mut.follows.lender new) c.in_ok-inode.inode was new there sets (same_at_most (sym (c.end_truncate-now.ensures.links ∙ c.reserve_shown.ensures.links)))) one.named;
-      tracked = tracked_store c.record_truncation.new.self c.cut_page.new.store (c.get_mut.follows.lender new) (c.cut_page.ensures.names ∙ c.set_config.ensures.names) (c.cut_page.ensures.told ∙ c.set_config.ensures.journal.told)
+      named = named_after one.store c.cut_page.new.store one.files (c.get_mut.follows.lender new) (c.cut_page.ensures.keeps.names ∙ c.set_config.ensures.names ∙ c.record_truncation.ensures.names) (links_set one.files (c.get_mut.follows.lender new) c.in_ok-inode.inode was new there sets (same_at_most (sym (c.end_truncate-now.ensures.links ∙ c.reserve_shown.ensures.links)))) one.named;
+      tracked = tracked_store c.record_truncation.new.self c.cut_page.new.store (c.get_mut.follows.lender new) (c.cut_page.ensures.keeps.names ∙ c.set_config.ensures.names) (c.cut_page.ensures.keeps.told ∙ c.set_config.ensures.journal.told)
           (tracked_freed (record { may = c.bindings.ensures.one_more; within = c.bindings.ensures.within_one_more; freed = c.bindings.ensures.freed_one_more })
           one.store c.record_truncation.new.self c.in_ok-inode.inode one.files (c.get_mut.follows.lender new) c.record_truncation.ensures.names c.in_ok-edit.ensures.told
           (freed_set one.files (c.get_mut.follows.lender new) c.in_ok-inode.inode was new there sets (c.end_truncate-now.ensures.gone ∙ c.reserve_shown.ensures.gone)) one.named one.tracked);
@@ -216,7 +200,7 @@ pub returns-then-is_failed-clause-fixed : goal.returns-then-is_failed-clause-fix
 returns-then-is_failed-clause-fixed g c =
     let fs = c.args.self.now in
     let one = c.draw_truncation.new.self in
-    let keeps : KeepsFixed fs one = fixed_twice fs c.begin_call.new.self one c.begin_call.ensures.fixed c.draw_truncation.ensures.drawn.fixed in
+    let keeps : KeepsFixed fs one = fixed_twice fs c.begin_call.new.self one c.begin_call.ensures.keeps.fixed c.draw_truncation.ensures.drawn.fixed in
     let was = c.as_mut-found.result.now in
     let there = ap Some c.as_mut-found.ensures.value ∙ c.in-Some.ensures.value in
     let new : File = c.end_truncate-now.new.self in
@@ -242,7 +226,7 @@ pub returns-clause-fixed : goal.returns-clause-fixed
 returns-clause-fixed g c =
     let fs = c.args.self.now in
     let one = c.draw_truncation.new.self in
-    let keeps : KeepsFixed fs one = fixed_twice fs c.begin_call.new.self one c.begin_call.ensures.fixed c.draw_truncation.ensures.drawn.fixed in
+    let keeps : KeepsFixed fs one = fixed_twice fs c.begin_call.new.self one c.begin_call.ensures.keeps.fixed c.draw_truncation.ensures.drawn.fixed in
     let was = c.as_mut-found.result.now in
     let there = ap Some c.as_mut-found.ensures.value ∙ c.in-Some.ensures.value in
     let new : File = c.end_truncate-now.new.self in
@@ -361,22 +345,22 @@ pub returns-in_err-cut_page-clause-told : goal.returns-in_err-cut_page-clause-to
 returns-in_err-cut_page-clause-told g c =
     let inode = c.in_ok-inode.inode in
     let opens = ap (λ (m : BTreeMap ℕ ℕ). get nat_cmp m (descriptor_number c.args.file)) (sym c.begin_call.ensures.files.opens) ∙ c.in_ok-inode.ensures in
-    let recorded = c.in_ok-edit.ensures.told ∙ ap (λ (l : List Found). l ++ Some (resizes inode, false) ∷ []) (c.draw_truncation.ensures.drawn.told ∙ c.begin_call.ensures.told) in
-    inr (inode, opens, c.cut_page.ensures.told ∙ c.set_config.ensures.journal.told ∙ recorded)
+    let recorded = c.in_ok-edit.ensures.told ∙ ap (λ (l : List Found). l ++ Some (resizes inode, false) ∷ []) (c.draw_truncation.ensures.drawn.told ∙ c.begin_call.ensures.keeps.told) in
+    inr (inode, opens, c.cut_page.ensures.keeps.told ∙ c.set_config.ensures.journal.told ∙ recorded)
 
 pub returns-then-is_failed-clause-told : goal.returns-then-is_failed-clause-told
 returns-then-is_failed-clause-told g c =
     let inode = c.in_ok-inode.inode in
     let opens = ap (λ (m : BTreeMap ℕ ℕ). get nat_cmp m (descriptor_number c.args.file)) (sym c.begin_call.ensures.files.opens) ∙ c.in_ok-inode.ensures in
-    let recorded = c.in_ok-edit.ensures.told ∙ ap (λ (l : List Found). l ++ Some (resizes inode, false) ∷ []) (c.draw_truncation.ensures.drawn.told ∙ c.begin_call.ensures.told) in
-    inr (inode, opens, c.count.ensures.told ∙ c.cut_page.ensures.told ∙ c.set_config.ensures.journal.told ∙ recorded)
+    let recorded = c.in_ok-edit.ensures.told ∙ ap (λ (l : List Found). l ++ Some (resizes inode, false) ∷ []) (c.draw_truncation.ensures.drawn.told ∙ c.begin_call.ensures.keeps.told) in
+    inr (inode, opens, c.count.ensures.keeps.told ∙ c.cut_page.ensures.keeps.told ∙ c.set_config.ensures.journal.told ∙ recorded)
 
 pub returns-clause-told : goal.returns-clause-told
 returns-clause-told g c =
     let inode = c.in_ok-inode.inode in
     let opens = ap (λ (m : BTreeMap ℕ ℕ). get nat_cmp m (descriptor_number c.args.file)) (sym c.begin_call.ensures.files.opens) ∙ c.in_ok-inode.ensures in
-    let recorded = c.in_ok-edit.ensures.told ∙ ap (λ (l : List Found). l ++ Some (resizes inode, false) ∷ []) (c.draw_truncation.ensures.drawn.told ∙ c.begin_call.ensures.told) in
-    inr (inode, opens, c.count.ensures.told ∙ c.cut_page.ensures.told ∙ c.set_config.ensures.journal.told ∙ recorded)
+    let recorded = c.in_ok-edit.ensures.told ∙ ap (λ (l : List Found). l ++ Some (resizes inode, false) ∷ []) (c.draw_truncation.ensures.drawn.told ∙ c.begin_call.ensures.keeps.told) in
+    inr (inode, opens, c.count.ensures.keeps.told ∙ c.cut_page.ensures.keeps.told ∙ c.set_config.ensures.journal.told ∙ recorded)
 
 pub returns-in_err-zeros-clause-fixed : goal.returns-in_err-zeros-clause-fixed
-returns-in_err-zeros-clause-fixed g c = λ inode at byte below spared f. c.draw_truncation.ensures.drawn.fixed inode at byte below (c.begin_call.ensures.fixed inode at byte below f)
+returns-in_err-zeros-clause-fixed g c = λ inode at byte below spared f. c.draw_truncation.ensures.drawn.fixed inode at byte below (c.begin_call.ensures.keeps.fixed inode at byte below f)

@@ -16,9 +16,8 @@ use Rattle.blob_fs.specs.declared.file_system.Options.{Options}
 use Rattle.blob_fs.specs.Files.{descriptor_number}
 use Rattle.blob_fs.proofs.Calls.{was_ok}
 use Rattle.blob_fs.specs.Open.{KeepsCutsOf}
-use Rattle.blob_fs.proofs.Fixed.{changes_again, contents_same, contents_through, cuts_from, cuts_of, cuts_same, cuts_set, fixed_after, fixed_twice, keeps_spared, opened_changed, opened_none, opened_through, sets_through, still_self, synced_kept}
-use Rattle.blob_fs.proofs.Named.{links_set, named_after, named_none, named_through, same_at_most}
-use Rattle.blob_fs.proofs.Tracked.{freed_set, tracked_after, tracked_none, tracked_through}
+use Rattle.blob_fs.proofs.Fixed.{changes_again, contents_same, contents_through, cuts_from, cuts_of, cuts_same, cuts_set, fixed_after, fixed_twice, keeps_spared, sets_through, still_self, synced_kept}
+use Rattle.blob_fs.proofs.Named.{same_at_most}
 use Rattle.std.proofs.Common.{◌≡◌, ◌+◌, List, Option, ap₂, false, inl, inr, max, true, ⊎_elim}
 use Rattle.std.proofs.lemmas.Bool.{cond-true}
 use Rattle.std.specs.Ordering.{is_eq}
@@ -42,37 +41,34 @@ use Rattle.blob_journal.specs.Writes.{entries_of_write as journal_entries}
 use Rattle.blob_fs.specs.Writes.{KeepsAsSet, entries_of_write, faults_of, leaves_zeros, profile_of, rates_of}
 use Rattle.blob_fs.proofs.Zeroing.{end_there, none_below}
 use Rattle.blob_directory.specs.declared.profile.Profile.{Profile}
+use Rattle.blob_fs.proofs.Standing.{standing_changed, standing_none, standing_through}
 use Rattle.blob_fs.proofs.file_system.FileSystem.write.Goals as goal
 
 pub returns-in_err-begin_call-clause-fixed : goal.returns-in_err-begin_call-clause-fixed
-returns-in_err-begin_call-clause-fixed g c = λ inode at byte below spared f. c.begin_call.ensures.fixed inode at byte below f
+returns-in_err-begin_call-clause-fixed g c = λ inode at byte below spared f. c.begin_call.ensures.keeps.fixed inode at byte below f
 
 pub returns-in_err-inode-clause-fixed : goal.returns-in_err-inode-clause-fixed
-returns-in_err-inode-clause-fixed g c = λ inode at byte below spared f. c.begin_call.ensures.fixed inode at byte below f
+returns-in_err-inode-clause-fixed g c = λ inode at byte below spared f. c.begin_call.ensures.keeps.fixed inode at byte below f
 
-pub returns-in_err-size-clause-fixed : goal.returns-in_err-size-clause-fixed
-returns-in_err-size-clause-fixed g c = λ inode at byte below spared f. c.begin_call.ensures.fixed inode at byte below f
+pub returns-in_err-extent-clause-fixed : goal.returns-in_err-extent-clause-fixed
+returns-in_err-extent-clause-fixed g c = λ inode at byte below spared f. c.begin_call.ensures.keeps.fixed inode at byte below f
 
 pub returns-in_err-check_room-clause-fixed : goal.returns-in_err-check_room-clause-fixed
-returns-in_err-check_room-clause-fixed g c = λ inode at byte below spared f. c.begin_call.ensures.fixed inode at byte below f
+returns-in_err-check_room-clause-fixed g c = λ inode at byte below spared f. c.begin_call.ensures.keeps.fixed inode at byte below f
 
 pub returns-in_err-how-clause-fixed : goal.returns-in_err-how-clause-fixed
-returns-in_err-how-clause-fixed g c = λ inode at byte below spared f. c.draw_growth.ensures.drawn.fixed inode at byte below (c.begin_call.ensures.fixed inode at byte below f)
+returns-in_err-how-clause-fixed g c = λ inode at byte below spared f. c.draw_growth.ensures.drawn.fixed inode at byte below (c.begin_call.ensures.keeps.fixed inode at byte below f)
 
-pub returns-in_err-from-clause-fixed : goal.returns-in_err-from-clause-fixed
-returns-in_err-from-clause-fixed g c = λ inode at byte below spared f. c.begin_call.ensures.fixed inode at byte below f
+pub returns-in_err-zeros-clause-fixed : goal.returns-in_err-zeros-clause-fixed
+returns-in_err-zeros-clause-fixed g c = λ inode at byte below spared f. c.begin_call.ensures.keeps.fixed inode at byte below f
 
-pub returns-in_err-from-clause-cuts : goal.returns-in_err-from-clause-cuts
-returns-in_err-from-clause-cuts g c = cuts_same c.args.self.now.files c.begin_call.new.self.files c.begin_call.ensures.files.files
+pub returns-in_err-zeros-clause-cuts : goal.returns-in_err-zeros-clause-cuts
+returns-in_err-zeros-clause-cuts g c = cuts_same c.args.self.now.files c.begin_call.new.self.files c.begin_call.ensures.files.files
 
 pub invariant_of-self : goal.invariant_of-self
 invariant_of-self g c =
     let one = c.draw_growth.new.self in
-    record {
-      opened = opened_none one.store one.files c.get_mut.follows.lender-at-none c.get_mut.follows.holds-at-none one.opened;
-      named = named_none one.store one.files c.get_mut.follows.lender-at-none c.get_mut.follows.holds-at-none one.named;
-      tracked = tracked_none one.store one.files c.get_mut.follows.lender-at-none c.get_mut.follows.holds-at-none one.tracked;
-    }
+    standing_none one c.get_mut.follows.lender-at-none c.get_mut.follows.holds-at-none
 
 pub returns-in_default-clause-fixed : goal.returns-in_default-clause-fixed
 returns-in_default-clause-fixed g c =
@@ -80,7 +76,7 @@ returns-in_default-clause-fixed g c =
     let more : one.next_inode ≤ one.next_inode = omega arith in
     λ inode at byte below spared f.
     fixed_after one _ more (contents_same one.files c.get_mut.follows.lender-at-none c.get_mut.follows.holds-at-none) (still_self one.store) inode at byte below
-    (c.draw_growth.ensures.drawn.fixed inode at byte below (c.begin_call.ensures.fixed inode at byte below f))
+    (c.draw_growth.ensures.drawn.fixed inode at byte below (c.begin_call.ensures.keeps.fixed inode at byte below f))
 
 pub invariant_of-self-in-Break-branch-7 : goal.invariant_of-self-in-Break-branch-7
 invariant_of-self-in-Break-branch-7 g c =
@@ -88,11 +84,7 @@ invariant_of-self-in-Break-branch-7 g c =
     let was = c.as_mut-found.result.now in
     let there = ap Some c.as_mut-found.ensures.value ∙ c.in-Some.ensures.value in
     let new : File = c.reserve_shown.new.self in
-    record {
-      opened = opened_through one.store one.files (c.get_mut.follows.lender new) c.in_ok-inode.inode was new there (c.get_mut.follows.holds new) c.reserve_shown.ensures.content one.opened;
-      named = named_through one.store one.files (c.get_mut.follows.lender new) c.in_ok-inode.inode was new there (c.get_mut.follows.holds new) (same_at_most (sym c.reserve_shown.ensures.links)) one.named;
-      tracked = tracked_through one.store one.files (c.get_mut.follows.lender new) c.in_ok-inode.inode was new there (c.get_mut.follows.holds new) c.reserve_shown.ensures.gone one.tracked;
-    }
+    standing_through one (c.get_mut.follows.lender new) c.in_ok-inode.inode was new there (c.get_mut.follows.holds new) c.reserve_shown.ensures.content (same_at_most (sym c.reserve_shown.ensures.links)) c.reserve_shown.ensures.gone
 
 pub returns-in_err-reserve_shown-clause-fixed : goal.returns-in_err-reserve_shown-clause-fixed
 returns-in_err-reserve_shown-clause-fixed g c =
@@ -102,7 +94,7 @@ returns-in_err-reserve_shown-clause-fixed g c =
     let more : one.next_inode ≤ one.next_inode = omega arith in
     λ inode at byte below spared f.
     fixed_after one _ more (contents_through one.files (c.get_mut.follows.lender new) c.in_ok-inode.inode was new (ap Some c.as_mut-found.ensures.value ∙ c.in-Some.ensures.value) (c.get_mut.follows.holds new) c.reserve_shown.ensures.content)
-    (still_self one.store) inode at byte below (c.draw_growth.ensures.drawn.fixed inode at byte below (c.begin_call.ensures.fixed inode at byte below f))
+    (still_self one.store) inode at byte below (c.draw_growth.ensures.drawn.fixed inode at byte below (c.begin_call.ensures.keeps.fixed inode at byte below f))
 
 pub invariant_of-self-2 : goal.invariant_of-self-2
 invariant_of-self-2 g c =
@@ -111,15 +103,11 @@ invariant_of-self-2 g c =
     let there = ap Some c.as_mut-found.ensures.value ∙ c.in-Some.ensures.value in
     let new : File = c.end_write-now.new.self in
     let spares = IsBeside c.args.offset (length c.args.bytes.now) in
-    let sets = sets_through one.files (c.get_mut.follows.lender new) c.in_ok-inode.inode was new there (c.get_mut.follows.holds new) in
     let changes : ChangesOpen spares one.store was.blob c.write_grown-written.new.store new.blob =
     changes_again spares one.store c.write_grown-written.new.store c.reserve_shown.new.self.blob c.write_grown-written.new.blob was.blob new.blob
     c.reserve_shown.ensures.content.blob c.end_write-now.ensures.content.blob c.write_grown-written.ensures.still in
-    record {
-      opened = opened_changed spares one.store c.write_grown-written.new.store one.files (c.get_mut.follows.lender new) c.in_ok-inode.inode was new (omega arith) there sets changes one.opened;
-      named = named_after one.store c.write_grown-written.new.store one.files (c.get_mut.follows.lender new) c.write_grown-written.ensures.names (links_set one.files (c.get_mut.follows.lender new) c.in_ok-inode.inode was new there sets (same_at_most (sym (c.end_write-now.ensures.links ∙ c.reserve_shown.ensures.links)))) one.named;
-      tracked = tracked_after one.store c.write_grown-written.new.store one.files (c.get_mut.follows.lender new) c.write_grown-written.ensures.names c.write_grown-written.ensures.told (freed_set one.files (c.get_mut.follows.lender new) c.in_ok-inode.inode was new there sets (c.end_write-now.ensures.gone ∙ c.reserve_shown.ensures.gone)) one.tracked;
-    }
+    standing_changed spares one c.write_grown-written.new.store (c.get_mut.follows.lender new) c.in_ok-inode.inode was new (omega arith) there (c.get_mut.follows.holds new) changes
+    (same_at_most (sym (c.end_write-now.ensures.links ∙ c.reserve_shown.ensures.links))) (c.end_write-now.ensures.gone ∙ c.reserve_shown.ensures.gone) c.write_grown-written.ensures.keeps.names c.write_grown-written.ensures.keeps.told
 
 pub returns-in-Ok-clause-recorded : goal.returns-in-Ok-clause-recorded
 returns-in-Ok-clause-recorded g c = λ by_mode no_zeros.
@@ -135,11 +123,11 @@ returns-in-Ok-clause-recorded g c = λ by_mode no_zeros.
     let small : inode < 2 ^ 64 = omega arith in
     let opened = ap (λ (m : BTreeMap ℕ ℕ). get nat_cmp m (descriptor_number c.args.file)) (sym same.opens) ∙ c.in_ok-inode.ensures in
     let filed = ap (λ (m : BTreeMap ℕ File). get nat_cmp m inode) (sym (drawn.files.files ∙ same.files)) ∙ sym there in
-    let end = end_there fs c.args.file inode found opened filed ∙ c.in_ok-from.ensures.end found (ap (λ (m : BTreeMap ℕ File). get nat_cmp m inode) (sym drawn.files.files) ∙ sym there) in
-    let plain : leaves_zeros (profile_of begun) c.in_ok-from.from c.args.offset (c.args.offset + length c.args.bytes.now) ≡ false =
+    let end = end_there fs c.args.file inode found opened filed ∙ c.in_ok-extent.ensures found (ap (λ (m : BTreeMap ℕ File). get nat_cmp m inode) (sym drawn.files.files) ∙ sym there) in
+    let plain : leaves_zeros (profile_of begun) c.in_ok-extent.extent.end c.args.offset (c.args.offset + length c.args.bytes.now) ≡ false =
     ap₂ (λ (p : Profile) (size : ℕ). leaves_zeros p size c.args.offset (c.args.offset + length c.args.bytes.now)) (ap (λ (o : Options). o.profile) same.options) (sym end) ∙ no_zeros in
-    let none : length c.in_ok-from.zeros.items ≡ 0 = c.in_ok-from.ensures.none
-    (none_below (profile_of begun) c.in_ok-from.from c.args.offset (c.args.offset + length c.args.bytes.now) c.saturating_add-end.result (omega (arith, c.saturating_add-end.ensures)) plain) in
+    let none : length c.in_ok-zeros.zeros.items ≡ 0 = c.in_ok-zeros.ensures.none
+    (none_below (profile_of begun) c.in_ok-extent.extent.end c.args.offset (c.args.offset + length c.args.bytes.now) c.saturating_add-end.result (omega (arith, c.saturating_add-end.ensures)) plain) in
     let empty_zeros : c.is_empty.result ≡ true = grind (arith, none, c.is_empty.ensures) in
     let how = c.in_ok-how.ensures.how (ap (λ (o : Options). o.failed_write) same.options ∙ by_mode) in
     let offset = c.args.offset in
@@ -183,7 +171,7 @@ returns-clause-fixed g c =
     c.reserve_shown.ensures.content.blob c.end_write-now.ensures.content.blob c.write_grown-written.ensures.still in
     let opens = ap (λ (m : BTreeMap ℕ ℕ). get nat_cmp m (descriptor_number c.args.file)) (sym c.begin_call.ensures.files.opens) ∙ c.in_ok-inode.ensures in
     let small : c.in_ok-inode.inode < 2 ^ 64 = omega arith in
-    keeps_spared c.args.self.now one c.count.new.self c.args.file spares c.write_grown-written.new.store (c.get_mut.follows.lender new) c.in_ok-inode.inode was new opens (fixed_twice c.args.self.now c.begin_call.new.self one c.begin_call.ensures.fixed c.draw_growth.ensures.drawn.fixed)
+    keeps_spared c.args.self.now one c.count.new.self c.args.file spares c.write_grown-written.new.store (c.get_mut.follows.lender new) c.in_ok-inode.inode was new opens (fixed_twice c.args.self.now c.begin_call.new.self one c.begin_call.ensures.keeps.fixed c.draw_growth.ensures.drawn.fixed)
     c.count.ensures.number c.count.ensures.files.files c.count.ensures.store small there sets changes
     (λ at s. synced_kept at was new (c.end_write-now.ensures.content.synced ∙ c.reserve_shown.ensures.content.synced) (c.end_write-now.ensures.content.truncations ∙ c.reserve_shown.ensures.content.truncations)) one.opened
 
@@ -200,7 +188,7 @@ returns-in-Ok-clause-fixed g c =
     c.reserve_shown.ensures.content.blob c.end_write-now.ensures.content.blob c.write_grown-written.ensures.still in
     let opens = ap (λ (m : BTreeMap ℕ ℕ). get nat_cmp m (descriptor_number c.args.file)) (sym c.begin_call.ensures.files.opens) ∙ c.in_ok-inode.ensures in
     let small : c.in_ok-inode.inode < 2 ^ 64 = omega arith in
-    keeps_spared c.args.self.now one c.count.new.self c.args.file spares c.write_grown-written.new.store (c.get_mut.follows.lender new) c.in_ok-inode.inode was new opens (fixed_twice c.args.self.now c.begin_call.new.self one c.begin_call.ensures.fixed c.draw_growth.ensures.drawn.fixed)
+    keeps_spared c.args.self.now one c.count.new.self c.args.file spares c.write_grown-written.new.store (c.get_mut.follows.lender new) c.in_ok-inode.inode was new opens (fixed_twice c.args.self.now c.begin_call.new.self one c.begin_call.ensures.keeps.fixed c.draw_growth.ensures.drawn.fixed)
     c.count.ensures.number c.count.ensures.files.files c.count.ensures.store small there sets changes
     (λ at s. synced_kept at was new (c.end_write-now.ensures.content.synced ∙ c.reserve_shown.ensures.content.synced) (c.end_write-now.ensures.content.truncations ∙ c.reserve_shown.ensures.content.truncations)) one.opened
 
@@ -210,8 +198,8 @@ returns-in_err-begin_call-clause-cuts g c = cuts_same c.args.self.now.files c.be
 pub returns-in_err-inode-clause-cuts : goal.returns-in_err-inode-clause-cuts
 returns-in_err-inode-clause-cuts g c = cuts_same c.args.self.now.files c.begin_call.new.self.files c.begin_call.ensures.files.files
 
-pub returns-in_err-size-clause-cuts : goal.returns-in_err-size-clause-cuts
-returns-in_err-size-clause-cuts g c = cuts_same c.args.self.now.files c.begin_call.new.self.files c.begin_call.ensures.files.files
+pub returns-in_err-extent-clause-cuts : goal.returns-in_err-extent-clause-cuts
+returns-in_err-extent-clause-cuts g c = cuts_same c.args.self.now.files c.begin_call.new.self.files c.begin_call.ensures.files.files
 
 pub returns-in_err-check_room-clause-cuts : goal.returns-in_err-check_room-clause-cuts
 returns-in_err-check_room-clause-cuts g c = cuts_same c.args.self.now.files c.begin_call.new.self.files c.begin_call.ensures.files.files
@@ -266,7 +254,7 @@ write_grown-written-requires g c =
     let fs = c.args.self.now in
     let found : File = c.as_mut-found.result.now in
     let there = ap Some c.as_mut-found.ensures.value ∙ c.in-Some.ensures.value in
-    let end = c.in_ok-from.ensures.end found (ap (λ (m : BTreeMap ℕ File). get nat_cmp m c.in_ok-inode.inode) (sym c.draw_growth.ensures.drawn.files.files) ∙ sym there) in
+    let end = c.in_ok-extent.ensures found (ap (λ (m : BTreeMap ℕ File). get nat_cmp m c.in_ok-inode.inode) (sym c.draw_growth.ensures.drawn.files.files) ∙ sym there) in
     let same : size_of c.reserve_shown.new.self.blob.blob ≡ size_of found.blob.blob = ap (λ (b : FileBlob). size_of b.blob) c.reserve_shown.ensures.content.blob in
     omega (arith, same, end)
 
@@ -284,10 +272,10 @@ returns-in-Ok-clause-shows g c = λ by_mode.
     let blob = c.reserve_shown.new.self.blob in
     let offset = c.args.offset in
     let bytes = c.args.bytes.now in
-    let from = c.in_ok-from.from in
-    let size : size_of found.blob.blob ≡ from = c.in_ok-from.ensures.end found (ap (λ (m : BTreeMap ℕ File). get nat_cmp m inode) (sym drawn.files.files) ∙ sym there) in
+    let from = c.in_ok-extent.extent.end in
+    let size : size_of found.blob.blob ≡ from = c.in_ok-extent.ensures found (ap (λ (m : BTreeMap ℕ File). get nat_cmp m inode) (sym drawn.files.files) ∙ sym there) in
     let how = c.in_ok-how.ensures.how (ap (λ (o : Options). o.failed_write) same.options ∙ by_mode) in
-    let less : from + length c.in_ok-from.zeros.items ≤ max from (offset + length bytes) = omega (arith, c.in_ok-from.ensures.within, c.saturating_add-end.ensures) in
+    let less : from + length c.in_ok-zeros.zeros.items ≤ max from (offset + length bytes) = omega (arith, c.in_ok-zeros.ensures.within, c.saturating_add-end.ensures) in
     let sets = sets_through one.files (c.get_mut.follows.lender new) inode found new there (c.get_mut.follows.holds new) in
     was_ok c.write_grown-written.result _ c.in-Ok.is c.write_grown-written.ensures.shows (λ shows. record {
       inode = inode;
@@ -302,9 +290,9 @@ returns-in-Ok-clause-shows g c = λ by_mode.
           read_blob new (c.end_write-now.ensures.shown (c.reserve_shown.ensures.shown none))
           ∙ ap (λ (b : FileBlob). bytes_of b) c.end_write-now.ensures.content.blob
           ∙ ∥∥₁_elim one.opened (Coded-set (coded_list coded_ℕ) _ _) (λ each.
-          shows_grown one.store inode blob c.write_grown-written.new.blob from offset c.in_ok-from.zeros.items c.chosen-zeros.result.now bytes
+          shows_grown one.store inode blob c.write_grown-written.new.blob from offset c.in_ok-zeros.zeros.items c.chosen-zeros.result.now bytes
           (subst (λ (b : FileBlob). IsOpen one.store inode b) (sym c.reserve_shown.ensures.content.blob) (each inode found small (sym there)))
-          (ap (λ (b : FileBlob). size_of b.blob) c.reserve_shown.ensures.content.blob ∙ size) c.in_ok-from.ensures.zeros less
+          (ap (λ (b : FileBlob). size_of b.blob) c.reserve_shown.ensures.content.blob ∙ size) c.in_ok-zeros.ensures.zeros less
           (⊎_elim (λ e. inl (e ∙ c.deref.ensures.value)) inr c.chosen-zeros.ensures) (shows how))
           ∙ ap (λ (b : FileBlob). write_live (bytes_of b) offset bytes) c.reserve_shown.ensures.content.blob
           ∙ ap (λ (l : List ℕ). write_live l offset bytes) (sym (read_blob found none));
