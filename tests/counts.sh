@@ -118,7 +118,7 @@ expect 'an edit that a goal rejects' 0 'edits.sh: 1 edits, 1 rejected by a goal
 1 passed, 0 failed' run_test --edits blob_c
 expect 'edits of no crate' 1 "edits.sh: there is no crates/blob_d/edits
 0 passed, 1 failed" run_test --edits blob_d
-expect 'another argument' 2 'usage: ./test [--edits [CRATE ..]]' run_test --edit
+expect 'another argument' 2 'usage: ./test [--quick | --edits [CRATE ..]]' run_test --edit
 
 # The table, with a crate more than a fifth above its budget and one without a budget.
 printf 'blob_a 100 20 0\nblob_b 100 21 0\nblob_d 1 2 3\n' >"$work/times"

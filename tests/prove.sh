@@ -14,7 +14,7 @@ copy=$work/copy
 kit=$work/kit
 mkdir -p "$copy/tools" "$copy/crates/low/src" "$copy/crates/high/src" "$kit/bin"
 cp "$top/HANDLES" "$copy"
-cp "$top/tools/building.sh" "$top/tools/crates.py" "$top/tools/prove" "$copy/tools"
+cp "$top/tools/building.sh" "$top/tools/crates.py" "$top/tools/checks.py" "$top/tools/libraries.py" "$top/tools/prove" "$copy/tools"
 for name in low high; do
     : >"$copy/crates/$name/src/lib.rt"
     echo "$name:"

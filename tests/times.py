@@ -2,7 +2,7 @@
 
     times.py watch PID FILE      watches the processes that PID starts, until SIGTERM or the end of PID, and writes FILE: a line for each
                                  crate, with the seconds of its proof, of its must-fail edits (with the proof that they start from) and of
-                                 its tests
+                                 its tests; FILE.now has the crates whose checks run
     times.py table FILE BUDGET   prints FILE as a table, and a warning for each crate more than a fifth above its budget
 
 The seconds are those that the system counts for each process of the prover and compiler. They are read once a second, so the last
@@ -65,7 +65,7 @@ def watch(root, path):
 
     signal.signal(signal.SIGTERM, stop)
     while os.path.exists(f"/proc/{root}"):
-        found = processes()
+        found, now = processes(), set()
         for number, (_, began, spent) in found.items():
             work, above = None, number
             while above in found and above != root:
@@ -76,6 +76,9 @@ def watch(root, path):
                 work, above = work or told[above, at], parent
             if work and above == root:
                 seconds[number, began] = work, spent
+                now.add(work[0])
+        with open(f"{path}.now", "w", encoding="utf-8") as file:
+            print(*sorted(now), file=file)
         write()
         time.sleep(1)
 

@@ -434,6 +434,18 @@ def test_numbers_of_the_library_do_not_wrap():
     assert layer.read(0, 0, 8192) == bytes(8192)
 
 
+def test_a_library_begins_with_bytes():
+    if BY is Program:
+        return
+    for text in ("seed 1\n", "\n", "", 5, None):
+        raises(TypeError, Library, text)
+    layer = Library()
+    for text in ("seed 1\n", "\n", "", 5, None):
+        raises(TypeError, layer.begin, text)
+    layer.begin(bytearray(b"seed 1\n"))
+    assert layer.call(b"open p 62") == b"opened 0 0 0"
+
+
 def test_long_reads_take_no_memory():
     with seeded() as store:
         blob, _ = store.open("p", b"b")

@@ -1,4 +1,4 @@
-"""The crates of crates.txt, for tools/prove and tools/unproved."""
+"""The crates of crates.txt, for tools/prove, tools/unproved and tools/verdict."""
 
 import os
 import shutil
@@ -42,6 +42,18 @@ def crates_in(folder):
     for crate in made:
         crate.below = list(find_below(crate, crates).values())
     return crates
+
+
+def proof_seconds(crates):
+    """Sets the processor seconds of each crate's proof, by tests/budget.txt."""
+    seconds = {}
+    budget = TOP / "tests/budget.txt"
+    for line in budget.read_text(encoding="utf-8").splitlines() if budget.exists() else ():
+        words = line.partition("#")[0].split()
+        if words:
+            seconds[words[0]] = int(words[1])
+    for crate in crates.values():
+        crate.seconds = seconds.get(crate.name, DEFAULT_SECONDS)
 
 
 def toolchain():
