@@ -1,7 +1,7 @@
 #!/bin/sh
 # Proves and builds the library for other languages: out/libblobcrash.a for C and Rust, out/libblobcrash.so for Python. Each depends only
 # on the C library, and its bytes only on the sources and the toolchain, which also links. Does nothing if they are current. `./test`
-# calls it with `--over-gate` after a gate that passed.
+# calls it with `--over-gate FOLDER SUMS` after a gate in that folder that passed, with the checksums of its sources.
 #
 # `build.sh --unproved` prints the folder of a library of the current sources: `out`, if the proved one is current, or else that of one
 # which is compiled without a proof, in a minute or two, and kept for all clones. With BLOBCRASH_PROVED it is refused.
@@ -58,12 +58,12 @@ heap=$kit/c/liblibc_c.a
 below=$(sed -n 's/^blob_c staticlib://p' "$top/crates.txt")
 sum=$(sum_of "$top" blob_c)
 
-# gate_left_all: whether each library below blob_c is that of the last gate, and the sources are still those of that gate. These
-# libraries have no stamp. One with a stamp is from another command. `./test` removes those of an earlier gate when it starts.
+# gate_left_all FOLDER SUMS: whether each library below blob_c is that of the last gate, and the sources are still those of that gate.
+# These libraries have no stamp. One with a stamp is from another command. `./test` removes those of an earlier gate when it starts.
 gate_left_all() {
-    grep -qsx "blob_c $sum" "$out/gate.sums" || return 1
+    grep -qsx "blob_c $sum" "$2" || return 1
     for name in $(crates_of "$top" blob_c | names_of); do
-        rlib=$top/crates/$name/out/rlib
+        rlib=$1/crates/$name/out/rlib
         [ "$name" = blob_c ] || { [ -f "$rlib/$name.rlib/format" ] && [ ! -f "$rlib/stamp" ]; } || return 1
     done
 }
@@ -86,10 +86,10 @@ compile() {
         >"$out/blob_c.log" 2>&1 9>&-
 }
 
-# build [--over-gate]: builds the library $library.
+# build [--over-gate FOLDER SUMS]: builds the library $library.
 build() {
-    if [ "${1:-}" = --over-gate ] && gate_left_all; then
-        proved=$top
+    if [ "${1:-}" = --over-gate ] && gate_left_all "$2" "$3"; then
+        proved=$2
         work=$(mktemp -d)
     else
         # shellcheck disable=SC2086

@@ -70,6 +70,8 @@ struct blobcrash_paths {
     uint64_t calls_per_run; /* how many explored calls, and how many choices, a run has at most. If it is 0, 10,000 */
     FILE *script;           /* gets the lines of explored calls, or is NULL */
     size_t capacity;        /* of `choices` */
+    uint64_t *words;        /* those that the run is given */
+    size_t words_capacity;
     /* Of the run that is under way: */
     unsigned losses;        /* how often the power failed */
     bool is_off;            /* the power is off */
@@ -154,9 +156,19 @@ static inline bool blobcrash_add_room(struct blobcrash_paths *paths, size_t more
     return true;
 }
 
-/* Goes on to the path of the next run, or begins with the first one. Returns the words of its draws, and then those after them, which the
- * caller frees. RUN, END or NO_MEMORY. */
-static inline int blobcrash_next_path(struct blobcrash_paths *paths, uint64_t **words) {
+/* Reserves capacity for this many words. `false` if there is no memory. */
+static inline bool blobcrash_add_words(struct blobcrash_paths *paths, size_t count) {
+    if (count <= paths->words_capacity) return true;
+    uint64_t *words = (uint64_t *)realloc(paths->words, 2 * count * sizeof *words);
+    if (words == NULL) return false;
+    paths->words = words;
+    paths->words_capacity = 2 * count;
+    return true;
+}
+
+/* Goes on to the path of the next run, or begins with the first one. Writes the words of its draws, and then those after them. RUN, END or
+ * NO_MEMORY. */
+static inline int blobcrash_next_path(struct blobcrash_paths *paths) {
     if (!blobcrash_add_room(paths, 0)) return BLOBCRASH_EXPLORE_NO_MEMORY;
     if (paths->has_ended) {
         paths->is_over = !blobcrash_explorer_next(&paths->explorer, paths->choices, paths->capacity);
@@ -164,14 +176,14 @@ static inline int blobcrash_next_path(struct blobcrash_paths *paths, uint64_t **
     }
     if (paths->is_over) return BLOBCRASH_EXPLORE_END;
     if (paths->room == 0) paths->room = 64;
-    uint64_t *end = *words = (uint64_t *)malloc((paths->explorer.len + 2 * paths->room) * sizeof *end);
-    if (end == NULL) return BLOBCRASH_EXPLORE_NO_MEMORY;
+    if (!blobcrash_add_words(paths, paths->explorer.len + 2 * paths->room)) return BLOBCRASH_EXPLORE_NO_MEMORY;
+    uint64_t *end = paths->words;
     for (const struct blobcrash_choice *choice = paths->choices; choice < paths->choices + paths->explorer.len; choice++) {
         if (blobcrash_is_draw(choice)) *end++ = blobcrash_draw_word(choice);
     }
     memset(end, 0, paths->room * sizeof *end);
     memset(end + paths->room, 0xff, paths->room * sizeof *end);
-    blobcrash_explorer_begin(&paths->explorer, (size_t)(end - *words) + 2 * paths->room);
+    blobcrash_explorer_begin(&paths->explorer, (size_t)(end - paths->words) + 2 * paths->room);
     return BLOBCRASH_EXPLORE_RUN;
 }
 
@@ -187,9 +199,8 @@ static inline void blobcrash_print_preamble(const struct blobcrash_paths *paths,
     fprintf(paths->script, "%s%s", *words == 0 ? "\n" : "", settings);
 }
 
-/* Prepares the fields of a run that is under way, if it was opened with its words, and prints the lines before its calls. Frees the words. */
-static inline int blobcrash_begin_run(struct blobcrash_paths *paths, uint32_t opened, uint64_t *words, const char *settings) {
-    free(words);
+/* Prepares the fields of a run that is under way, if it was opened with its words, and prints the lines before its calls. */
+static inline int blobcrash_begin_run(struct blobcrash_paths *paths, uint32_t opened, const char *settings) {
     if (opened == BLOBCRASH_NO_MEMORY) return BLOBCRASH_EXPLORE_NO_MEMORY;
     if (opened != BLOBCRASH_DONE) return BLOBCRASH_EXPLORE_BAD_SETTINGS;
     if (paths->script != NULL) blobcrash_print_preamble(paths, settings);
@@ -204,13 +215,12 @@ static inline int blobcrash_begin_run(struct blobcrash_paths *paths, uint32_t op
 /* Goes on to the path of the next run, or begins with the first one, and opens its session with the lines of `settings`, each of which ends
  * with a line feed. RUN, END, BAD_SETTINGS, or NO_MEMORY, after which it may be called again. */
 static inline int blobcrash_next_run(struct blobcrash_paths *paths, struct blobcrash_session *session, const char *settings) {
-    uint64_t *words;
-    int status = blobcrash_next_path(paths, &words);
+    int status = blobcrash_next_path(paths);
     if (status != BLOBCRASH_EXPLORE_RUN) return status;
     uint32_t opened = blobcrash_open(session, (const uint8_t *)settings, strlen(settings)).status;
-    if (opened == BLOBCRASH_DONE) opened = blobcrash_push_words(session, words, paths->explorer.given);
+    if (opened == BLOBCRASH_DONE) opened = blobcrash_push_words(session, paths->words, paths->explorer.given);
     if (opened == BLOBCRASH_NO_MEMORY) blobcrash_close(session);
-    return blobcrash_begin_run(paths, opened, words, settings);
+    return blobcrash_begin_run(paths, opened, settings);
 }
 
 /* Makes the next choice of a kind, and returns its branch: that of the path, or after its end the first one. */
@@ -284,6 +294,7 @@ static inline void blobcrash_repeat_run(struct blobcrash_paths *paths, FILE *scr
 /* Frees the memory of the path. */
 static inline void blobcrash_free_paths(struct blobcrash_paths *paths) {
     free(paths->choices);
+    free(paths->words);
     free(paths->unsynced.keys);
     memset(paths, 0, sizeof *paths);
 }

@@ -45,16 +45,15 @@ static inline bool blobcrash_sets_writes(const char *settings) {
 static inline int blobcrash_next_files_run(struct blobcrash_paths *paths, struct blobcrash_files *files, const char *settings) {
     const char *torn = blobcrash_sets_writes(settings) ? "" : BLOBCRASH_TORN_WRITES;
     char *lines = (char *)malloc(strlen(torn) + strlen(settings) + 1);
-    uint64_t *words;
     if (lines == NULL) return BLOBCRASH_EXPLORE_NO_MEMORY;
     strcpy(lines, torn);
     strcat(lines, settings);
-    int status = blobcrash_next_path(paths, &words);
+    int status = blobcrash_next_path(paths);
     if (status == BLOBCRASH_EXPLORE_RUN) {
         uint32_t opened = blobcrash_files_open(files, (const uint8_t *)lines, strlen(lines)).status;
-        if (opened == BLOBCRASH_DONE) opened = blobcrash_files_push_words(files, words, paths->explorer.given);
+        if (opened == BLOBCRASH_DONE) opened = blobcrash_files_push_words(files, paths->words, paths->explorer.given);
         if (opened == BLOBCRASH_NO_MEMORY) blobcrash_files_close(files);
-        status = blobcrash_begin_run(paths, opened, words, lines);
+        status = blobcrash_begin_run(paths, opened, lines);
     }
     free(lines);
     return status;

@@ -35,6 +35,11 @@ static inline bool blobcrash_may_fail(const struct blobcrash_paths *paths, bool 
     return changes && !paths->is_off && paths->losses != paths->power_losses;
 }
 
+/* Returns whether the power may fail at a call of this kind. */
+static inline bool blobcrash_kind_may_fail(const struct blobcrash_paths *paths, uint32_t kind) {
+    return blobcrash_may_fail(paths, true) && (blobcrash_effect(kind) & BLOBCRASH_CHANGES) != 0;
+}
+
 /* Chooses whether the power fails now, after the draws were counted. */
 static inline bool blobcrash_fails_now(struct blobcrash_paths *paths) {
     if (blobcrash_choose(paths, BLOBCRASH_POWER, 2) == 0) return false;
@@ -106,8 +111,8 @@ static inline void blobcrash_after_resize(struct blobcrash_paths *paths, struct 
     blobcrash_count_size(paths, blobcrash_words_left(session), (from < to ? to - from : from - to) - 1);
 }
 
-/* Follows the power, and which handles have unsynced writes, after a call that returned DONE. A write has bytes. */
-static inline void blobcrash_follow(struct blobcrash_paths *paths, struct blobcrash_session *session, uint32_t kind, size_t handle) {
+/* Follows the power, which a reopen turns on, and which handles have unsynced writes, after a call that returned DONE. A write has bytes. */
+static inline void blobcrash_follow(struct blobcrash_paths *paths, uint32_t kind, size_t handle) {
     struct blobcrash_unsynced *unsynced = &paths->unsynced;
     switch (kind) {
     case BLOBCRASH_WRITE: blobcrash_unsynced_write(unsynced, handle); break;
@@ -116,7 +121,7 @@ static inline void blobcrash_follow(struct blobcrash_paths *paths, struct blobcr
     case BLOBCRASH_CRASH: blobcrash_unsynced_crash(unsynced); break;
     case BLOBCRASH_REOPEN:
         unsynced->count = 0;
-        paths->is_off = blobcrash_power(session).is_off;
+        paths->is_off = false;
         break;
     default: break;
     }
@@ -128,7 +133,7 @@ static inline struct blobcrash_ran blobcrash_explored_call(struct blobcrash_path
                                                            const uint8_t *line, size_t len, uint8_t *reply, size_t reply_room) {
     const char *text = (const char *)line;
     uint32_t kind = blobcrash_line_kind(text, len);
-    blobcrash_power_fails(paths, session, blobcrash_effect(kind) & BLOBCRASH_CHANGES);
+    blobcrash_power_fails(paths, session, blobcrash_kind_may_fail(paths, kind));
     size_t handle = (size_t)blobcrash_number_of(blobcrash_word_at(text, len, 1));
     struct blobcrash_resize_made resize = {false, 0, 0, 0};
     if (kind == BLOBCRASH_RESIZE) resize = blobcrash_before_resize(session, handle, blobcrash_number_of(blobcrash_word_at(text, len, 2)));
@@ -137,7 +142,7 @@ static inline struct blobcrash_ran blobcrash_explored_call(struct blobcrash_path
     blobcrash_after_resize(paths, session, &resize);
     bool is_done = blobcrash_last(session).status == BLOBCRASH_DONE;
     if (kind == BLOBCRASH_CONFIGURE) blobcrash_unsynced_set(&paths->unsynced, text, len);
-    else if (is_done && (kind != BLOBCRASH_WRITE || text[len - 1] != '-')) blobcrash_follow(paths, session, kind, handle);
+    else if (is_done && (kind != BLOBCRASH_WRITE || text[len - 1] != '-')) blobcrash_follow(paths, kind, handle);
     if (paths->script != NULL) {
         fwrite(line, 1, len, paths->script);
         fputc('\n', paths->script);
@@ -189,7 +194,7 @@ static inline struct blobcrash_typed_reply blobcrash_explored_make(struct blobcr
                                                                    const struct blobcrash_asked *asked, const void *partition,
                                                                    size_t partition_len, const void *name, size_t name_len) {
     const uint8_t *in = blobcrash_line_bytes(partition), *called = blobcrash_line_bytes(name);
-    blobcrash_power_fails(paths, session, blobcrash_effect(asked->kind) & BLOBCRASH_CHANGES);
+    blobcrash_power_fails(paths, session, blobcrash_kind_may_fail(paths, asked->kind));
     struct blobcrash_resize_made resize = {false, 0, 0, 0};
     if (asked->kind == BLOBCRASH_RESIZE) resize = blobcrash_before_resize(session, asked->number, asked->first);
     struct blobcrash_typed_reply reply = blobcrash_apply(session, asked, in, partition_len, called, name_len);
@@ -197,7 +202,7 @@ static inline struct blobcrash_typed_reply blobcrash_explored_make(struct blobcr
     if (reply.status != BLOBCRASH_DONE && reply.status < BLOBCRASH_E_OFFSET_OVERFLOW) return reply;
     blobcrash_after_resize(paths, session, &resize);
     bool is_empty = asked->kind == BLOBCRASH_WRITE && name_len == 0;
-    if (reply.status == BLOBCRASH_DONE && !is_empty) blobcrash_follow(paths, session, asked->kind, asked->number);
+    if (reply.status == BLOBCRASH_DONE && !is_empty) blobcrash_follow(paths, asked->kind, asked->number);
     if (paths->script != NULL) blobcrash_print_asked(paths, asked, partition, partition_len, name, name_len);
     return reply;
 }

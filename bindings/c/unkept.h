@@ -29,14 +29,17 @@ struct blobcrash_line_word {
     size_t len;
 };
 
+/* Returns the word after another one, in a line that ends at `end`. */
+static inline struct blobcrash_line_word blobcrash_word_after(struct blobcrash_line_word word, const char *end) {
+    for (word.at += word.len; word.at < end && *word.at == ' '; word.at++) continue;
+    for (word.len = 0; word.at + word.len < end && word.at[word.len] != ' '; word.len++) continue;
+    return word;
+}
+
 /* Returns the word with an index, from 0 on. */
 static inline struct blobcrash_line_word blobcrash_word_at(const char *line, size_t len, size_t index) {
     struct blobcrash_line_word word = {line, 0};
-    const char *end = line + len;
-    for (size_t at = 0; at <= index; at++) {
-        for (word.at += word.len; word.at < end && *word.at == ' '; word.at++) continue;
-        for (word.len = 0; word.at + word.len < end && word.at[word.len] != ' '; word.len++) continue;
-    }
+    for (size_t at = 0; at <= index; at++) word = blobcrash_word_after(word, line + len);
     return word;
 }
 
@@ -53,12 +56,14 @@ static inline uint64_t blobcrash_number_of(struct blobcrash_line_word word) {
 
 /* Takes a line, if it is a setting. */
 static inline void blobcrash_unsynced_set(struct blobcrash_unsynced *unsynced, const char *line, size_t len) {
-    struct blobcrash_line_word first = blobcrash_word_at(line, len, 0), second = blobcrash_word_at(line, len, 1);
+    const char *end = line + len;
+    struct blobcrash_line_word first = blobcrash_word_at(line, len, 0), second = blobcrash_word_after(first, end);
     if (blobcrash_is_word(first, "syncs", 5)) {
         unsynced->syncs_lie = blobcrash_is_word(second, "lie", 3);
     } else if (blobcrash_is_word(first, "config", 6) && blobcrash_is_word(second, "write", 5)) {
-        bool may_keep = blobcrash_number_of(blobcrash_word_at(line, len, 4)) > 0;
-        unsynced->kept = may_keep ? BLOBCRASH_MAY_KEEP : BLOBCRASH_NEVER_KEPT;
+        struct blobcrash_line_word kept = second;
+        for (int more = 0; more < 3; more++) kept = blobcrash_word_after(kept, end);
+        unsynced->kept = blobcrash_number_of(kept) > 0 ? BLOBCRASH_MAY_KEEP : BLOBCRASH_NEVER_KEPT;
     } else if (blobcrash_is_word(first, "config", 6) && blobcrash_is_word(second, "clear", 5)) {
         unsynced->kept = BLOBCRASH_NEVER_KEPT;
     }

@@ -151,6 +151,9 @@ class FollowedBlob(Blob):
     """A handle of a search's run, of which unsynced writes are followed."""
 
     def write(self, offset: int, data: bytes, sync: bool = False) -> None:
-        Blob.write(self, offset, data, sync)
+        if self._put is None:
+            self._write(offset, data, sync)
+        else:
+            super().write(offset, data, sync)
         if data and not sync:
             self._store._unsynced.write(self._of)

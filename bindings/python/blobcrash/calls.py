@@ -115,4 +115,4 @@ def reply_of(words: List[str]) -> Any:
 
 def rows_of(words: List[str]) -> Rows:
     """Returns the rows in the words of a crash's reply."""
-    return [(int(write), kept) for write, _, kept in [row.partition(":") for row in words[1:]]]
+    return [(int(write), kept) for row in words[1:] for write, _, kept in [row.partition(":")]]

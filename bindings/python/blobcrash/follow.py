@@ -94,6 +94,7 @@ class Run:
         self._layer = layer = powered(layer)
         self._of_files, self._is_in_turn = of_files, is_in_turn
         self._apply = layer.apply
+        self._words_left: Any = getattr(layer, "words_left", None)
         # With a seed no draws are counted.
         self._drawing = having(DRAWS, of_files) if self.seed is None else ()
         return self
@@ -132,7 +133,7 @@ class Run:
             self.calls.pop()
             raise
         if draws:
-            left = self._layer.words_left()
+            left = self._words_left()
             if left != self.left:
                 self.count(left, self._sizes(asked, before, reply))
         return reply

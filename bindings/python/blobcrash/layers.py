@@ -215,8 +215,9 @@ class InProcess(InLibrary):
     _is_open = False
 
     def __init__(self, preamble: bytes = b"") -> None:
-        self._apply, self._kinds = untyped(f"{self._functions}apply", keeps_lock=False), kinds(self._table)
-        self._words_left = untyped(f"{self._functions}words_left")
+        # The functions that most runs of a search call. A call without the types of its arguments takes half as long.
+        self._apply, self._open, self._push = [untyped(f"{self._functions}{name}", False) for name in ("apply", "open", "push_words")]
+        self._words_left, self._kinds = untyped(f"{self._functions}words_left"), kinds(self._table)
         self._session = Session()
         self.at = ctypes.byref(self._session)
         self.room: Any = ctypes.create_string_buffer(_ROOM)
@@ -224,32 +225,38 @@ class InProcess(InLibrary):
 
     def begin(self, preamble: bytes = b"") -> None:
         """Begins in place with another preamble: what the session held is ended."""
-        preamble = data_of(preamble, "a preamble")
+        if type(preamble) is not bytes:
+            preamble = data_of(preamble, "a preamble")
         self._is_open, self._has_lost = True, False
         length = len(preamble)
-        ran = self._quickest(length)("open", preamble, length)
-        if ran.status == BAD_LINE:
+        ran = self._call("open", preamble, length) if length >> INT_BITS else self._open(self.at, preamble, length)
+        status = ran.status
+        if status == BAD_LINE:
             raise self._bad_preamble(preamble, ran.line)
-        self._check(ran.status)
+        if status:
+            self._check(status)
 
     def words_left(self) -> int:
         """Returns how many words the generator has up to the last one that isn't zero. `ValueError` if a seed gives more."""
         ran = self._words_left(self.at)
-        if ran.status:
-            self._check(ran.status)
         left: int = ran.len
+        # Any other status than DONE has the length 0.
+        if not left:
+            self._check(ran.status)
         return left
 
     def push_words(self, words: Sequence[int]) -> None:
         """Inserts words before those that the generator has. An `array` with the type code `Q` takes least."""
-        count = len(words)
-        self._check(self._quickest(count)("push_words", array("Q", words).tobytes(), count))
+        count, data = len(words), array("Q", words).tobytes()
+        status = self._call("push_words", data, count) if count >> INT_BITS else self._push(self.at, data, count)
+        if status:
+            self._check(status)
 
     def close(self) -> int:
         """Ends the session, and returns 0."""
         if self._is_open:
             self._is_open = False
-            self._plain("close")
+            self._call("close")
         return 0
 
     def __del__(self) -> None:
@@ -258,14 +265,6 @@ class InProcess(InLibrary):
 
     def _call(self, name: str, *arguments: Any) -> Any:
         return function(self._functions + name)(self.at, *arguments)
-
-    def _plain(self, name: str, *arguments: Any) -> Any:
-        """As `_call`, of at most five arguments: bytes, buffers and numbers below 2^31. It takes half as long."""
-        return untyped(self._functions + name, False)(self.at, *arguments)
-
-    def _quickest(self, numbers: int) -> Any:
-        """`_plain` or `_call`, by the numbers that it passes, combined by `|`."""
-        return self._call if numbers >> INT_BITS else self._plain
 
     def _applied(self, kind: int, number: int, first: int, last: int, one: bytes, other: bytes) -> Any:
         """Makes a typed call, and returns its reply."""
@@ -313,7 +312,7 @@ class Library(InProcess):
     """The layer in this process."""
 
     def __init__(self, preamble: bytes = b"") -> None:
-        self.untyped_read, self.untyped_write = untyped("read"), untyped("write")
+        self.untyped_read, self.untyped_write, self._reply = untyped("read"), untyped("write"), untyped("reply", False)
         super().__init__(preamble)
 
     def call(self, line: bytes) -> bytes:
@@ -409,8 +408,8 @@ class Library(InProcess):
 
     def _last(self) -> bytes:
         """The last reply, as the program prints it."""
-        size = len(self.room)
-        return self._printed(self._quickest(size)("reply", self.room, size))
+        room, size = self.room, len(self.room)
+        return self._printed(self._call("reply", room, size) if size >> INT_BITS else self._reply(self.at, room, size))
 
     def _printed(self, ran: Ran) -> bytes:
         """A reply in the buffer. Grows it if it is too small."""

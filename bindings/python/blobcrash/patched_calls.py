@@ -5,7 +5,7 @@ from __future__ import annotations
 import errno
 import os
 import posixpath
-from typing import Any, List, Optional
+from typing import Any, Callable, List, Optional
 
 from .file_calls import FileCall
 from .grammar import data_of
@@ -107,18 +107,17 @@ class PatchedCalls:
     # Syncs
 
     def fsync(self, number: int) -> None:
-        opened = self._folder.opened(number)
-        if opened.file is None:
-            self._files.fsync_directory(self._folder.directory(number))
-        else:
-            self._files.fsync(opened.file)
+        self._sync(number, self._files.fsync)
 
     def fdatasync(self, number: int) -> None:
+        self._sync(number, self._files.fdatasync)
+
+    def _sync(self, number: int, sync: Callable[[Any], None]) -> None:
         opened = self._folder.opened(number)
         if opened.file is None:
             self._files.fsync_directory(self._folder.directory(number))
         else:
-            self._files.fdatasync(opened.file)
+            sync(opened.file)
 
     # Names
 

@@ -243,7 +243,7 @@ class Store(Session):
     def _call(self, asked: Call) -> Any:
         """Makes a call, and returns what it does. Raises its refusal."""
         reply = self._apply(asked)
-        if isinstance(reply, Reply):
+        if type(reply) is Reply:
             raise refusal(reply.line, asked.partition)
         return reply
 

@@ -20,6 +20,8 @@ class Traversal:
 
     def __init__(self, path: Sequence[Chosen] = ()) -> None:
         self._explorer = Explorer(root=len(path), len=len(path))
+        names = ("explorer_begin", "explorer_count", "explorer_end", "explorer_next")
+        self._begin, self._count, self._end, self._next = [untyped(name) for name in names]
         self._at = ctypes.byref(self._explorer)
         self._hold(max(64, 2 * len(path)))
         for at, (kind, branch, among) in enumerate(path):
@@ -56,7 +58,7 @@ class Traversal:
 
     def begin(self, given: int) -> None:
         """Begins the run of the path, with this many words."""
-        untyped("explorer_begin")(self._at, given)
+        self._begin(self._at, given)
 
     def choose(self, kind: str, among: int) -> int:
         """Makes the next choice of the run, and returns its branch."""
@@ -74,15 +76,15 @@ class Traversal:
     def _counted(self, left: int, sizes: int) -> int:
         if sizes:
             return int(function("explorer_count_size")(self._at, self._choices, self._capacity, left, sizes))
-        return int(untyped("explorer_count")(self._at, self._choices, self._capacity, left))
+        return int(self._count(self._at, self._choices, self._capacity, left))
 
     def end(self) -> bool:
         """Ends the run. Returns whether it made the choices of the path, and no fewer."""
-        return bool(untyped("explorer_end")(self._at))
+        return bool(self._end(self._at))
 
     def advance(self) -> bool:
         """Makes the path that of the next leaf. Returns `False` for the last one."""
-        return bool(untyped("explorer_next")(self._at, self._choices, self._capacity))
+        return bool(self._next(self._at, self._choices, self._capacity))
 
     def rest(self) -> List[str]:
         """The subtrees that are left, from that of the path on, as texts."""

@@ -25,7 +25,8 @@ LEGEND = (
     ("ended", "through a stale handle"),
 )
 
-PAGE = """<!doctype html>
+# The start of each page, up to the end of its legend.
+HEAD = """<!doctype html>
 <html lang="en">
 <head>
 <meta charset="utf-8">
@@ -40,7 +41,11 @@ PAGE = """<!doctype html>
 <p>{summary}</p>
 {problems}<ul class="legend">{legend}</ul>
 </header>
-{chart}<div id="lanes"></div>
+"""
+
+PAGE = (
+    HEAD
+    + """{chart}<div id="lanes"></div>
 <div id="list" tabindex="0" role="listbox" aria-label="Calls"><div id="rows"></div></div>
 <div id="detail" aria-live="polite"></div>
 <footer><kbd>↑</kbd> <kbd>↓</kbd> call by call, <kbd>←</kbd> <kbd>→</kbd> to the next crash or failure, <kbd>Enter</kbd> unfolds.
@@ -51,6 +56,7 @@ PAGE = """<!doctype html>
 </body>
 </html>
 """
+)
 
 
 def page(script_text, replies_text, told_text, title="What a crash left", chart=None):

@@ -3,27 +3,14 @@ It is one file of HTML without a program, in the style of the page of a run."""
 
 import html
 
-from .page import source_of, text_of
+from .page import HEAD, source_of, text_of
 
 # How many columns of rails are drawn, and the width of one.
 COLUMNS, WIDTH = 16, 8
 
-PAGE = """<!doctype html>
-<html lang="en">
-<head>
-<meta charset="utf-8">
-<meta http-equiv="Content-Security-Policy" content="{policy}">
-<meta name="viewport" content="width=device-width, initial-scale=1">
-<title>Which sync is missing</title>
-<style>{style}</style>
-</head>
-<body>
-<header>
-<h1>Which sync is missing</h1>
-<p>{summary}</p>
-<ul class="legend">{legend}</ul>
-</header>
-<main>
+PAGE = (
+    HEAD
+    + """<main>
 {causes}
 <ul class="ending">{ending}</ul>
 {calls}
@@ -31,6 +18,7 @@ PAGE = """<!doctype html>
 </body>
 </html>
 """
+)
 
 LEGEND = (
     ("unsynced", "an upright line: a file or names that are unsynced"),
@@ -47,8 +35,10 @@ def timeline(shown):
     style = "\n".join([text_of("page.css"), text_of("timeline.css"), *_columns()])
     return PAGE.format(
         policy=html.escape(f"default-src 'none'; style-src {source_of(style)}; base-uri 'none'; form-action 'none'"),
+        title="Which sync is missing",
         style=style,
         summary=html.escape(shown["summary"]),
+        problems="",
         legend="".join(f'<li><span class="b {kind}">{kind}</span> {html.escape(text)}</li>' for kind, text in LEGEND),
         causes="\n".join(_cause(cause) for cause in shown["causes"]),
         ending="".join(f'<li{_inner(line)}>{html.escape(line.strip())}</li>' for line in shown["ending"]),

@@ -1,9 +1,10 @@
 use crate::library::Session;
 use crate::limits::Limits;
-use crate::record::Record;
+use crate::paths::Words;
 use crate::script::{first_word, image_line, one_line, tokens, words_line};
 use crate::shared::{Shared, State};
 use crate::{Config, Error, Explorable, Store};
+use std::sync::Arc;
 
 /// The last word of a store with pushed words. It isn't zero, so that the library reports how many are left.
 const LAST_WORD: u64 = 1;
@@ -29,7 +30,9 @@ pub struct Builder {
     /// The first argument that can't be expressed.
     pub(crate) problem: Option<Error>,
     /// The settings of all lines, once they are checked and have those of the configuration.
-    pub(crate) settings: Option<Config>,
+    pub(crate) settings: Config,
+    /// These lines as a text.
+    pub(crate) preamble: Arc<str>,
 }
 
 impl Builder {
@@ -171,8 +174,8 @@ impl Builder {
     /// ```
     pub fn open(mut self) -> Result<Store, Error> {
         self.complete()?;
-        let pushed: &[u64] = if self.is_pushed { &[LAST_WORD] } else { &[] };
-        self.made(pushed, Limits::default())
+        let words = self.is_pushed.then_some(LAST_WORD).into_iter().collect();
+        self.made(Words::new(words), Limits::default())
     }
 
     /// Returns the builder of runs of a search, with their seed if they have one. Refuses words and a seed of the caller's.
@@ -214,8 +217,13 @@ impl Builder {
         if !self.has_draws && !self.is_pushed && self.config.needs_draws() {
             return Err(Error::NeedsSeed);
         }
-        self.settings = Some(self.effective());
+        self.settings = self.effective();
         self.lines.extend(self.config.lines());
+        self.preamble = self
+            .lines
+            .iter()
+            .fold(String::new(), |text, line| text + line + "\n")
+            .into();
         Ok(())
     }
 }
@@ -229,16 +237,11 @@ impl Explorable for Builder {
         Ok(builder)
     }
 
-    fn made(&self, words: &[u64], limits: Limits) -> Result<Store, Error> {
+    fn made(&self, words: Words, limits: Limits) -> Result<Store, Error> {
         let has_draws = self.has_draws || self.is_pushed;
-        let mut session = Session::open(&self.lines.join("\n"))?;
-        session.push_words(words)?;
-        session.record = (!self.unrecorded).then(|| Record::new(words, &self.lines));
+        let session = Session::begin(&self.preamble, words, self.unrecorded)?;
         let mut state = State::new(session, self.config, limits);
-        state
-            .limits
-            .unsynced
-            .set(&self.settings.unwrap_or_default());
+        state.limits.unsynced.set(&self.settings);
         (state.allow_stale, state.is_pushed) = (self.allow_stale, self.is_pushed);
         let shared = Shared::new(state, has_draws);
         Ok(Store { shared })

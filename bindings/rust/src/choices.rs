@@ -2,8 +2,9 @@
 use crate::Error;
 use crate::expecting::{State, States};
 use crate::path_text::text_of;
-use crate::paths::{Kind, Path};
+use crate::paths::{Kind, Path, Words};
 use crate::replay::Replay;
+use std::mem;
 use std::panic::resume_unwind;
 
 /// The choices of a run, and its limits. It is public since `Explorable` has it, in a private module.
@@ -20,10 +21,23 @@ pub struct Choices {
     /// Whether it has more.
     pub(crate) is_long: bool,
     /// What decides the run in place of the path.
-    pub(crate) replay: Option<Replay>,
+    pub(crate) replay: Option<Box<Replay>>,
     /// The states that this run and earlier ones came to by restarts, and whether this one was ended in one of them.
     pub(crate) states: States,
     pub(crate) is_met: bool,
+}
+
+/// How a run ended.
+#[derive(Debug, Default)]
+pub(crate) struct RunEnd {
+    /// It has too many calls or choices.
+    pub(crate) is_long: bool,
+    /// It was ended at a restart, in a state that an earlier run came to.
+    pub(crate) is_met: bool,
+    /// It took all words that it was given, and wasn't ended so.
+    pub(crate) is_short: bool,
+    /// It made the choices of its path, and no fewer.
+    pub(crate) is_whole: bool,
 }
 
 /// What a run unwinds with that an exploration ends.
@@ -50,7 +64,7 @@ pub(crate) const BOUND_IT: &str =
     "a loop that retries until it succeeds never ends when every try fails; bound it";
 
 impl Choices {
-    pub(crate) fn new(path: Path, losses: u64, most: u64) -> Choices {
+    pub(crate) fn new(path: Path, states: States, losses: u64, most: u64) -> Choices {
         Choices {
             path,
             losses,
@@ -59,15 +73,15 @@ impl Choices {
             most,
             is_long: false,
             replay: None,
-            states: States::default(),
+            states,
             is_met: false,
         }
     }
 
     /// The choices of a run that is made again.
     pub(crate) fn again(replay: Replay, most: u64) -> Choices {
-        let mut choices = Choices::new(Path::default(), replay.losses(), most);
-        choices.replay = Some(replay);
+        let mut choices = Choices::new(Path::default(), States::default(), replay.losses(), most);
+        choices.replay = Some(Box::new(replay));
         choices
     }
 
@@ -96,7 +110,7 @@ impl Choices {
     /// The path of the run, as a text.
     pub(crate) fn path_text(&self) -> String {
         let again = self.replay.as_ref();
-        again.map_or_else(|| text_of(self.path.taken()), Replay::path)
+        again.map_or_else(|| text_of(self.path.taken()), |replay| replay.path())
     }
 
     /// Counts a call. Returns whether the run may have it.
@@ -106,25 +120,30 @@ impl Choices {
         !self.is_long
     }
 
-    /// Lifts the limit of a run that has ended, and returns whether the run is too long. Nothing could catch a later unwinding: a body may
-    /// keep its store.
-    pub(crate) fn end(&mut self) -> bool {
+    /// Ends the run, and returns how it ended. Lifts its limit, since nothing could catch a later unwinding: a body may keep its store.
+    pub(crate) fn end(&mut self) -> RunEnd {
         self.most = u64::MAX;
-        std::mem::take(&mut self.is_long)
+        let is_short = self.is_short && !self.is_met;
+        RunEnd {
+            is_long: mem::take(&mut self.is_long),
+            is_met: self.is_met,
+            is_short,
+            is_whole: !is_short && self.path.end(),
+        }
+    }
+
+    /// Takes what the next run begins with.
+    pub(crate) fn pass_on(&mut self) -> (Path, States) {
+        (mem::take(&mut self.path), mem::take(&mut self.states))
     }
 
     /// Begins the run. Returns the words of the path, then `more` zeros and a last word that isn't zero; of a run that is made again those
     /// that it is given, and as many that make draws false.
-    pub(crate) fn words(&mut self, more: usize) -> Vec<u64> {
+    pub(crate) fn words(&mut self, more: usize) -> Words {
         if let Some(replay) = &mut self.replay {
             return replay.begin(more);
         }
-        let of_path = self.path.words();
-        let mut words = vec![0; of_path.len() + more + 1];
-        words[..of_path.len()].copy_from_slice(&of_path);
-        words[of_path.len() + more] = u64::MAX;
-        self.path.begin(words.len());
-        words
+        self.path.begin_with(more)
     }
 
     /// Takes the next branch of a choice.

@@ -11,7 +11,7 @@ use std::fmt;
 use std::panic::{AssertUnwindSafe, catch_unwind, resume_unwind};
 
 /// How many words a run is given at first after those of its path.
-const WORDS: usize = 256;
+const WORDS: usize = 64;
 /// How many calls, and how many choices, a run has at most if no other limit is set.
 const CALLS_PER_RUN: u64 = 10_000;
 /// How many lines of a script that is too long are shown.
@@ -327,23 +327,21 @@ impl<B: Explorable> Exploration<B> {
         let mut states = States::default();
         let mut met = Met::default();
         while visited.runs < self.limit {
-            let mut choices = Choices::new(path, self.losses, self.calls);
-            choices.states = states;
+            let choices = Choices::new(path, states, self.losses, self.calls);
             let run = Run::explored(&builder, choices, words, visited.runs + 1)?;
             let result = catch_unwind(AssertUnwindSafe(|| body(&run)));
-            if run.choices(Choices::end) {
+            let end = run.choices(Choices::end);
+            if end.is_long {
                 let (run, script, most) = (visited.runs + 1, run.script(), self.calls);
                 return Err(ExploreError::TooLong { run, most, script });
             }
-            states = run.choices(|choices| std::mem::take(&mut choices.states));
-            let is_met = run.choices(|choices| choices.is_met);
-            let result = (!is_met).then(|| result.unwrap_or_else(|panic| resume_unwind(panic)));
-            if !is_met && run.choices(|choices| choices.is_short) {
+            let result = (!end.is_met).then(|| result.unwrap_or_else(|panic| resume_unwind(panic)));
+            if end.is_short {
                 words *= 2;
-                path = run.choices(|choices| std::mem::take(&mut choices.path));
+                (path, states) = run.pass_on();
                 continue;
             }
-            if run.choices(|choices| !choices.path.end()) {
+            if !end.is_whole {
                 return Err(ExploreError::NotDeterministic);
             }
             match result {
@@ -355,7 +353,7 @@ impl<B: Explorable> Exploration<B> {
                 }
                 None => visited.met += 1,
             }
-            path = run.choices(|choices| std::mem::take(&mut choices.path));
+            (path, states) = run.pass_on();
             if !path.advance() {
                 visited.is_complete = true;
                 break;

@@ -142,7 +142,7 @@ impl Session {
     #[cold]
     fn push(&mut self, asked: Asked, partition: &[u8], name: &[u8]) {
         if let Some(record) = &mut self.record {
-            record.push(asked, partition, name, String::new());
+            record.push(asked, partition, name, "");
         }
     }
 
@@ -378,6 +378,9 @@ pub(crate) fn selections(rows: u64, mut run: impl FnMut(usize, usize) -> KeptRun
         while found.status == DONE && found.len > 0 {
             let end = found.start.saturating_add(found.len).min(kept.len());
             kept[found.start.min(end)..end].fill(true);
+            if end == kept.len() {
+                break;
+            }
             found = run(row, end);
         }
         (write, kept)

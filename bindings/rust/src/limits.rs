@@ -77,6 +77,7 @@ impl Limits {
     }
 
     /// Turns the power off before a call that may change what a crash leaves, if the path of an explored run does so.
+    #[inline]
     pub(crate) fn permit(&mut self, session: &mut dyn Recorded, changes: impl FnOnce() -> bool) {
         let has_losses = |choices: &Choices| choices.losses > 0;
         let has_losses = self.choices.as_ref().is_some_and(has_losses);

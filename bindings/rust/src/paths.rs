@@ -4,6 +4,7 @@ use crate::foreign::{
     blobcrash_explorer_count, blobcrash_explorer_count_size, blobcrash_explorer_end,
     blobcrash_explorer_next,
 };
+use std::sync::Arc;
 
 /// What a choice decides.
 #[derive(Clone, Copy, Debug, PartialEq, Eq)]
@@ -19,11 +20,34 @@ pub(crate) enum Kind {
     Size = 3,
 }
 
+/// The words that a run is given. They are public since `Explorable` has them, in a private module.
+#[derive(Clone, Debug, Default)]
+pub struct Words {
+    all: Arc<[u64]>,
+    /// Where they begin.
+    start: usize,
+}
+
+impl Words {
+    pub(crate) fn new(words: Vec<u64>) -> Words {
+        let (all, start) = (words.into(), 0);
+        Words { all, start }
+    }
+
+    pub(crate) fn as_slice(&self) -> &[u64] {
+        &self.all[self.start..]
+    }
+}
+
 /// A traversal of the tree of choices, with the list to which the library writes them.
 #[derive(Debug, Default)]
 pub(crate) struct Path {
     explorer: Explorer,
     choices: Vec<Choice>,
+    /// The words of a run, at the end of a list in which those of the next one are written over them.
+    words: Arc<[u64]>,
+    /// How many of them follow those of the path.
+    more: usize,
 }
 
 impl Path {
@@ -35,11 +59,34 @@ impl Path {
             len,
             ..Explorer::default()
         };
-        Path { explorer, choices }
+        Path {
+            explorer,
+            choices,
+            ..Path::default()
+        }
+    }
+
+    /// Begins the run of the path. Returns the words of its draws, and then `more` zeros and a last word that isn't zero.
+    pub(crate) fn begin_with(&mut self, more: usize) -> Words {
+        let planned = &self.choices[..self.explorer.len];
+        if self.words.len() <= more + planned.len() || self.more != more + 1 {
+            let mut words = vec![0; 2 * planned.len() + 64 + more];
+            words.push(u64::MAX);
+            (self.words, self.more) = (words.into(), more + 1);
+        }
+        let words = Arc::make_mut(&mut self.words);
+        let mut start = words.len() - self.more;
+        for word in planned.iter().rev().filter_map(word_of) {
+            start -= 1;
+            words[start] = word;
+        }
+        self.begin(self.words.len() - start);
+        let all = Arc::clone(&self.words);
+        Words { all, start }
     }
 
     /// Begins the run of the path, with this many words.
-    pub(crate) fn begin(&mut self, given: usize) {
+    fn begin(&mut self, given: usize) {
         // SAFETY: the explorer is borrowed for the call.
         unsafe { blobcrash_explorer_begin(&mut self.explorer, given) }
     }
@@ -94,11 +141,6 @@ impl Path {
     /// Returns the choices that the run has made.
     pub(crate) fn taken(&self) -> &[Choice] {
         &self.choices[..self.explorer.taken]
-    }
-
-    /// Returns the words of the draws on the path.
-    pub(crate) fn words(&self) -> Vec<u64> {
-        words_of(&self.choices[..self.explorer.len])
     }
 
     /// Returns the words of the draws that the run has made.

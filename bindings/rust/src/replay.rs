@@ -2,7 +2,7 @@
 use crate::foreign::Choice;
 use crate::limits::next;
 use crate::path_text::{text_of, words_text};
-use crate::paths::{Kind, words_of};
+use crate::paths::{Kind, Words, words_of};
 
 /// What decides a run: the words of its draws, what `choose` returns, and before each power loss how many calls have power. Further draws
 /// take the greatest word: nothing fails any more, and a crash loses what it may. Further choices are 0.
@@ -82,10 +82,10 @@ impl Replay {
     }
 
     /// Begins the run. Returns its words, and `more` that make draws false.
-    pub(crate) fn begin(&mut self, more: usize) -> Vec<u64> {
+    pub(crate) fn begin(&mut self, more: usize) -> Words {
         self.words = self.given.draws.clone();
         self.words.resize(self.words.len() + more + 1, u64::MAX);
-        self.words.clone()
+        Words::new(self.words.clone())
     }
 
     /// Takes the next branch of a choice.

@@ -1,7 +1,9 @@
 //! One run of an exploration, or of a seed.
 use crate::choices::Choices;
+use crate::expecting::States;
 use crate::limits::{Limited, Limits};
 use crate::path_text::words_text;
+use crate::paths::{Path, Words};
 use crate::unsynced::Met;
 use crate::{Error, Store};
 use std::ops::Deref;
@@ -28,7 +30,7 @@ pub trait Explorable: Clone {
 
     /// Makes what a run has, with words before those of the lines, of which none is missing.
     #[doc(hidden)]
-    fn made(&self, words: &[u64], limits: Limits) -> Result<Self::Opened, Error>;
+    fn made(&self, words: Words, limits: Limits) -> Result<Self::Opened, Error>;
 }
 
 /// The store, or the files, of one run. It has the methods of [`Store`] or of [`files::Files`](crate::files::Files).
@@ -73,7 +75,7 @@ impl<S: Limited> Run<S> {
             choices: Some(choices),
             ..Limits::default()
         };
-        Ok(Run::new(builder.made(&words, limits)?, number))
+        Ok(Run::new(builder.made(words, limits)?, number))
     }
 
     /// Returns a number below `branches`. An exploration tries every one, together with the outcomes of the draws. With
@@ -118,6 +120,14 @@ impl<S: Limited> Run<S> {
     /// Returns what the crashes met.
     pub(crate) fn met(&self) -> Met {
         self.opened.with_limits(|limits, _| limits.unsynced.met)
+    }
+
+    /// Takes what the next run of an exploration begins with.
+    pub(crate) fn pass_on(&self) -> (Path, States) {
+        self.opened.with_limits(|limits, _| {
+            let choices = limits.choices.as_mut();
+            choices.map(Choices::pass_on).unwrap_or_default()
+        })
     }
 
     /// Counts the last draws, and returns what `read` takes from the choices.

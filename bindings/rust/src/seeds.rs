@@ -1,6 +1,7 @@
 //! Runs of many seeds.
 use crate::explore::nothing_to_run;
 use crate::limits::Limits;
+use crate::paths::Words;
 use crate::unsynced::Met;
 use crate::{Explorable, ExploreError, Explored, Run};
 use std::ops::Range;
@@ -43,7 +44,7 @@ pub fn seeds<B: Explorable, T: Ord, E>(
             chooser: Some(seed),
             ..Limits::default()
         };
-        let run = Run::new(builder.made(&[], limits)?, visited.runs + 1);
+        let run = Run::new(builder.made(Words::default(), limits)?, visited.runs + 1);
         let result = body(&run);
         met.add(run.met());
         visited.add(&run, result, |_| format!("seed {seed}"))?;

@@ -2,9 +2,11 @@
 use crate::foreign::*;
 use crate::library::selections;
 use crate::limits::Recorded;
+use crate::paths::Words;
 use crate::record::{Asked, Record};
 use crate::{Error, Selections};
 use std::mem;
+use std::sync::Arc;
 
 /// A session that belongs to the library: of a store, or of files.
 pub(crate) trait Raw: Sized + 'static {
@@ -65,6 +67,18 @@ impl<R: Raw> Session<R> {
             }
             _ => Err(Error::OutOfMemory),
         }
+    }
+
+    /// Opens a session with the lines before a script's calls and with these words, and begins its record unless none is kept.
+    pub(crate) fn begin(
+        preamble: &Arc<str>,
+        words: Words,
+        unrecorded: bool,
+    ) -> Result<Session<R>, Error> {
+        let mut session = Session::open(preamble)?;
+        session.push_words(words.as_slice())?;
+        session.record = (!unrecorded).then(|| Record::new(words, Arc::clone(preamble)));
+        Ok(session)
     }
 
     /// Inserts words before those that the generator gives next.

@@ -6,8 +6,7 @@ use crate::limits::{Limits, Recorded};
 use crate::script::{tokens, unhex};
 use crate::storage::BlobVersion;
 use crate::{Config, Error};
-use std::collections::BTreeMap;
-use std::hash::{DefaultHasher, Hash, Hasher};
+use std::collections::VecDeque;
 use std::sync::atomic::{AtomicBool, Ordering};
 use std::sync::{Arc, Mutex, MutexGuard, OnceLock, PoisonError};
 
@@ -23,8 +22,8 @@ pub(crate) struct Shared<S> {
 #[derive(Debug)]
 pub(crate) struct State {
     pub(crate) session: Session,
-    /// The handles that are open, by their numbers.
-    opened: BTreeMap<usize, Arc<Opened>>,
+    /// The handles that are open, by their numbers. Each is greater than those before it.
+    opened: VecDeque<(usize, Arc<Opened>)>,
     /// How often the store was reopened.
     pub(crate) reopens: u64,
     config: Config,
@@ -49,8 +48,9 @@ struct Resize {
 /// What the store knows of an open handle. The fields change under the store's lock.
 #[derive(Debug)]
 pub(crate) struct Opened {
-    partition: String,
-    name: Vec<u8>,
+    /// The partition and the name, one after the other.
+    names: Vec<u8>,
+    partition_len: usize,
     /// Why the handle is stale.
     stale: OnceLock<&'static str>,
     /// A number that the handles of a blob share.
@@ -61,12 +61,13 @@ pub(crate) struct Opened {
 
 impl Opened {
     pub(crate) fn new(partition: &str, name: &[u8], allow_stale: bool) -> Opened {
-        let mut hasher = DefaultHasher::new();
-        (partition, name).hash(&mut hasher);
+        let mut names = Vec::with_capacity(partition.len() + name.len());
+        names.extend_from_slice(partition.as_bytes());
+        names.extend_from_slice(name);
         Opened {
-            partition: partition.to_owned(),
-            name: name.to_vec(),
-            key: hasher.finish(),
+            names,
+            partition_len: partition.len(),
+            key: hash(partition.as_bytes(), name),
             stale: OnceLock::new(),
             allow_stale: AtomicBool::new(allow_stale),
             is_closed: AtomicBool::new(false),
@@ -92,13 +93,22 @@ impl Opened {
 
     /// Whether this is a handle of a blob, or without a name of any blob of the partition.
     fn is_of(&self, partition: &str, name: Option<&[u8]>) -> bool {
-        self.partition == partition && name.is_none_or(|name| self.name == name)
+        let (own_partition, own_name) = self.names.split_at(self.partition_len);
+        own_partition == partition.as_bytes() && name.is_none_or(|name| own_name == name)
     }
 
     fn end(&self, why: &'static str) {
         // The first reason stays.
         let _ = self.stale.set(why);
     }
+}
+
+/// Returns a hash of a blob's names, FNV-1a. It is made at each open, and is faster than that of the standard library for short names.
+fn hash(partition: &[u8], name: &[u8]) -> u64 {
+    let bytes = partition.iter().chain(b"/").chain(name);
+    bytes.fold(0xcbf2_9ce4_8422_2325, |hash, byte| {
+        (hash ^ u64::from(*byte)).wrapping_mul(0x100_0000_01b3)
+    })
 }
 
 impl<S> Shared<S> {
@@ -118,7 +128,7 @@ impl State {
     pub(crate) fn new(session: Session, config: Config, limits: Limits) -> State {
         State {
             session,
-            opened: BTreeMap::new(),
+            opened: VecDeque::with_capacity(4),
             reopens: 0,
             config,
             is_unset: false,
@@ -294,7 +304,17 @@ impl State {
     }
 
     pub(crate) fn insert(&mut self, handle: usize, opened: &Arc<Opened>) {
-        self.opened.insert(handle, Arc::clone(opened));
+        self.opened.push_back((handle, Arc::clone(opened)));
+    }
+
+    /// Returns the index of a handle that is open.
+    fn place_of(&self, handle: usize) -> Option<usize> {
+        self.opened.binary_search_by_key(&handle, |of| of.0).ok()
+    }
+
+    /// Takes a handle that is no longer open.
+    fn taken(&mut self, handle: usize) -> Option<(usize, Arc<Opened>)> {
+        self.opened.remove(self.place_of(handle)?)
     }
 
     /// Closes a handle. If the power is off, the restart closes it.
@@ -303,13 +323,13 @@ impl State {
             return;
         }
         if self.by_number(Kind::Close, handle, 0).err() != Some(Error::PowerLoss) {
-            self.opened.remove(&handle);
+            self.taken(handle);
         }
     }
 
     /// Closes every handle.
     pub(crate) fn close_all(&mut self) -> Result<(), Error> {
-        while let Some((handle, opened)) = self.opened.pop_first() {
+        while let Some((handle, opened)) = self.opened.pop_front() {
             opened.is_closed.store(true, Ordering::Relaxed);
             self.by_number(Kind::Close, handle, 0)?;
         }
@@ -317,11 +337,11 @@ impl State {
     }
 
     pub(crate) fn end_handles(&self, why: &'static str) {
-        self.opened.values().for_each(|opened| opened.end(why));
+        self.opened.iter().for_each(|(_, opened)| opened.end(why));
     }
 
     pub(crate) fn end_blobs(&self, partition: &str, name: Option<&[u8]>) {
-        for opened in self.opened.values() {
+        for (_, opened) in &self.opened {
             if opened.is_of(partition, name) {
                 opened.end("its blob was removed since");
             }
@@ -355,7 +375,7 @@ impl State {
     }
 
     fn key_of(&self, handle: &str) -> Option<u64> {
-        Some(self.opened.get(&handle.parse().ok()?)?.key)
+        Some(self.opened[self.place_of(handle.parse().ok()?)?].1.key)
     }
 
     pub(crate) fn has_crashed(&mut self) {
@@ -365,7 +385,7 @@ impl State {
 
     fn was_closed(&mut self, handle: &str) {
         let number = handle.parse::<usize>().ok();
-        if let Some(opened) = number.and_then(|number| self.opened.remove(&number)) {
+        if let Some((_, opened)) = number.and_then(|number| self.taken(number)) {
             opened.is_closed.store(true, Ordering::Relaxed);
         }
     }

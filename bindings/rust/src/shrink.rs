@@ -177,11 +177,12 @@ impl<B: Explorable, T, E, F: FnMut(&Run<B::Opened>) -> Result<T, E>> Search<B, F
             let run = Run::explored(&self.builder, choices, self.words, self.runs + 1)?;
             self.runs += 1;
             let result = catch_unwind(AssertUnwindSafe(|| (self.body)(&run)));
-            if run.choices(Choices::end) {
+            let end = run.choices(Choices::end);
+            if end.is_long {
                 return Ok(None);
             }
             let result = result.unwrap_or_else(|panic| resume_unwind(panic));
-            if run.choices(|choices| choices.is_short) {
+            if end.is_short {
                 self.words *= 2;
                 continue;
             }
@@ -191,7 +192,7 @@ impl<B: Explorable, T, E, F: FnMut(&Run<B::Opened>) -> Result<T, E>> Search<B, F
             return Ok(error.map(|error| Made {
                 given: run.choices(|choices| {
                     let replay = choices.replay.as_ref();
-                    replay.map(Replay::decided).unwrap_or_default()
+                    replay.map(|replay| replay.decided()).unwrap_or_default()
                 }),
                 calls: run.choices(|choices| choices.calls),
                 shrunk: Shrunk {

@@ -38,6 +38,8 @@ impl Met {
 #[derive(Debug, Default)]
 pub(crate) struct Unsynced {
     may_keep: bool,
+    /// The one that was written last. It isn't in `writes`, so that most writes look nothing up.
+    last: Option<(u64, Met)>,
     writes: BTreeMap<u64, Met>,
     /// What the crashes met so far.
     pub(crate) met: Met,
@@ -55,22 +57,37 @@ impl Unsynced {
             never_kept: !self.may_keep,
             may_keep: self.may_keep,
         };
-        self.writes.entry(key).or_default().add(met);
+        match &mut self.last {
+            Some((last, all)) if *last == key => all.add(met),
+            _ => {
+                let mut all = self.writes.remove(&key).unwrap_or_default();
+                all.add(met);
+                self.writes.extend(self.last.replace((key, all)));
+            }
+        }
     }
 
     /// Takes a sync, also one that has only started, or what else leaves no unsynced write.
     pub(crate) fn sync(&mut self, key: u64) {
+        self.last.take_if(|(last, _)| *last == key);
         self.writes.remove(&key);
     }
 
     /// Takes a sync of everything, or a reopening without a crash, which drops what is pending.
     pub(crate) fn clear(&mut self) {
+        self.last = None;
         self.writes.clear();
     }
 
     pub(crate) fn crash(&mut self) {
-        for met in std::mem::take(&mut self.writes).into_values() {
-            self.met.add(met);
+        for met in self
+            .last
+            .iter()
+            .map(|last| &last.1)
+            .chain(self.writes.values())
+        {
+            self.met.add(*met);
         }
+        self.clear();
     }
 }

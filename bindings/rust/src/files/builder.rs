@@ -4,7 +4,7 @@ use super::state::State;
 use crate::foreign::PROFILES;
 use crate::library::word;
 use crate::limits::Limits;
-use crate::record::Record;
+use crate::paths::Words;
 use crate::shared::Shared;
 use crate::unsynced::TORN_WRITES;
 use crate::{Config, Error, Explorable, Probability};
@@ -316,7 +316,7 @@ impl Builder {
     /// ```
     pub fn open(mut self) -> Result<Files, Error> {
         self.complete()?;
-        self.made(&[], Limits::default())
+        self.made(Words::default(), Limits::default())
     }
 
     /// The base of a search's files: unsynced writes are torn, unless a setting is one of writes.
@@ -361,14 +361,11 @@ impl Explorable for Builder {
         Ok(builder)
     }
 
-    fn made(&self, words: &[u64], limits: Limits) -> Result<Files, Error> {
-        let mut session = Session::open(&self.base.lines.join("\n"))?;
-        session.push_words(words)?;
-        session.record = (!self.base.unrecorded).then(|| Record::new(words, &self.base.lines));
+    fn made(&self, words: Words, limits: Limits) -> Result<Files, Error> {
+        let session = Session::begin(&self.base.preamble, words, self.base.unrecorded)?;
         let mut state = State::new(session, self.base.config, limits);
         state.syncs_lie = self.syncs == Syncs::Lie;
-        let settings = self.base.settings.unwrap_or_default();
-        state.limits.unsynced.set(&settings);
+        state.limits.unsynced.set(&self.base.settings);
         let shared = Shared::new(state, self.base.has_draws);
         Ok(Files { shared })
     }

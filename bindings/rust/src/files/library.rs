@@ -127,7 +127,7 @@ impl Session {
             Err(Error::PowerLoss) => return,
             Err(error) => format!(" # is {error:?}"),
         };
-        record.push(call.asked, call.path, call.to, remark);
+        record.push(call.asked, call.path, call.to, &remark);
     }
 
     /// Returns the name with an index of the last call, a `List`, or `None` if it has no such name.
