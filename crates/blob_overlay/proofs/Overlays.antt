@@ -1,5 +1,5 @@
 -- Overlays and resizes as the results of loops and of calls of `Vec`.
-use Rattle.std.proofs.Common.{[], ◌≡◌, ◌⊎◌, ⊎_elim, ℕ, ◌+◌, ◌-◌, ◌<◌, ◌≤◌, max, Bool, true, false, List, ◌++◌, length, get_or, take, drop, replicate, refl, sym, ◌∙◌, ap, arith, ◌&&◌, ltb, length-append, append-nil, length-take, length-drop}
+use Rattle.std.proofs.Common.{[], ◌≡◌, ◌⊎◌, ⊎_elim, true≢false, ℕ, ◌+◌, ◌-◌, ◌<◌, ◌≤◌, max, Bool, true, false, List, ◌++◌, length, get_or, take, drop, replicate, refl, sym, ◌∙◌, ap, arith, ◌&&◌, ltb, length-append, append-nil, length-take, length-drop}
 use Rattle.std.proofs.lemmas.Bool.{cases_lt, le-ltb, lt-ltb, and_parts, and_from}
 use Rattle.std.proofs.lemmas.List.{get_or_past, get_or_append_left, get_or-append_right, get_or-take, get_or-drop, get_or-replicate, length-replicate, drop_all, take_all}
 use Rattle.blob_model.proofs.Agrees.{alike, overlay_same}
@@ -190,9 +190,27 @@ overlay_more x o a b c = same_bytes _ _
         back : (p : ℕ) → o + length a ≤ p → p - o ≡ length a + (p - (o + length a))
         back p k = omega arith
 
--- the loop over `keep`: its start, its two steps and its end
+-- bytes of which none is selected don't reach further
+pub reach_gap : (o m k : ℕ) (c : ℕ → Bool) → ((i : ℕ) → m ≤ i → i < m + k → c i ≡ false) → reach o (m + k) c ≡ reach o m c
+reach_gap o m k c none = omega (arith, reach_more o m k c, reach_below (o + m) k (λ i. c (m + i)) 0 (λ i l e. absurd (true≢false (sym e ∙ none (m + i) (omega arith) (omega arith)))))
+
+-- the loop over `keep`: its start, its steps and its end
 pub lay_none : (x : List ℕ) (o : ℕ) (b : List ℕ) (c : ℕ → Bool) → x ≡ overlay_by x o b (first 0 c)
 lay_none x o b c = sym (none_chosen x o b) ∙ overlay_same x o b _ _ (λ i h. ap (λ t. t && c i) (sym (le-ltb i 0 (omega arith))))
+
+-- bytes of which none is selected
+pub lay_gap : (x : List ℕ) (o : ℕ) (b : List ℕ) (c : ℕ → Bool) (i e : ℕ) → i ≤ e → ((j : ℕ) → i ≤ j → j < e → c j ≡ false)
+    → overlay_by x o b (first i c) ≡ overlay_by x o b (first e c)
+lay_gap x o b c i e some none = overlay_same x o b (first i c) (first e c) (λ j _. ⊎_elim (λ l. early j l) (λ l. ⊎_elim (λ u. inside j l u) (λ u. late j u) (cases_lt j e)) (cases_lt j i))
+  where
+    early : (j : ℕ) → j < i → first i c j ≡ first e c j
+    early j l = ap (λ t. t && c j) (lt-ltb j i l ∙ sym (lt-ltb j e (omega arith)))
+
+    inside : (j : ℕ) → i ≤ j → j < e → first i c j ≡ first e c j
+    inside j l u = ap (λ t. t && c j) (le-ltb j i l) ∙ sym (none j l u) ∙ sym (ap (λ t. t && c j) (lt-ltb j e u))
+
+    late : (j : ℕ) → e ≤ j → first i c j ≡ first e c j
+    late j u = ap (λ t. t && c j) (le-ltb j i (omega arith) ∙ sym (le-ltb j e u))
 
 -- a run of selected bytes, over bytes that are there
 pub lay_run : (x : List ℕ) (o : ℕ) (b : List ℕ) (c : ℕ → Bool) (i e : ℕ) → i < e → e ≤ length b → reach o (length b) c ≤ length x → ((j : ℕ) → i ≤ j → j < e → c j ≡ true)

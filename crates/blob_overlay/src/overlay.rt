@@ -1,5 +1,5 @@
 //! Writes and resizes of a vector of bytes. A call that can fail reserves capacity first. The rest does not allocate.
-ghost use Rattle.std.specs.Prelude.{◌≡◌, ◌≤◌, ◌<◌, ◌+◌, ◌^◌, ℕ, true, length, drop, vec_capacity};
+ghost use Rattle.std.specs.Prelude.{◌≡◌, ◌≤◌, ◌<◌, ◌+◌, ◌^◌, ℕ, true, false, length, drop, vec_capacity};
 ghost use Rattle.blob_model.specs.Bytes.{overlay_by, reach, resize, write_live};
 ghost use Rattle.blob_model.specs.Runs.{is_chosen};
 ghost use Rattle.blob_overlay.specs.Overlays.{AreNow, Grows};
@@ -14,12 +14,37 @@ pub fn set_len(bytes: &mut Vec<u8>, len: usize)
     bytes.resize(len, 0).unwrap();
 }
 
+/// Eight choices that are all true, as `eight_at` returns them.
+const EIGHT: u64 = 0x0101_0101_0101_0101;
+
+/// Returns eight choices as a number, a byte for each. Most of a scan compares eight of them at once.
+#[inline(always)]
+fn eight_at(keep: &[bool], at: usize) -> u64
+    requires { at + 8 ≤ length keep.now }
+    ensures all { result ≡ 0x0101010101010101 → (i : ℕ) → at ≤ i → i < at + 8 → is_chosen keep.now i ≡ true }
+    ensures none { result ≡ 0 → (i : ℕ) → at ≤ i → i < at + 8 → is_chosen keep.now i ≡ false }
+{
+    u64::from_le_bytes([
+        keep[at] as u8,
+        keep[at + 1] as u8,
+        keep[at + 2] as u8,
+        keep[at + 3] as u8,
+        keep[at + 4] as u8,
+        keep[at + 5] as u8,
+        keep[at + 6] as u8,
+        keep[at + 7] as u8,
+    ])
+}
+
 /// Returns the end of the last selected byte, or 0 if none is selected.
 pub fn reach_of(offset: usize, keep: &[bool]) -> usize
     requires { offset + length keep.now < 2 ^ 64 }
     ensures { result ≡ reach offset (length keep.now) (is_chosen keep.now) }
 {
     let mut count = keep.len();
+    while count >= 8 && eight_at(keep, count - 8) == 0 {
+        count -= 8;
+    }
     while count > 0 {
         if keep[count - 1] {
             return offset + count;
@@ -38,8 +63,32 @@ fn end_of_run(keep: &[bool], start: usize) -> usize
     ensures selected { (i : ℕ) → start ≤ i → i < result → is_chosen keep.now i ≡ true }
 {
     let mut end = start + 1;
+    while keep.len() - end >= 8 && eight_at(keep, end) == EIGHT {
+        end += 8;
+    }
     while end < keep.len() {
         if !keep[end] {
+            break;
+        }
+        end += 1;
+    }
+    end
+}
+
+/// Returns the end of the bytes that aren't selected, from `start` on.
+fn end_of_gap(keep: &[bool], start: usize) -> usize
+    requires there { start ≤ length keep.now }
+    ensures some { start ≤ result }
+    ensures within { result ≤ length keep.now }
+    ensures stops { result < length keep.now → is_chosen keep.now result ≡ true }
+    ensures others { (i : ℕ) → start ≤ i → i < result → is_chosen keep.now i ≡ false }
+{
+    let mut end = start;
+    while keep.len() - end >= 8 && eight_at(keep, end) == 0 {
+        end += 8;
+    }
+    while end < keep.len() {
+        if keep[end] {
             break;
         }
         end += 1;
@@ -54,15 +103,11 @@ pub fn copy_some(bytes: &mut [u8], offset: usize, run: &[u8], keep: &[bool])
     requires inside { reach offset (length run.now) (is_chosen keep.now) ≤ length bytes.old }
     ensures { bytes.new ≡ overlay_by bytes.old offset run.now (is_chosen keep.now) }
 {
-    let mut i = 0;
+    let mut i = end_of_gap(keep, 0);
     while i < keep.len() {
-        if !keep[i] {
-            i += 1;
-            continue;
-        }
         let end = end_of_run(keep, i);
         bytes[offset + i..offset + end].copy_from_slice(&run[i..end]);
-        i = end;
+        i = end_of_gap(keep, end);
     }
 }
 
@@ -93,7 +138,7 @@ pub fn lay_chosen(bytes: &mut Vec<u8>, offset: usize, end: usize, run: &[u8], ke
     requires room { end ≤ vec_capacity bytes.old }
     ensures { AreNow bytes.old bytes.new (overlay_by bytes.old.items offset run.now (is_chosen keep.now)) }
 {
-    if !keep.contains(&false) && !run.is_empty() {
+    if !keep.is_empty() && keep[0] && end_of_run(keep, 0) == keep.len() {
         write_live(bytes, offset, run);
         return;
     }

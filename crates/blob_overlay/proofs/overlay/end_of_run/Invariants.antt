@@ -11,3 +11,13 @@ invariant-loop-end l = record {
 
 abbrev pub decreases-loop-end : goal.decreases-loop-end
 decreases-loop-end l = length l.keep - l.end
+
+abbrev pub invariant-loop-end-2 : goal.invariant-loop-end-2
+invariant-loop-end-2 l = record {
+  some : l.start < l.end;
+  within : l.end ≤ length l.keep;
+  selected : (i : ℕ) → l.start ≤ i → i < l.end → is_chosen l.keep i ≡ true;
+}
+
+abbrev pub decreases-loop-end-2 : goal.decreases-loop-end-2
+decreases-loop-end-2 l = length l.keep - l.end

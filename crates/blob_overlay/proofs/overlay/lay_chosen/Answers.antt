@@ -1,7 +1,4 @@
-use Rattle.std.proofs.Common.{rules, ◌≡◌, ◌≤◌, ◌<◌, ◌∙◌, ap, sym, refl, ℕ, Bool, true, false, List, length, vec_len, vec_capacity, max, arith, ⊎_elim, true≢false}
-use Rattle.std.proofs.lemmas.Bool.{cases_Bool}
-use Rattle.std.proofs.lemmas.List.Folds.{list_any_at}
-use Rattle.std.specs.List.{list_any}
+use Rattle.std.proofs.Common.{rules, ◌≡◌, ◌≤◌, ◌∙◌, ap, sym, ℕ, true, length, vec_len, vec_capacity, max, arith}
 use Rattle.blob_model.proofs.Agrees.{overlay_same}
 use Rattle.blob_model.specs.Bytes.{overlay_by, resize}
 use Rattle.blob_model.specs.Runs.{is_chosen}
@@ -9,17 +6,14 @@ use Rattle.blob_overlay.proofs.Overlays.{resized_to, grown_none, lay_padded, liv
 use Rattle.blob_overlay.proofs.overlay.lay_chosen.Goals as goal
 use Rattle.blob_overlay.proofs.overlay.lay_chosen.Goals.{then-len-end, else-len-end}
 
--- each byte is selected if none is found that isn't
-each : (p : Bool → Bool) (keep : List Bool) (i : ℕ) → i < length keep → p false ≡ true → list_any p keep ≡ false → true ≡ is_chosen keep i
-each p keep i h finds none = ⊎_elim (λ y. sym y) (λ n. absurd (true≢false (sym (list_any_at p keep i false h (ap p n ∙ finds)) ∙ none))) (cases_Bool (is_chosen keep i))
-
-pub returns-then-not-is_empty : goal.returns-then-not-is_empty
-returns-then-not-is_empty c =
+pub returns-then-end_of_run-keep : goal.returns-then-end_of_run-keep
+returns-then-end_of_run-keep c =
     let old = c.args.bytes.now.items in
-    let run = c.args.run.now in record {
-      items = c.write_live.ensures.items ∙ live_some old c.args.offset run (search (rules, arith))
+    let run = c.args.run.now in
+    let all : c.end_of_run.result ≡ length c.args.keep.now = omega arith in record {
+      items = c.write_live.ensures.items ∙ live_some old c.args.offset run (omega (arith, c.requires.same, c.end_of_run.ensures.some))
           ∙ overlay_same old c.args.offset run (λ _. true) (is_chosen c.args.keep.now)
-          (λ i h. each _ c.args.keep.now i (omega (arith, c.requires.same, h)) refl (sym c.contains.ensures.value ∙ c.if-not-contains.true));
+          (λ i h. sym (c.end_of_run.ensures.selected i (omega arith) (omega (arith, c.requires.same, all, h))));
       capacity = c.write_live.ensures.capacity;
     }
 

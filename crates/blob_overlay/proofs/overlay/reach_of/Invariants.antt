@@ -11,3 +11,12 @@ invariant-loop-count l = record {
 
 abbrev pub decreases-loop-count : goal.decreases-loop-count
 decreases-loop-count l = l.count
+
+abbrev pub invariant-loop-count-2 : goal.invariant-loop-count-2
+invariant-loop-count-2 l = record {
+  within : l.count ≤ length l.keep;
+  same : reach l.offset l.count (is_chosen l.keep) ≡ reach l.offset (length l.keep) (is_chosen l.keep);
+}
+
+abbrev pub decreases-loop-count-2 : goal.decreases-loop-count-2
+decreases-loop-count-2 l = l.count
