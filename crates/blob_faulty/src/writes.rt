@@ -38,10 +38,13 @@ impl<B> Blob<B> {
         ensures rest { store.new ≡ record store.old { inner = store.new.inner } }
     {
         let plain = WriteOptions::default();
-        self.inner
-            .write_from(&mut store.inner, offset, bytes, plain)?;
-        self.size = self.size.max(end);
-        Ok(())
+        let wrote = self
+            .inner
+            .write_from(&mut store.inner, offset, bytes, plain);
+        if wrote.is_ok() {
+            self.size = self.size.max(end);
+        }
+        wrote
     }
 
     /// Writes some bytes without SYNC while retention is set. The write is pending from then on and takes the next number. It isn't

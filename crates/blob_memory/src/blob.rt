@@ -274,7 +274,9 @@ impl blob_base::Blob<Storage> for Blob {
         if options.contains(WriteOptions::SYNC) {
             return self.write_sync(store, offset, bytes);
         }
-        let end = self.origin.logical_end(offset, bytes.len())?;
+        let Some(end) = self.origin.checked_end(offset, bytes.len()) else {
+            return Err(Error::OffsetOverflow);
+        };
         overlay::make_room(&mut self.live, end)?;
         overlay::write_live_slice(&mut self.live, offset as usize, bytes);
         Ok(())
