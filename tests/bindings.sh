@@ -67,7 +67,7 @@ replays() {
 compiler=${CC:-cc}
 if has "$compiler"; then
     build="$compiler -std=c11 -Wall -Wextra -Werror -pedantic -O2 -I$top/bindings/c"
-    for program in first first_files calls typed numbers facts fork files_calls lines log hostile; do
+    for program in first first_files calls typed numbers handles facts fork files_calls lines log hostile; do
         $build -o "$work/$program" "$top/bindings/c/$program.c" "$top/out/libblobcrash.a" >"$work/out" 2>"$work/err"
         tell $? "C: $program.c"
     done
@@ -83,6 +83,8 @@ if has "$compiler"; then
     tell $? 'C: what each typed call returns'
     "$work/numbers" >"$work/out" 2>"$work/err"
     tell $? 'C: what each number of the header does'
+    "$work/handles" >"$work/out" 2>"$work/err"
+    tell $? 'C: numbers and memory after many closes'
     "$work/facts" >"$work/out" 2>"$work/err"
     tell $? 'C: effects, lines, words and power'
     "$work/fork" >"$work/out" 2>"$work/err"
@@ -145,7 +147,7 @@ if has "$compiler"; then
     # The library and its clients under the address sanitizer, which also reports leaks.
     if $build -g -fsanitize=address,undefined -o "$work/lines.sanitized" "$top/bindings/c/lines.c" \
         "$top/out/libblobcrash.a" 2>"$work/err" && "$work/lines.sanitized" </dev/null 2>"$work/err"; then
-        for program in calls typed numbers facts fork files_calls log hostile; do
+        for program in calls typed numbers handles facts fork files_calls log hostile; do
             $build -g -fsanitize=address,undefined -o "$work/$program.sanitized" "$top/bindings/c/$program.c" \
                 "$top/out/libblobcrash.a"
         done
@@ -155,6 +157,8 @@ if has "$compiler"; then
         tell $? 'C, sanitized: what each typed call returns'
         "$work/numbers.sanitized" >"$work/out" 2>"$work/err"
         tell $? 'C, sanitized: what each number of the header does'
+        "$work/handles.sanitized" >"$work/out" 2>"$work/err"
+        tell $? 'C, sanitized: numbers and memory after many closes'
         "$work/facts.sanitized" >"$work/out" 2>"$work/err"
         tell $? 'C, sanitized: effects, lines, words and power'
         "$work/fork.sanitized" >"$work/out" 2>"$work/err"

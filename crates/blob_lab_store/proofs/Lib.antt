@@ -1,10 +1,13 @@
 pub mod AskedSyncs
 pub mod AskedWrites
 pub mod AskSteps
+pub mod ByNumber
 pub mod CallSteps
 pub mod EmptySlots
 pub mod ExclusiveEnds
 pub mod ExclusiveOpens
+pub mod Found
+pub mod FullSlots
 pub mod LooseOpens
 pub mod NamedCalls
 pub mod OpenEnds

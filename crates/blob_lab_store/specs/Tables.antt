@@ -1,5 +1,5 @@
 -- The tables of a laboratory, as its states see them.
-use Rattle.std.specs.Prelude.{ℕ, ◌+◌, ◌≤◌, List, map, Option, option_map, Vec, String, vec_len, vec_capacity, string_bytes}
+use Rattle.std.specs.Prelude.{ℕ, List, map, Option, option_map, Vec, String, string_bytes}
 use Rattle.std.specs.Global.{Global}
 use Rattle.std.specs.Range.{range_inclusive_start, range_inclusive_end}
 use Rattle.std.specs.declared.ops.RangeInclusive.{RangeInclusive}
@@ -12,6 +12,7 @@ use Rattle.blob_memory.specs.Store.{place, live}
 use Rattle.blob_lab_store.specs.declared.lab.handles.Handle.{Handle}
 use Rattle.blob_lab_store.specs.declared.lab.handles.Handles.{Handles}
 use Rattle.blob_lab_store.specs.declared.lab.syncs.Syncs.{Syncs}
+use Rattle.blob_lab_store.specs.Slots.{values_of, HasRoom}
 use Rattle.blob_lab_model.specs.States.{Held, Started}
 pub use Rattle.blob_script.specs.Preambles.{images_of}
 
@@ -19,21 +20,21 @@ abbrev pub as_held : Handle → Held
 as_held h = record { place = place (inside h.blob); live = live (inside h.blob); size = size_of h.blob; registration = h.registration }
 
 abbrev pub handles_of : Handles → List (Option Held)
-handles_of handles = map (option_map as_held) handles.slots.items
+handles_of handles = map (option_map as_held) (values_of handles.slots)
 
 abbrev pub started_by : base.Handle → Started
 started_by h = record { outcome = error_of (outcome_of h) }
 
 abbrev pub syncs_of : Syncs → List (Option Started)
-syncs_of syncs = map (option_map started_by) syncs.slots.items
+syncs_of syncs = map (option_map started_by) (values_of syncs.slots)
 
 -- the first and the last version of a range
 abbrev pub version_bounds : RangeInclusive BlobVersion → ℕ × ℕ
 version_bounds versions = ((range_inclusive_start versions).0, (range_inclusive_end versions).0)
 
--- capacity for one more
+-- capacity and a number for one more
 abbrev pub HasFreeSlot : Handles → Type 0
-HasFreeSlot handles = vec_len handles.slots + 1 ≤ vec_capacity handles.slots
+HasFreeSlot handles = HasRoom handles.slots
 
 abbrev pub HasSyncRoom : Syncs → Type 0
-HasSyncRoom syncs = vec_len syncs.slots + 1 ≤ vec_capacity syncs.slots
+HasSyncRoom syncs = HasRoom syncs.slots

@@ -2,8 +2,10 @@
 #![tactic(auto)]
 
 mod ahead;
+mod full;
 pub mod lab;
 pub mod scripted_rng;
+mod slots;
 
 pub use ahead::Ahead;
 pub use lab::Lab;

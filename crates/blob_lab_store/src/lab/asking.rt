@@ -66,10 +66,10 @@ impl Lab {
     pub fn write(&mut self, number: usize, offset: u64, bytes: &[u8], sync: bool) -> Reply
         ensures { Performs self.old (Through number (Write offset bytes.now sync)) result self.new }
     {
-        if number >= self.handles.slots.len() {
+        let Some(i) = self.handles.index(number) else {
             return Reply::NoHandle;
-        }
-        let Some(Handle { blob, .. }) = &mut self.handles.slots[number] else {
+        };
+        let Some(Handle { blob, .. }) = &mut self.handles.slots.values[i] else {
             return Reply::NoHandle;
         };
         let options = if sync {
@@ -87,10 +87,10 @@ impl Lab {
     pub(crate) fn resize(&mut self, number: usize, len: u64) -> Reply
         ensures { Performs self.old (Through number (Resize len)) result self.new }
     {
-        if number >= self.handles.slots.len() {
+        let Some(i) = self.handles.index(number) else {
             return Reply::NoHandle;
-        }
-        let Some(Handle { blob, .. }) = &mut self.handles.slots[number] else {
+        };
+        let Some(Handle { blob, .. }) = &mut self.handles.slots.values[i] else {
             return Reply::NoHandle;
         };
         match blob.resize(&mut self.wrapper, len) {
@@ -112,10 +112,10 @@ impl Lab {
     pub(crate) fn sync(&mut self, number: usize) -> Reply
         ensures { Performs self.old (Through number Sync) result self.new }
     {
-        if number >= self.handles.slots.len() {
+        let Some(i) = self.handles.index(number) else {
             return Reply::NoHandle;
-        }
-        let Some(Handle { blob, .. }) = &mut self.handles.slots[number] else {
+        };
+        let Some(Handle { blob, .. }) = &mut self.handles.slots.values[i] else {
             return Reply::NoHandle;
         };
         match blob.sync(&mut self.wrapper) {
@@ -127,10 +127,10 @@ impl Lab {
     pub(crate) fn start_sync(&mut self, number: usize) -> Reply
         ensures { Performs self.old (Through number StartSync) result self.new }
     {
-        if number >= self.handles.slots.len() {
+        let Some(i) = self.handles.index(number) else {
             return Reply::NoHandle;
-        }
-        match &mut self.handles.slots[number] {
+        };
+        match &mut self.handles.slots.values[i] {
             Some(handle) => handle.start_sync(&mut self.wrapper, &mut self.syncs),
             None => Reply::NoHandle,
         }

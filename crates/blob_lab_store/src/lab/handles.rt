@@ -1,11 +1,14 @@
-//! The handles of a laboratory by number: from 0, in the order of accepted opens. Numbers aren't reused.
+//! The handles of a laboratory by number: from 0, in the order of accepted opens. Numbers aren't reused, but a closed handle's slot is
+//! dropped.
 ghost use Rattle.std.specs.Prelude.{◌≡◌, ◌<◌, ◌++◌, ◌∷◌, [], Some, None, OnOk, OnErr, IfSome, IfNone, length, set, option_map, option_copied};
 ghost use Rattle.blob_header.specs.Refusals.{IsMemory};
 ghost use Rattle.blob_lab_model.specs.Steps.{close_registration};
 ghost use Rattle.blob_lab_model.specs.Answers.{kept_at};
 ghost use Rattle.blob_opens.specs.Opens.{names_of, registration_of, store_handle};
+ghost use Rattle.blob_lab_store.specs.Slots.{IsAt};
 ghost use Rattle.blob_lab_store.specs.Tables.{as_held, handles_of, HasFreeSlot};
 
+use crate::slots::Slots;
 use blob_base::Error;
 use blob_opens::Opens;
 use blob_opens::open::{self, Registration};
@@ -58,9 +61,9 @@ impl Handle {
     }
 }
 
-/// A table of handles. The slot of a closed one is empty.
+/// A table of handles.
 pub(crate) struct Handles {
-    pub(crate) slots: Vec<Option<Handle>>,
+    pub(crate) slots: Slots<Handle>,
 }
 
 impl Handles {
@@ -68,17 +71,17 @@ impl Handles {
         ensures { handles_of result ≡ [] }
     {
         Handles {
-            slots: Vec::new(alloc),
+            slots: Slots::new(alloc),
         }
     }
 
-    /// Reserves capacity for one more handle. The only error is `Memory`.
+    /// Reserves capacity and a number for one more handle. The only error is `Memory`.
     pub(crate) fn reserve(&mut self) -> Result<(), Error>
         ensures handles { handles_of self.new ≡ handles_of self.old }
         ensures room { OnOk result (HasFreeSlot self.new) }
         ensures memory { OnErr result (IsMemory result) }
     {
-        self.slots.reserve(1)?;
+        self.slots.reserve()?;
         Ok(())
     }
 
@@ -88,18 +91,23 @@ impl Handles {
         ensures number { result ≡ length (handles_of self.old) }
         ensures handles { handles_of self.new ≡ handles_of self.old ++ Some (as_held handle) ∷ [] }
     {
-        let number = self.slots.len();
-        self.slots.push(Some(handle)).unwrap();
-        number
+        self.slots.add(handle)
     }
 
+    #[inline(always)]
     pub(crate) fn get(&self, number: usize) -> Option<&Handle>
         ensures { option_map as_held (option_copied result) ≡ kept_at (handles_of self.now) number }
     {
-        match self.slots.get(number) {
-            Some(slot) => slot.as_ref(),
-            None => None,
-        }
+        self.slots.get(number)
+    }
+
+    /// Returns the index of a handle's slot, which may be empty. `None` if there is no such slot.
+    #[inline(always)]
+    pub(crate) fn index(&self, number: usize) -> Option<usize>
+        ensures some { IfSome result (λ i. IsAt self.now.slots number i) }
+        ensures none { IfNone result (kept_at (handles_of self.now) number ≡ None) }
+    {
+        self.slots.index(number)
     }
 
     /// Takes a handle out of its slot.
@@ -110,20 +118,18 @@ impl Handles {
         ensures empty { IfSome result (λ h. kept_at (handles_of self.new) number ≡ None) }
         ensures none { IfNone result (handles_of self.new ≡ handles_of self.old) }
     {
-        if number >= self.slots.len() {
-            return None;
-        }
-        self.slots[number].take()
+        self.slots.take(number)
     }
 
     /// Closes all of them.
     pub(crate) fn close_all(self, opens: &mut Opens) {
-        let Handles { mut slots } = self;
-        while let Some(slot) = slots.pop() {
+        let Handles { slots } = self;
+        let mut values = slots.into_values();
+        while let Some(slot) = values.pop() {
             if let Some(handle) = slot {
                 handle.close(opens);
             }
         }
-        slots.destroy_empty();
+        values.destroy_empty();
     }
 }

@@ -1,16 +1,18 @@
-//! The started syncs of a laboratory by number: from 0, in the order of their starts. Numbers aren't reused.
+//! The started syncs of a laboratory by number: from 0, in the order of their starts. Numbers aren't reused, but the slot of a sync that
+//! was finished is dropped.
 ghost use Rattle.std.specs.Prelude.{◌≡◌, ◌++◌, ◌∷◌, [], Some, None, OnOk, OnErr, IfSome, IfNone, length, map, set, option_map};
 ghost use Rattle.blob_header.specs.Refusals.{IsMemory};
 ghost use Rattle.blob_lab_model.specs.Answers.{kept_at};
 ghost use Rattle.blob_lab_store.specs.Tables.{started_by, syncs_of, HasSyncRoom};
 
+use crate::slots::Slots;
 use blob_base::{Error, Handle};
 use std::alloc::Global;
 
-/// A table of started syncs. The slot of one that was finished or dropped is empty.
+/// A table of started syncs.
 #[derive(Drop)]
 pub(crate) struct Syncs {
-    pub(crate) slots: Vec<Option<Handle>>,
+    pub(crate) slots: Slots<Handle>,
 }
 
 impl Syncs {
@@ -18,17 +20,17 @@ impl Syncs {
         ensures { syncs_of result ≡ [] }
     {
         Syncs {
-            slots: Vec::new(alloc),
+            slots: Slots::new(alloc),
         }
     }
 
-    /// Reserves capacity for one more. The only error is `Memory`.
+    /// Reserves capacity and a number for one more. The only error is `Memory`.
     pub(crate) fn reserve(&mut self) -> Result<(), Error>
         ensures syncs { syncs_of self.new ≡ syncs_of self.old }
         ensures room { OnOk result (HasSyncRoom self.new) }
         ensures memory { OnErr result (IsMemory result) }
     {
-        self.slots.reserve(1)?;
+        self.slots.reserve()?;
         Ok(())
     }
 
@@ -38,9 +40,7 @@ impl Syncs {
         ensures number { result ≡ length (syncs_of self.old) }
         ensures syncs { syncs_of self.new ≡ syncs_of self.old ++ Some (started_by handle) ∷ [] }
     {
-        let number = self.slots.len();
-        self.slots.push(Some(handle)).unwrap();
-        number
+        self.slots.add(handle)
     }
 
     /// Takes one out of its slot.
@@ -49,18 +49,13 @@ impl Syncs {
         ensures taken { IfSome result (λ s. syncs_of self.new ≡ set (syncs_of self.old) number None) }
         ensures none { IfNone result (syncs_of self.new ≡ syncs_of self.old) }
     {
-        if number >= self.slots.len() {
-            return None;
-        }
-        self.slots[number].take()
+        self.slots.take(number)
     }
 
-    /// Empties every slot.
+    /// Drops all of them.
     pub(crate) fn drop_all(&mut self)
         ensures { syncs_of self.new ≡ map (λ slot. None) (syncs_of self.old) }
     {
-        for slot in self.slots.iter_mut() {
-            *slot = None;
-        }
+        self.slots.clear();
     }
 }

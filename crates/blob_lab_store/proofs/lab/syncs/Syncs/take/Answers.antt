@@ -1,8 +1,7 @@
-use Rattle.std.proofs.Common.{rules, None}
-use Rattle.std.specs.Prelude.{option_map}
+use Rattle.blob_lab_store.specs.Slots.{values_of}
 use Rattle.blob_lab_store.specs.Tables.{started_by}
-use Rattle.blob_lab_model.proofs.TableSteps.{map_made, where_some}
+use Rattle.blob_lab_store.proofs.EmptySlots.{taken_seen}
 use Rattle.blob_lab_store.proofs.lab.syncs.Syncs.take.Goals as goal
 
 pub returns-clause-taken : goal.returns-clause-taken
-returns-clause-taken c = where_some _ _ (map_made (option_map started_by) c.args.self.now.slots.items _ c.args.number None (search rules))
+returns-clause-taken c = taken_seen started_by c.take.result (values_of c.args.self.now.slots) (values_of c.take.new.self) c.args.number c.take.ensures.taken
