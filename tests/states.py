@@ -13,8 +13,8 @@ from explore_log import RECORDS, AcknowledgesFirst, Checked, ForgetsSync, TakesZ
 from passing import raises, run_tests
 
 TOP = os.path.dirname(os.path.dirname(os.path.abspath(__file__)))
-from blobcrash import BadLine, CrashStates, Files, Library, StorageError, Store
-from blobcrash.crash_outcomes import Forward
+from blobcrash import BadLine, CrashStates, Files, Library, StorageError, Store, crash_outcomes
+from blobcrash.crash_outcomes import CrashOutcomes, Forward
 
 PREFIX = "write 0 1 1 2 prefix"
 MAX = 2**64 - 1
@@ -295,6 +295,48 @@ def test_random_scripts_of_files_by_all_draws():
             assert found_by(script, files=True, whole=whole) == found, script
         fewer += "edits" not in script and any(f"profile {name}" in script for name in ("ext4", "xfs"))
     assert fewer > 30, fewer
+
+
+def random_writes(chance):
+    """A script of files with many writes, which overlap, extend the file, repeat its bytes or are zeros, of which all but a few are unsynced."""
+    lines = [f"profile {chance.choice(['ext4', 'xfs', 'btrfs', 'posix'])}", f"config write {chance.choice([0, 0, 0, 1])} 3 1 2 sectors {MAX}"]
+    lines += ["create /a", "create /b", f"write /a 0 {chance.choice(['6161', '0000'])}"] + ["settle"] * chance.choice([0, 1, 1, 1])
+    for _ in range(chance.randrange(3, 7)):
+        file = chance.choice(["/a", "/a", "/b"])
+        data = chance.choice(["6161", "000000", "61", "00"])
+        lines.append(f"write {file} {chance.randrange(4)} {data}")
+        if chance.random() < 0.2:
+            lines.append(chance.choice([f"fsync {file}", f"truncate {file} {chance.randrange(3)}", f"rename {file} /c", "settle", f"unlink {file}", "crash"]))
+    return "\n".join([f"seed {chance.randrange(100)}", *lines])
+
+
+def test_random_writes_by_all_draws():
+    """So do the draws of writes that decide nothing. Tried are fewer outcomes, and counted as many."""
+    chance = random.Random(60)
+    tried = {0: 0, MAX: 0}
+    new = CrashOutcomes._crash
+
+    def counted(outcomes, *path):
+        tried[crash_outcomes._MANY] = tried.get(crash_outcomes._MANY, 0) + 1
+        return new(outcomes, *path)
+
+    with patch.object(CrashOutcomes, "_crash", counted):
+        for _ in range(40):
+            script = random_writes(chance)
+            with patch.object(crash_outcomes, "_MANY", MAX):
+                every = found_by(script, files=True)
+            with patch.object(crash_outcomes, "_MANY", 0):
+                assert found_by(script, files=True) == every, script
+    assert tried[0] < 0.6 * tried[MAX], tried
+
+
+def test_a_limit_isnt_taken_by_draws_that_decide_nothing():
+    """Of forty writes of zeros over zeros and one of another byte a crash leaves two states."""
+    zeros = "".join(f"write /a {at} 00\n" for at in range(40))
+    script = f"profile ext4\nconfig write 0 1 1 2 sectors {MAX}\ncreate /a\nwrite /a 0 {'00' * 50}\nfsync /a\n{zeros}write /a 7 61\n"
+    states = CrashStates(script, files=True, at=script.count("\n"), limit=5)
+    assert sorted(dict(state.content)[b"/a"][7] for state in states) == [0, 0x61], str(states)
+    assert states.outcomes == 2**41 and states.complete, str(states)
 
 
 def test_edits_in_order():

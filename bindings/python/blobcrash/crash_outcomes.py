@@ -6,24 +6,29 @@ import pickle
 from typing import Any, Dict, Iterator, List, NamedTuple, Optional, Sequence, Tuple
 
 from .crash_units import Row, rows_of
+from .file_contents import Draws, Lost, Part
 from .file_settings import kept_edits
 from .forked import Child
 from .grammar import MAX
+from .learned import Learned, Spans
 from .replayed import Content, ReplayedFiles
 
 # How many words a crash is given at first.
 _ROOM = 256
+# With fewer draws all outcomes are tried.
+_MANY = 4
 # Up to so many lines it is faster to make the calls again than to copy this process.
 _FEW_LINES = 500
 Words = Tuple[int, ...]
 
 
-class _Left(NamedTuple):
-    """A crash: the words that it took, what it kept of each unsynced write and unsettled edit, and what it left."""
+class Left(NamedTuple):
+    """A crash: the words that it took, what it kept of each unsynced write and unsettled edit, what it left, and of some files a part."""
 
     taken: Words
     rows: Tuple[Row, ...]
     content: Content
+    parts: Dict[int, Optional[Part]]
 
 
 class Forward:
@@ -31,17 +36,29 @@ class Forward:
 
     def __init__(self, way: Any, images: List[str], words: List[int], lines: List[str]) -> None:
         self.images, self.words, self.lines, self.line = images, words, lines, 0
-        self._way = way
+        self._way, self.is_files = way, way is ReplayedFiles
         self._session = way(images, words)
+        self.learned = Learned()
         # Which unsettled edits of files a crash keeps.
-        self._keeps = "prefix" if way is ReplayedFiles else "any"
+        self._keeps = "prefix" if self.is_files else "any"
 
     def go_to(self, line: int) -> None:
         """Makes the calls up to a line."""
-        for text in self.lines[self.line : line]:
+        while self.line < line:
+            text = self.lines[self.line]
+            tokens = text.split()
+            self._keeps = kept_edits(tokens, self._keeps)
+            if self.is_files:
+                self.learned.see(tokens[0], self._truncated_by(tokens))
             self._make(self._session, text)
-            self._keeps = kept_edits(text.split(), self._keeps)
-        self.line = line
+            self.line += 1
+            if self.line < line and self.learned.wants_rows:
+                self.learned.see_rows(self.crash([0] * _ROOM).rows)
+
+    def _truncated_by(self, tokens: List[str]) -> Optional[int]:
+        """The inode of the file that a call truncates, if it is open."""
+        is_open = tokens[0] == "truncate" and tokens[1].isdigit()
+        return self._session.inode_at(int(tokens[1])) if is_open else None
 
     @property
     def taken(self) -> List[int]:
@@ -53,17 +70,17 @@ class Forward:
         """Whether a crash keeps unsettled edits up to some point."""
         return self._keeps == "prefix"
 
-    def crash(self, given: Sequence[int]) -> _Left:
-        """What a crash by these words leaves. The run stays where it is."""
+    def crash(self, given: Sequence[int], spans: Optional[Spans] = None) -> Left:
+        """What a crash by these words leaves, and the parts of some files by their inodes. The run stays where it is."""
         if self.line > _FEW_LINES:
-            first, second = Child(lambda: self._crashed(self._session, given)).result()
-            return _Left(first[0], first[1], pickle.loads(second))
+            first, second = Child(lambda: self._crashed(self._session, given, spans or {})).result()
+            return Left(first[0], first[1], pickle.loads(second), first[2])
         session = self._way(self.images, self.words)
         try:
             for text in self.lines[: self.line]:
                 self._make(session, text)
-            first, content = self._crashed(session, given)
-            return _Left(first[0], first[1], content)
+            first, content = self._crashed(session, given, spans or {})
+            return Left(first[0], first[1], content, first[2])
         finally:
             session.close()
 
@@ -76,11 +93,13 @@ class Forward:
             session.call(text)
 
     @staticmethod
-    def _crashed(session: Any, given: Sequence[int]) -> Tuple[Tuple[Words, Tuple[Row, ...]], Content]:
+    def _crashed(session: Any, given: Sequence[int], spans: Spans) -> Tuple[Any, Content]:
         before = session.words_left() + len(given)
         reply = session.crash(list(given))
         taken = tuple(given[: before - session.words_left()])
-        return (taken, tuple(sorted(rows_of(reply)))), session.content()
+        content = session.content()
+        parts = {inode: session.part_of(inode, span) for inode, span in spans.items()}
+        return (taken, tuple(sorted(rows_of(reply))), parts), content
 
 
 class _Drawn(NamedTuple):
@@ -103,19 +122,25 @@ class CrashOutcomes:
         self._known: Dict[Words, Words] = {}
         self._drawn: Tuple[_Drawn, ...] = ()
         self._rows: Tuple[Row, ...] = ()
+        # Of files, if each draw is of a whole write or an edit: which draws decide nothing, and the crashes that showed it.
+        self._draws: Optional[Draws] = None
+        self._spans: Spans = {}
+        self._made: Dict[Words, Left] = {}
         self.is_complete = True
 
     @property
     def leaves(self) -> int:
-        return sum(1 << sum(self._idle(taken)) for taken in self._known.values())
+        return sum(self._count(taken) for taken in self._known.values())
 
     def __iter__(self) -> Iterator[Tuple[str, Content]]:
         """Yields the script and what is left: first those that lose least and most, then depth first."""
         kept = yield from self._new((), 0)
+        self._run.learned.see_rows(self._rows)
+        self._learn(kept)
         yield from self._extremes(kept)
         along: Optional[Words] = self._next(self._known[()])
         while along is not None:
-            taken = self._known.get(along)
+            taken = self._known.get(_stem(along))
             if taken is None:
                 if self._is_at_limit():
                     self.is_complete = False
@@ -137,14 +162,22 @@ class CrashOutcomes:
         given = [f"words {shown_words(all_words)}"] if all_words else []
         return "".join(f"{line}\n" for line in [*self._run.images, *given, *self._run.lines[: self._run.line], "crash"])
 
+    def _learn(self, kept: Words) -> None:
+        """Finds out which draws of files decide nothing, if there are some and each is of a whole write or an edit."""
+        if not self._run.is_files or len(kept) != len(self._rows) or len(kept) < _MANY:
+            return
+        found = self._run.learned.outcomes(self._run, self._rows)
+        if found is not None:
+            self._draws, self._spans, self._made = found
+
     def _extremes(self, kept: Words) -> Iterator[Tuple[str, Content]]:
         """Each single loss, all lost, and each single draw kept."""
-        losses: List[_Left] = []
+        losses: Optional[List[Left]] = None if self._draws else []
         for at in range(len(kept)):
             if self._is_at_limit():
                 return
             yield from self._new((0,) * at + (MAX,), 0, losses)
-        self._drawn = self._drawn_by(losses)
+        self._drawn = self._drawn_by(losses or [])
         for path in [(), *((MAX,) * at + (0,) for at in range(len(kept)))]:
             if self._is_at_limit():
                 return
@@ -153,28 +186,38 @@ class CrashOutcomes:
     def _is_at_limit(self) -> bool:
         return self._limit is not None and len(self._known) >= self._limit
 
-    def _new(self, path: Words, rest: int, seen: Optional[List[_Left]] = None) -> Any:
+    def _new(self, path: Words, rest: int, seen: Optional[List[Left]] = None) -> Any:
         """Makes the crash whose first draws are a path, and then all kept or all lost. Yields it unless one like it was made before. Returns
         its draws."""
-        while True:
-            given = [*path, *[rest] * self._room]
-            left = self._run.crash(given)
-            if len(left.taken) < len(given):
-                break
-            self._room *= 4
+        known = self._known.get(_stem(self._first((*path, *[rest] * (len(self._rows) - len(path)))))) if self._draws else None
+        if known is not None:
+            return known
+        left = self._crash(path, rest)
         if not self._known:
             self._rows = left.rows
         if seen is not None:
             seen.append(left)
-        taken = tuple(0 if idle else word for word, idle in zip(left.taken, self._idle(left.taken)))
+        if self._draws is not None and not self._draws.agrees(left.taken, left.rows, left.parts):
+            # What was taken for the same may not be: all draws are tried.
+            self._draws = None
+        taken = self._first(left.taken)
         if _stem(taken) not in self._known:
             self._known[_stem(taken)] = taken
             yield self.script(left.taken), left.content
         return taken
 
-    def _drawn_by(self, losses: List[_Left]) -> Tuple[_Drawn, ...]:
+    def _crash(self, path: Words, rest: int) -> Left:
+        while True:
+            given = [*path, *[rest] * self._room]
+            made = self._made.get(tuple(given[: len(self._rows)])) if self._draws else None
+            left = made or self._run.crash(given, self._spans)
+            if len(left.taken) < len(given):
+                return left
+            self._room *= 4
+
+    def _drawn_by(self, losses: List[Left]) -> Tuple[_Drawn, ...]:
         """What each draw is for: the row in which its loss is seen. Only if there are draws that may decide nothing."""
-        if not self._run.is_prefix or sum(row.inode is None for row in self._rows) < 2:
+        if not losses or not self._run.is_prefix or sum(row.inode is None for row in self._rows) < 2:
             return ()
         count = len(losses)
         draws, shorter = [0] * len(self._rows), [False] * len(self._rows)
@@ -196,13 +239,34 @@ class CrashOutcomes:
             is_after = is_after or drawn.is_edit and any(own or (MAX,))
         return idle + [False] * (len(taken) - len(idle))
 
+    def _first(self, taken: Words) -> Words:
+        """The first outcome that is as this one."""
+        if self._draws is not None:
+            return _words(self._draws.first(_lost(taken)))
+        return tuple(0 if idle else word for word, idle in zip(taken, self._idle(taken)))
+
+    def _count(self, taken: Words) -> int:
+        """How many outcomes are as this one."""
+        return self._draws.count(_lost(taken)) if self._draws is not None else 1 << sum(self._idle(taken))
+
     def _next(self, taken: Words) -> Optional[Words]:
         """The path of the next outcome, depth first."""
+        if self._draws is not None:
+            following = self._draws.next(_lost(taken))
+            return None if following is None else _words(following)
         idle = self._idle(taken)
         end = len(taken)
         while end and (taken[end - 1] or idle[end - 1]):
             end -= 1
         return (*taken[: end - 1], MAX) if end else None
+
+
+def _lost(words: Words) -> Lost:
+    return tuple(int(word > 0) for word in words)
+
+
+def _words(lost: Lost) -> Words:
+    return tuple(MAX if is_lost else 0 for is_lost in lost)
 
 
 def shown_words(words: Sequence[int]) -> str:

@@ -2,11 +2,12 @@
 
 from __future__ import annotations
 
-from typing import Any, Dict, List, Tuple
+from typing import Any, Dict, List, Optional, Tuple
 
 from .calls import Line
 from .errors import NotMade
 from .file_calls import FileCall, Found, file_line
+from .file_contents import Part
 from .file_library import FilesLibrary
 from .foreign import changes
 from .foreign_files import IS_DIRECTORY
@@ -101,6 +102,16 @@ class ReplayedFiles:
     def inode_at(self, descriptor: int) -> int:
         """Returns the inode of an open file, or 0."""
         return self._files.inode_at(descriptor)
+
+    def part_of(self, inode: int, span: Tuple[int, int]) -> Optional[Part]:
+        """Returns the size of a file and the bytes of a span, after `content`. `None` if there is no such file."""
+        opened = self._apply(FileCall("open_inode", inode))
+        if not isinstance(opened, Found):
+            return None
+        size = self._apply(FileCall("size", opened.number)).size
+        data = self._apply(FileCall("read", opened.number, span[0], max(min(span[1], size) - span[0], 0)))
+        self._apply(FileCall("close", opened.number))
+        return Part(size, data.ljust(span[1] - span[0], b"\0"))
 
     def names(self) -> Dict[bytes, int]:
         """Returns the inode of each path that calls see, the root's too."""

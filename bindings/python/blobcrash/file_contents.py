@@ -1,0 +1,153 @@
+"""What a crash leaves of a file, by which of its unsynced writes are lost: its durable bytes with the kept writes over them, in their order."""
+
+from __future__ import annotations
+
+from typing import Dict, List, Mapping, NamedTuple, Optional, Sequence, Set, Tuple
+
+from .crash_units import Row
+
+# Of each write 1 if it is lost, and 0 if it is kept.
+Lost = Tuple[int, ...]
+# The most contents of a file that are looked for.
+_MOST = 256
+
+
+class Part(NamedTuple):
+    """The size of a file, and some of its bytes: zeros beyond its end."""
+
+    size: int
+    data: bytes
+
+
+class Write(NamedTuple):
+    """A write that a crash keeps or loses as a whole."""
+
+    offset: int
+    data: bytes
+
+
+def span_of(writes: Sequence[Write]) -> Tuple[int, int]:
+    """The first byte that the writes reach, and the one after the last."""
+    return min(write.offset for write in writes), max(write.offset + len(write.data) for write in writes)
+
+
+class Contents:
+    """The contents that a file may have. Outcomes with the same content are told by the first of them: kept comes before lost, and the first
+    write decides first."""
+
+    def __init__(self, writes: Sequence[Write], base: Part, found: Dict[Part, Tuple[Lost, int]]) -> None:
+        self._writes, self._base, self._found = writes, base, found
+        self._start = span_of(writes)[0]
+        self._beginnings: Set[Lost] = {first[:end] for first, _ in found.values() for end in range(len(first) + 1)}
+        self._parts: Dict[Lost, Part] = {}
+
+    def part(self, lost: Lost) -> Part:
+        """What an outcome leaves."""
+        if lost not in self._parts:
+            part = self._base
+            for write, is_lost in zip(self._writes, lost):
+                part = part if is_lost else _written(part, write, self._start)
+            self._parts[lost] = part
+        return self._parts[lost]
+
+    def first(self, lost: Lost) -> Lost:
+        """The first outcome with the content of this one."""
+        return self._found[self.part(lost)][0]
+
+    def count(self, lost: Lost) -> int:
+        """How many outcomes have the content of this one."""
+        return self._found[self.part(lost)][1]
+
+    def begins(self, lost: Lost) -> bool:
+        """Whether a first outcome begins so."""
+        return lost in self._beginnings
+
+
+def contents_of(writes: Sequence[Write], base: Part) -> Optional[Contents]:
+    """The contents that a file may have over the bytes `base`, which are those of the span of the writes. `None` if these are too many."""
+    start = span_of(writes)[0]
+    found: Dict[Part, Tuple[Lost, int]] = {base: ((), 1)}
+    for write in writes:
+        after: Dict[Part, Tuple[Lost, int]] = {}
+        for part, (lost, count) in found.items():
+            for left, is_lost in ((_written(part, write, start), 0), (part, 1)):
+                first, others = after.get(left, ((*lost, is_lost), 0))
+                after[left] = min(first, (*lost, is_lost)), others + count
+        if len(after) > _MOST:
+            return None
+        found = after
+    return Contents(writes, base, found)
+
+
+def _written(part: Part, write: Write, start: int) -> Part:
+    at, end = write.offset - start, write.offset - start + len(write.data)
+    return Part(max(part.size, write.offset + len(write.data)), part.data[:at] + write.data + part.data[end:])
+
+
+class Draws:
+    """The draws of a crash, one for each write of files and each edit, in their order. Some decide nothing: of outcomes that leave the same,
+    the first one stands for all."""
+
+    def __init__(self, inodes: List[Optional[int]], contents: Dict[int, Contents], is_prefix: bool) -> None:
+        self._contents, self._is_prefix = contents, is_prefix
+        # The file of each draw, or `None` for an edit.
+        self._inodes = inodes
+        self._places: Dict[int, List[int]] = {}
+        for at, inode in enumerate(inodes):
+            if inode is not None:
+                self._places.setdefault(inode, []).append(at)
+
+    def first(self, lost: Lost) -> Lost:
+        """The first outcome that leaves what this one does. An edit after a lost one is lost with it, where they are kept in order."""
+        found = list(lost)
+        for at in self._after_lost(lost):
+            found[at] = 0
+        for inode, contents in self._contents.items():
+            for at, bit in zip(self._places[inode], contents.first(self._of(inode, lost))):
+                found[at] = bit
+        return tuple(found)
+
+    def count(self, lost: Lost) -> int:
+        """How many outcomes leave what this one does."""
+        count = 1 << len(self._after_lost(lost))
+        for inode, contents in self._contents.items():
+            count *= contents.count(self._of(inode, lost))
+        return count
+
+    def next(self, lost: Lost) -> Optional[Lost]:
+        """The first outcome after a first one that leaves something else."""
+        for at in reversed(range(len(lost))):
+            if not lost[at] and self._allows((*lost[:at], 1)):
+                found = (*lost[:at], 1)
+                while len(found) < len(lost):
+                    found = (*found, 0) if self._allows((*found, 0)) else (*found, 1)
+                return found
+        return None
+
+    def agrees(self, taken: Sequence[int], rows: Sequence[Row], parts: Mapping[int, Optional[Part]]) -> bool:
+        """Whether a crash that took these words kept and left what is expected. What a lost edit takes with it isn't compared."""
+        if len(taken) != len(self._inodes):
+            return False
+        lost = tuple(int(word > 0) for word in taken)
+        edit = next((at for at, inode in enumerate(self._inodes) if inode is None and lost[at]), None)
+        for at, row in enumerate(rows):
+            if (row.inode is not None or edit is None or at <= edit) and row.kept.strip("10"[lost[at]]):
+                return False
+        return edit is not None or all(parts.get(inode) == contents.part(self._of(inode, lost)) for inode, contents in self._contents.items())
+
+    def _of(self, inode: int, lost: Lost) -> Lost:
+        return tuple(lost[at] for at in self._places[inode] if at < len(lost))
+
+    def _after_lost(self, lost: Lost) -> List[int]:
+        """The draws of edits that decide nothing."""
+        edits = [at for at, inode in enumerate(self._inodes[: len(lost)]) if inode is None]
+        end = next((number for number, at in enumerate(edits, 1) if lost[at]), len(edits))
+        return edits[end:] if self._is_prefix else []
+
+    def _allows(self, lost: Lost) -> bool:
+        """Whether a first outcome begins so, if one begins with all but the last."""
+        at = len(lost) - 1
+        inode = self._inodes[at]
+        if inode is None:
+            return not lost[at] or at not in self._after_lost(lost)
+        return inode not in self._contents or self._contents[inode].begins(self._of(inode, lost))
