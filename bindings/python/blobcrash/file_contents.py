@@ -38,21 +38,22 @@ class Contents:
     def __init__(self, writes: Sequence[Write], base: Part, found: Dict[Part, Tuple[Lost, int]]) -> None:
         self._writes, self._base, self._found = writes, base, found
         self._start = span_of(writes)[0]
-        self._beginnings: Set[Lost] = {first[:end] for first, _ in found.values() for end in range(len(first) + 1)}
-        self._parts: Dict[Lost, Part] = {}
-
-    def part(self, lost: Lost) -> Part:
-        """What an outcome leaves."""
-        if lost not in self._parts:
-            part = self._base
-            for write, is_lost in zip(self._writes, lost):
-                part = part if is_lost else _written(part, write, self._start)
-            self._parts[lost] = part
-        return self._parts[lost]
+        self._parts: Dict[Lost, Part] = {first: part for part, (first, _) in found.items()}
+        self._beginnings: Set[Lost] = {first[:end] for first in self._parts for end in range(len(first) + 1)}
+        self._firsts: Dict[Lost, Lost] = {}
 
     def first(self, lost: Lost) -> Lost:
         """The first outcome with the content of this one."""
-        return self._found[self.part(lost)][0]
+        if lost not in self._firsts:
+            part = self._base
+            for write, is_lost in zip(self._writes, lost):
+                part = part if is_lost else _written(part, write, self._start)
+            self._firsts[lost] = self._found[part][0]
+        return self._firsts[lost]
+
+    def part(self, lost: Lost) -> Part:
+        """What an outcome leaves."""
+        return self._parts[self.first(lost)]
 
     def count(self, lost: Lost) -> int:
         """How many outcomes have the content of this one."""
