@@ -45,7 +45,7 @@ static void outcomes(size_t len) {
             seen[kept]++;
             tell(blobcrash_words_of(&paths, words, sizeof words) == strlen(words) && paths.explorer.len == (kept < len ? kept + 1 : len), words);
         } else {
-            tell(status == BLOBCRASH_EXPLORE_AGAIN && again++ < 3, "a run is made again for more words");
+            tell(status == BLOBCRASH_EXPLORE_AGAIN && again++ < 4, "a run is made again for more words");
         }
     }
     tell(status == BLOBCRASH_EXPLORE_END && paths.runs == len + 1, "all runs");

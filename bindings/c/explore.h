@@ -175,7 +175,7 @@ static inline int blobcrash_next_path(struct blobcrash_paths *paths) {
         paths->has_ended = false;
     }
     if (paths->is_over) return BLOBCRASH_EXPLORE_END;
-    if (paths->room == 0) paths->room = 32;
+    if (paths->room == 0) paths->room = 24;
     if (!blobcrash_add_words(paths, paths->explorer.len + 2 * paths->room)) return BLOBCRASH_EXPLORE_NO_MEMORY;
     uint64_t *end = paths->words;
     for (const struct blobcrash_choice *choice = paths->choices; choice < paths->choices + paths->explorer.len; choice++) {
