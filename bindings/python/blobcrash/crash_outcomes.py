@@ -8,6 +8,7 @@ from typing import Any, Dict, Iterator, List, NamedTuple, Optional, Sequence, Tu
 from .crash_units import Row, rows_of
 from .file_contents import Draws, Lost, Part
 from .file_settings import kept_edits
+from .foreign_files import Refusal
 from .forked import Child
 from .grammar import MAX
 from .learned import Learned, Spans
@@ -48,11 +49,11 @@ class Forward:
             text = self.lines[self.line]
             tokens = text.split()
             self._keeps = kept_edits(tokens, self._keeps)
-            if self.is_files:
-                self.learned.see(tokens[0], self._truncated_by(tokens))
-            self._make(self._session, text)
+            inode = self._truncated_by(tokens) if self.is_files else None
+            reply = self._make(self._session, text)
+            self.learned.see(tokens[0], inode, isinstance(reply, Refusal))
             self.line += 1
-            if self.line < line and self.learned.wants_rows:
+            if self.is_files and self.line < line and self.learned.wants_rows:
                 self.learned.see_rows(self.crash([0] * _ROOM).rows)
 
     def _truncated_by(self, tokens: List[str]) -> Optional[int]:
@@ -88,9 +89,8 @@ class Forward:
         self._session.close()
 
     @staticmethod
-    def _make(session: Any, text: str) -> None:
-        if not text.startswith("#"):
-            session.call(text)
+    def _make(session: Any, text: str) -> Any:
+        return None if text.startswith("#") else session.call(text)
 
     @staticmethod
     def _crashed(session: Any, given: Sequence[int], spans: Spans) -> Tuple[Any, Content]:
@@ -122,10 +122,12 @@ class CrashOutcomes:
         self._known: Dict[Words, Words] = {}
         self._drawn: Tuple[_Drawn, ...] = ()
         self._rows: Tuple[Row, ...] = ()
-        # Of files, if each draw is of a whole write or an edit: which draws decide nothing, and the crashes that showed it.
+        # Of files, if each draw is of a whole write: which draws decide nothing, and the crashes that showed it.
         self._draws: Optional[Draws] = None
         self._spans: Spans = {}
         self._made: Dict[Words, Left] = {}
+        # A crash has left something else than what was expected.
+        self._is_refuted = False
         self.is_complete = True
 
     @property
@@ -137,9 +139,18 @@ class CrashOutcomes:
         kept = yield from self._new((), 0)
         self._run.learned.see_rows(self._rows)
         self._learn(kept)
+        yield from self._others(kept)
+        if self._is_refuted:
+            # What was taken for the same may not be: all draws are tried.
+            self._draws, self._is_refuted, self._known = None, False, {}
+            kept = yield from self._new((), 0)
+            yield from self._others(kept)
+
+    def _others(self, kept: Words) -> Iterator[Tuple[str, Content]]:
+        """Yields what the outcomes leave that don't keep all."""
         yield from self._extremes(kept)
-        along: Optional[Words] = self._next(self._known[()])
-        while along is not None:
+        along: Optional[Words] = None if self._is_refuted else self._next(self._known[()])
+        while along is not None and not self._is_refuted:
             taken = self._known.get(_stem(along))
             if taken is None:
                 if self._is_at_limit():
@@ -163,7 +174,7 @@ class CrashOutcomes:
         return "".join(f"{line}\n" for line in [*self._run.images, *given, *self._run.lines[: self._run.line], "crash"])
 
     def _learn(self, kept: Words) -> None:
-        """Finds out which draws of files decide nothing, if there are some and each is of a whole write or an edit."""
+        """Finds out which draws of files decide nothing, if there are some and each is of a whole write."""
         if not self._run.is_files or len(kept) != len(self._rows) or len(kept) < _MANY:
             return
         found = self._run.learned.outcomes(self._run, self._rows)
@@ -174,12 +185,12 @@ class CrashOutcomes:
         """Each single loss, all lost, and each single draw kept."""
         losses: Optional[List[Left]] = None if self._draws else []
         for at in range(len(kept)):
-            if self._is_at_limit():
+            if self._is_at_limit() or self._is_refuted:
                 return
             yield from self._new((0,) * at + (MAX,), 0, losses)
         self._drawn = self._drawn_by(losses or [])
         for path in [(), *((MAX,) * at + (0,) for at in range(len(kept)))]:
-            if self._is_at_limit():
+            if self._is_at_limit() or self._is_refuted:
                 return
             yield from self._new(path, MAX)
 
@@ -197,10 +208,8 @@ class CrashOutcomes:
             self._rows = left.rows
         if seen is not None:
             seen.append(left)
-        if self._draws is not None and not self._draws.agrees(left.taken, left.rows, left.parts):
-            # What was taken for the same may not be: all draws are tried.
-            self._draws = None
-        taken = self._first(left.taken)
+        self._is_refuted |= self._draws is not None and not self._draws.agrees(left.taken, left.rows, left.parts)
+        taken = left.taken if self._is_refuted else self._first(left.taken)
         if _stem(taken) not in self._known:
             self._known[_stem(taken)] = taken
             yield self.script(left.taken), left.content
@@ -228,7 +237,7 @@ class CrashOutcomes:
         return tuple(_Drawn(row.inode is None, draws[at], shorter[at]) for at, row in enumerate(self._rows) if draws[at] or _is_lost(row))
 
     def _idle(self, taken: Words) -> List[bool]:
-        """Of each draw whether it decides nothing: it is of an edit after a lost one, where a crash keeps edits up to some point."""
+        """Of each draw whether it decides nothing: it is of an edit after a lost one, if a crash keeps edits up to some point."""
         idle: List[bool] = []
         is_after = False
         for drawn in self._drawn:

@@ -32,8 +32,8 @@ def span_of(writes: Sequence[Write]) -> Tuple[int, int]:
 
 
 class Contents:
-    """The contents that a file may have. Outcomes with the same content are told by the first of them: kept comes before lost, and the first
-    write decides first."""
+    """The contents that a file may have. Of the outcomes with the same content one is the first: kept comes before lost, and the first write
+    decides first."""
 
     def __init__(self, writes: Sequence[Write], base: Part, found: Dict[Part, Tuple[Lost, int]]) -> None:
         self._writes, self._base, self._found = writes, base, found
@@ -86,23 +86,19 @@ def _written(part: Part, write: Write, start: int) -> Part:
 
 
 class Draws:
-    """The draws of a crash, one for each write of files and each edit, in their order. Some decide nothing: of outcomes that leave the same,
-    the first one stands for all."""
+    """The draws of a crash, one for each write of files, in their order. Some decide nothing: of the outcomes that leave the same, the first
+    one is tried."""
 
-    def __init__(self, inodes: List[Optional[int]], contents: Dict[int, Contents], is_prefix: bool) -> None:
-        self._contents, self._is_prefix = contents, is_prefix
-        # The file of each draw, or `None` for an edit.
-        self._inodes = inodes
+    def __init__(self, inodes: List[int], contents: Dict[int, Contents]) -> None:
+        # The file of each draw.
+        self._inodes, self._contents = inodes, contents
         self._places: Dict[int, List[int]] = {}
         for at, inode in enumerate(inodes):
-            if inode is not None:
-                self._places.setdefault(inode, []).append(at)
+            self._places.setdefault(inode, []).append(at)
 
     def first(self, lost: Lost) -> Lost:
-        """The first outcome that leaves what this one does. An edit after a lost one is lost with it, where they are kept in order."""
+        """The first outcome that leaves what this one does."""
         found = list(lost)
-        for at in self._after_lost(lost):
-            found[at] = 0
         for inode, contents in self._contents.items():
             for at, bit in zip(self._places[inode], contents.first(self._of(inode, lost))):
                 found[at] = bit
@@ -110,45 +106,31 @@ class Draws:
 
     def count(self, lost: Lost) -> int:
         """How many outcomes leave what this one does."""
-        count = 1 << len(self._after_lost(lost))
+        count = 1
         for inode, contents in self._contents.items():
             count *= contents.count(self._of(inode, lost))
         return count
 
     def next(self, lost: Lost) -> Optional[Lost]:
-        """The first outcome after a first one that leaves something else."""
+        """The first outcome after this first one that leaves something else."""
         for at in reversed(range(len(lost))):
-            if not lost[at] and self._allows((*lost[:at], 1)):
+            if not lost[at] and self._begins((*lost[:at], 1)):
                 found = (*lost[:at], 1)
                 while len(found) < len(lost):
-                    found = (*found, 0) if self._allows((*found, 0)) else (*found, 1)
+                    found = (*found, 0) if self._begins((*found, 0)) else (*found, 1)
                 return found
         return None
 
     def agrees(self, taken: Sequence[int], rows: Sequence[Row], parts: Mapping[int, Optional[Part]]) -> bool:
-        """Whether a crash that took these words kept and left what is expected. What a lost edit takes with it isn't compared."""
-        if len(taken) != len(self._inodes):
-            return False
+        """Whether a crash that took these words kept and left what is expected."""
         lost = tuple(int(word > 0) for word in taken)
-        edit = next((at for at, inode in enumerate(self._inodes) if inode is None and lost[at]), None)
-        for at, row in enumerate(rows):
-            if (row.inode is not None or edit is None or at <= edit) and row.kept.strip("10"[lost[at]]):
-                return False
-        return edit is not None or all(parts.get(inode) == contents.part(self._of(inode, lost)) for inode, contents in self._contents.items())
+        is_as_drawn = len(lost) == len(rows) and not any(row.kept.strip("10"[bit]) for row, bit in zip(rows, lost))
+        return is_as_drawn and all(parts.get(inode) == contents.part(self._of(inode, lost)) for inode, contents in self._contents.items())
 
     def _of(self, inode: int, lost: Lost) -> Lost:
         return tuple(lost[at] for at in self._places[inode] if at < len(lost))
 
-    def _after_lost(self, lost: Lost) -> List[int]:
-        """The draws of edits that decide nothing."""
-        edits = [at for at, inode in enumerate(self._inodes[: len(lost)]) if inode is None]
-        end = next((number for number, at in enumerate(edits, 1) if lost[at]), len(edits))
-        return edits[end:] if self._is_prefix else []
-
-    def _allows(self, lost: Lost) -> bool:
+    def _begins(self, lost: Lost) -> bool:
         """Whether a first outcome begins so, if one begins with all but the last."""
-        at = len(lost) - 1
-        inode = self._inodes[at]
-        if inode is None:
-            return not lost[at] or at not in self._after_lost(lost)
+        inode = self._inodes[len(lost) - 1]
         return inode not in self._contents or self._contents[inode].begins(self._of(inode, lost))

@@ -18,7 +18,7 @@ _TRUNCATES = frozenset(("truncate", "open_truncated", "open_inode_truncated"))
 
 
 class Outcomes(NamedTuple):
-    """The draws of a crash, the spans that tell what it left, and the crashes that were made, by their words."""
+    """The draws of a crash, the spans by which a crash is compared, and the crashes that were made, by their words."""
 
     draws: Draws
     spans: Spans
@@ -34,15 +34,14 @@ class Learned:
         # The last write before the truncations of each inode; `None` is one that isn't known.
         self._last: Dict[Optional[int], int] = {}
         self._truncated: Set[Optional[int]] = set()
-        self._may_lose_truncation = False
 
-    def see(self, word: str, inode: Optional[int]) -> None:
-        """Follows a call: its word, and the inode if it truncates one that is known."""
-        if word == "crash":
+    def see(self, word: str, inode: Optional[int], is_refused: bool) -> None:
+        """Follows a call: its word, the inode if it truncates one that is known, and whether it was refused."""
+        if word == "crash" or word == "write" and is_refused:
+            # Numbers begin again, or bytes of earlier writes are durable.
             self._data.clear()
         elif word in _TRUNCATES:
             self._truncated.add(inode)
-            self._may_lose_truncation = True
 
     @property
     def wants_rows(self) -> bool:
@@ -54,29 +53,30 @@ class Learned:
         last = max((row.write for row in rows), default=-1)
         self._last.update((inode, last) for inode in self._truncated)
         self._truncated.clear()
-        self._may_lose_truncation &= any(row.inode is None for row in rows)
 
     def outcomes(self, run: Any, rows: Sequence[Row]) -> Optional[Outcomes]:
-        """The outcomes of a crash here, of which each draw is for a row. `None` if nothing is known of them."""
+        """The outcomes of a crash here, of which each draw is for a row. `None` if nothing is known of them, as when an edit isn't settled: what
+        it leaves of a file depends on more than the file's bytes."""
         files: Dict[int, List[Row]] = {}
         for row in rows:
-            if row.inode is not None:
-                files.setdefault(row.inode, []).append(row)
+            if row.inode is None:
+                return None
+            files.setdefault(row.inode, []).append(row)
         known = {inode: own for inode, own in files.items() if self._is_known(inode, own)}
         spans = {inode: span_of([_write_of(row) for row in own]) for inode, own in known.items()}
         trials = _Trials(run, rows, spans)
         contents = self._contents(trials, known) if known else None
         if contents is None:
             return None
-        draws = Draws([row.inode for row in rows], contents, run.is_prefix)
+        draws = Draws([row.inode for row in rows if row.inode is not None], contents)
         found = Outcomes(draws, spans, trials.made)
         every = [trials.keep({row.write for row in rows}), *trials.made.values()]
         return found if all(draws.agrees(left.taken, left.rows, left.parts) for left in every) else None
 
     def _is_known(self, inode: int, rows: Sequence[Row]) -> bool:
-        """Whether the bytes of a file are those of its writes over what is there without them."""
+        """Whether the bytes of a file are those of its writes over what the file has without them."""
         last = max(self._last.get(inode, -1), self._last.get(None, -1))
-        return not self._may_lose_truncation and all(row.write > last for row in rows)
+        return all(row.write > last for row in rows)
 
     def _contents(self, trials: "_Trials", files: Dict[int, List[Row]]) -> Optional[Dict[int, Contents]]:
         """The contents of files. `None` if not all is known yet."""
@@ -99,7 +99,7 @@ class Learned:
 
 
 class _Trials:
-    """Crashes that lose no edit, and all writes but some."""
+    """Crashes that keep some writes."""
 
     def __init__(self, run: Any, rows: Sequence[Row], spans: Spans) -> None:
         self._run, self._rows, self.spans = run, rows, spans
@@ -107,7 +107,7 @@ class _Trials:
 
     def keep(self, writes: Set[int]) -> Any:
         """What a crash leaves that keeps these writes."""
-        words = tuple(0 if row.inode is None or row.write in writes else MAX for row in self._rows)
+        words = tuple(0 if row.write in writes else MAX for row in self._rows)
         if words not in self.made:
             self.made[words] = self._run.crash([*words, *[0] * _ROOM], self.spans)
         return self.made[words]
