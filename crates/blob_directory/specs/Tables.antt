@@ -26,10 +26,16 @@ bound table e = flat (cell table e)
 abbrev pub HasRoom : Table → List ℕ → Type 0
 HasRoom table e = is_some (cell table e) ≡ true
 
--- there is room for an edit
+-- there is room for a change that is made alone: one that frees an entry needs none
+abbrev pub HasRoomAlone : Table → List ℕ × Option Binding → Type 0
+HasRoomAlone table (e, None) = Unit {0}
+HasRoomAlone table (e, Some to) = HasRoom table e
+
+-- there is room for an edit of one change, or of two
 abbrev pub HasRoomFor : Table → Edit → Type 0
 HasRoomFor table [] = Unit {0}
-HasRoomFor table (c ∷ edit) = HasRoom table c.0 × HasRoomFor table edit
+HasRoomFor table (c ∷ []) = HasRoomAlone table c
+HasRoomFor table (c ∷ d ∷ more) = HasRoom table c.0 × HasRoom table d.0
 
 -- room isn't lost
 abbrev pub KeepsRoom : Table → Table → Type 0

@@ -193,7 +193,8 @@ pub fn truncation_of(alloc: Global, inode: u64) -> Result<Edit, AllocError>
 pub fn entry_of(alloc: Global, directory: u64, name: &[u8]) -> Result<Vec<u8>, AllocError>
     ensures { IfOk result (λ e. e.items ≡ entry directory name.now) }
 {
-    let mut entry = Vec::from_slice(alloc, &directory.to_be_bytes())?;
+    let mut entry = Vec::with_capacity(alloc, name.len().saturating_add(8))?;
+    entry.extend_from_slice(&directory.to_be_bytes())?;
     entry.extend_from_slice(name)?;
     Ok(entry)
 }

@@ -41,11 +41,24 @@ fn put_change(bytes: &mut Vec<u8>, change: &Change) -> Result<(), AllocError>
     bytes.extend_from_slice(&change.entry)
 }
 
+/// Returns how many bytes the changes of an edit take, or more.
+fn room_for(edit: &Edit) -> usize {
+    let second = match &edit.second {
+        None => 0,
+        Some(second) => second.entry.len(),
+    };
+    edit.first
+        .entry
+        .len()
+        .saturating_add(second)
+        .saturating_add(34)
+}
+
 /// Returns the bytes of an edit's changes. Fails only if memory runs out.
 pub(crate) fn edit_bytes(alloc: Global, edit: &Edit) -> Result<Vec<u8>, AllocError>
     ensures { IfOk result (λ bytes. bytes.items ≡ edit_bytes (edit_of edit.now)) }
 {
-    let mut bytes = Vec::new(alloc);
+    let mut bytes = Vec::with_capacity(alloc, room_for(edit))?;
     put_change(&mut bytes, &edit.first)?;
     if let Some(second) = &edit.second {
         put_change(&mut bytes, second)?;
@@ -63,7 +76,7 @@ pub fn encode(
     ensures { IfOk result (λ bytes. bytes.items ≡ record_bytes number (record_of (edit_of edit.now) is_settled)) }
 {
     let changes = edit_bytes(alloc, edit)?;
-    let mut bytes = Vec::new(alloc);
+    let mut bytes = Vec::with_capacity(alloc, changes.len().saturating_add(17))?;
     put_record(&mut bytes, number, &changes, is_settled)?;
     Ok(bytes)
 }

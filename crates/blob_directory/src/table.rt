@@ -2,7 +2,7 @@
 ghost use Rattle.std.specs.Prelude.{◌≡◌, ◌&&◌, is_none, is_some, None, Some, IfOk, OnOk, OnErr, false, true};
 ghost use Rattle.blob_directory.specs.Logs.{frees_any};
 ghost use Rattle.blob_directory.specs.Names.{Same, change_of, changed, edit_of, edited, entry};
-ghost use Rattle.blob_directory.specs.Tables.{HasAll, HasNoName, HasOnly, HasRoom, HasRoomFor, IsWithin, KeepsRoom, bound};
+ghost use Rattle.blob_directory.specs.Tables.{HasAll, HasNoName, HasOnly, HasRoom, HasRoomAlone, HasRoomFor, IsWithin, KeepsRoom, bound};
 
 use crate::edit::{Binding, Change, Edit, entry_of};
 use blob_names::order::Sought;
@@ -125,21 +125,32 @@ impl Table {
         }
     }
 
+    /// Makes room for a change that is made alone, and changes no binding. Fails only if memory runs out.
+    fn prepare_one(&mut self, change: &Change) -> Result<(), AllocError>
+        ensures same { Same (bound self.old) (bound self.new) }
+        ensures room { OnOk result (HasRoomAlone self.new (change_of change.now)) }
+    {
+        if change.to.is_none() {
+            return Ok(());
+        }
+        self.prepare_entry(&change.entry)
+    }
+
     /// Makes room for an edit, and changes no binding. Fails only if memory runs out.
     pub fn prepare(&mut self, edit: &Edit) -> Result<(), AllocError>
         ensures same { Same (bound self.old) (bound self.new) }
         ensures room { OnOk result (HasRoomFor self.new (edit_of edit.now)) }
     {
+        let Some(second) = &edit.second else {
+            return self.prepare_one(&edit.first);
+        };
         self.prepare_entry(&edit.first.entry)?;
-        match &edit.second {
-            None => Ok(()),
-            Some(second) => self.prepare_entry(&second.entry),
-        }
+        self.prepare_entry(&second.entry)
     }
 
-    /// Applies the change of an entry for which room was made.
+    /// Applies a change for which room was made.
     fn apply_one(&mut self, change: &Change)
-        ensures { HasRoom self.old change.now.entry.items → Same (bound self.new) (changed (bound self.old) (change_of change.now)) }
+        ensures { HasRoomAlone self.old (change_of change.now) → Same (bound self.new) (changed (bound self.old) (change_of change.now)) }
     {
         match change.to {
             None => self.free(&change.entry),
