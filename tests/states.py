@@ -430,6 +430,30 @@ def test_a_line_without_a_crash():
         assert command(path, "--", "true").stdout == "1 crashes, 1 outcomes, 1 states, all of them; 0 fail\n"
 
 
+def test_limits_of_states_and_of_seconds():
+    script = f"config {PREFIX.replace('prefix', 'subset')}\nopen p 61\nwrite 0 0 61\nwrite 0 1 62\n"
+    every = [state.content for state in CrashStates(script)]
+    for most in range(1, len(every) + 2):
+        states = CrashStates(script, most=most)
+        assert [state.content for state in states] == every[:most] and states.states == min(most, len(every)), most
+        # The last state is that of an outcome after which others leave the same.
+        assert states.complete == (most > len(every)), (most, str(states))
+    states = CrashStates(script, seconds=1e-9)
+    assert list(states) == [] and states.crashes == 1 and not states.complete, str(states)
+    states = CrashStates(script, seconds=3600)
+    assert len(list(states)) == len(every) and states.complete
+    with tempfile.TemporaryDirectory() as work:
+        path = os.path.join(work, "run.script")
+        with open(path, "w", encoding="utf-8") as file:
+            file.write(script)
+        ran = command("--states", "2", path, "--", "true")
+        assert ran.stdout.endswith("2 states, not all of them: a limit was reached; 0 fail\n"), ran.stdout
+        assert ran.stderr.endswith("states: not all crashes were tried. To go on: --since 3\n"), ran.stderr
+        assert command("--seconds", "3600", path, "--", "true").stdout.endswith(f"{len(every)} states, all of them; 0 fail\n")
+        for bad in ("--states", "--seconds"):
+            assert command(bad, "0", path, "--", "true").returncode == 2, bad
+
+
 def test_a_crash_in_the_record_keeps_what_it_kept():
     script = "words max 0 0 0\nconfig write 0 1 1 2 subset\nopen p 61\nwrite 0 0 6162\ncrash\nreopen\nopen p 61\nsync 1\n"
     states = list(CrashStates(script))

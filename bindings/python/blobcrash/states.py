@@ -14,6 +14,7 @@ from __future__ import annotations
 
 import os
 import subprocess
+import time
 from itertools import chain, islice
 from typing import Any, Dict, Iterator, List, NamedTuple, Optional, Set, Tuple
 
@@ -82,14 +83,15 @@ class CrashStates:
     """The states that crashes leave, each once: two of one content and one list of acknowledgements are the same.
 
     `script` is one of a store, or with `files` one of files. `at` is the only line after which there is a crash, `since` the first one, as to
-    go on after an interruption. `limit` is how many outcomes
-    are tried of each crash: first all kept, then each single loss, all lost, each single draw kept, then the others. With `whole` each
-    write is kept or lost as a whole. With `proved` the states of each crash are those that the program `blobcrash states` prints, of which it
-    is proved that none is missing. They come in its order: depth first.
+    go on after an interruption. `limit` is how many outcomes are tried of each crash: first all kept, then each single loss, all lost, each
+    single draw kept, then the others. `most` is how many states are found at most, and `seconds` how long they are looked for. With `whole`
+    each write is kept or lost as a whole. With `proved` the states of each crash are those that the program `blobcrash states` prints, of
+    which it is proved that none is missing. They come in its order: depth first.
 
     Iterating yields each `CrashState`. Meanwhile `crashes` counts the places of a crash, `outcomes` the outcomes of their draws that were
-    tried, or leave what one that was tried leaves, `states` the states, and `complete` is whether no limit was reached; `places` is how many places there are, and `line` is that of the last. Raises `BadLine` for a line that is no call, and `ValueError` for `proved` with
-    `files` or `limit`, and if there is no crash after the line `at`.
+    tried, or leave what one that was tried leaves, and `states` the states. `complete` is whether no limit was reached, `places` how many
+    places there are, and `line` the last one's. Raises `BadLine` for a line that is no call, and `ValueError` for `proved` with `files` or
+    `limit`, and if there is no crash after the line `at`.
     """
 
     def __init__(
@@ -102,6 +104,8 @@ class CrashStates:
         whole: bool = False,
         proved: bool = False,
         since: int = 0,
+        most: Optional[int] = None,
+        seconds: Optional[float] = None,
     ) -> None:
         if proved and (files or limit is not None):
             raise ValueError("the program finds the states of a store, and all of them")
@@ -111,6 +115,8 @@ class CrashStates:
         self._is_files = bool(files)
         self._lines = [_whole(line) for line in self._parts.rest] if whole else self._parts.rest
         self._at, self._limit, self._since = at, limit, since
+        self._most, self._seconds = most, seconds
+        self._began = 0.0
         # How many places of a crash there are, and the line of the present one.
         self.places, self.line = 0, since
         self.crashes = self.outcomes = self.states = 0
@@ -122,7 +128,7 @@ class CrashStates:
 
     def __iter__(self) -> Iterator[CrashState]:
         self.crashes = self.outcomes = self.states = 0
-        self.complete = True
+        self.complete, self._began = True, time.monotonic()
         words = self._recorded_words()
         seen: Set[Any] = set()
         places = self._places()
@@ -131,11 +137,15 @@ class CrashStates:
         try:
             for self.line in places:
                 line = self.line
+                if self.crashes and self._is_at_limit():
+                    return
                 self.crashes += 1
                 run.go_to(line)
                 acknowledged = tuple(text[len(_ACKNOWLEDGED) :] for text in self._lines[:line] if text.startswith(_ACKNOWLEDGED))
                 crash, before = CrashOutcomes(run, self._limit), self.outcomes
                 for script, content in self._printed(crash, line) if self._is_proved else iter(crash):
+                    if self._is_at_limit():
+                        break
                     self.outcomes += 1
                     if (content, acknowledged) not in seen:
                         seen.add((content, acknowledged))
@@ -146,6 +156,13 @@ class CrashStates:
                     self.complete = self.complete and crash.is_complete
         finally:
             run.close()
+
+    def _is_at_limit(self) -> bool:
+        """Whether no more may be tried, which is noted."""
+        is_late = self._seconds is not None and time.monotonic() - self._began >= self._seconds
+        is_over = is_late or (self._most is not None and self.states >= self._most)
+        self.complete = self.complete and not is_over
+        return is_over
 
     def crash_at_end(self) -> CrashOutcomes:
         """The outcomes of a crash after the last line."""

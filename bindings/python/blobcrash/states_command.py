@@ -9,6 +9,8 @@ once, CHECK is run: it exits with 0 if all is well. `docs/GUIDE.md` has an examp
   --from LINE    only crashes after this line and later ones. Of files without it: from the last `settle` on; --from 0 is all of them
   --since LINE   the same, to go on after an interruption
   --limit N      at most N outcomes of each crash: first none lost, each single loss, all lost, each single draw kept
+  --states N     at most N states
+  --seconds S    states are looked for S seconds at most
   --whole        each write is kept or lost as a whole
   --proved       the states are those that `blobcrash states` prints: of a store, and without --limit
   --jobs N       how many checks run at once (1)
@@ -130,13 +132,15 @@ def states_command(arguments: List[str]) -> int:
     own, command = arguments[:at], arguments[at + 1 :]
     for name in ("--files", "--whole", "--proved", "--json"):
         parser.add_argument(name, action="store_true", help=argparse.SUPPRESS)
-    for name, default in (("--at", None), ("--limit", None), ("--jobs", 1)):
+    for name, default in (("--at", None), ("--limit", None), ("--states", None), ("--jobs", 1)):
         parser.add_argument(name, type=int, default=default, help=argparse.SUPPRESS)
+    parser.add_argument("--seconds", type=float, help=argparse.SUPPRESS)
     parser.add_argument("--from", "--since", dest="since", type=int, help=argparse.SUPPRESS)
     parser.add_argument("--out", default=os.path.join("out", "states"), help=argparse.SUPPRESS)
     parser.add_argument("script", help=argparse.SUPPRESS)
     options = parser.parse_args(own)
-    if not command or options.jobs < 1 or (options.limit is not None and options.limit < 1):
+    given = [each for each in (options.jobs, options.limit, options.states) if each is not None]
+    if not command or min(given) < 1 or (options.seconds is not None and not options.seconds > 0):
         parser.error("wants a CHECK after --, and numbers from 1 on")
     if options.proved and (options.files or options.limit is not None):
         parser.error("--proved is of a store, and without --limit")
@@ -160,9 +164,9 @@ def first_place(script: str, options: argparse.Namespace) -> int:
 
 
 def _run(script: str, options: argparse.Namespace, command: List[str]) -> int:
-    of = {"files": options.files, "at": options.at, "limit": options.limit, "whole": options.whole, "proved": options.proved}
+    of = {name: getattr(options, name) for name in ("files", "at", "limit", "whole", "proved", "seconds")}
     since = first_place(script, options) if options.since is None else options.since
-    states, progress = CrashStates(script, since=since, **of), Progress("states")
+    states, progress = CrashStates(script, since=since, most=options.states, **of), Progress("states")
     with tempfile.TemporaryDirectory(dir=IN_MEMORY if os.path.isdir(IN_MEMORY) else None) as work:
         checks = _Checks(command, options, work, progress)
 
@@ -186,4 +190,6 @@ def _run(script: str, options: argparse.Namespace, command: List[str]) -> int:
         print(line_of_json({**counts, "fail": checks.failures}), end="")
     else:
         print(f"{states}; {checks.failures} fail")
+    if not states.complete and (options.states, options.seconds) != (None, None):
+        progress.tell(f"not all crashes were tried. To go on: --since {states.line}")
     return int(checks.failures > 0)
