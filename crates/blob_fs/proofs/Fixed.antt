@@ -153,6 +153,12 @@ changes_less spares less a b file file' within changes = record {
 pub changes_again : {R : Type 0} (spares : ℕ → Type 0) (a b : Journaled R) (x x' y y' : FileBlob) → x ≡ y → y' ≡ x' → ChangesOpen spares a x b x' → ChangesOpen spares a y b y'
 changes_again spares a b x x' y y' before after changes = subst (λ f. ChangesOpen spares a y b f) (sym after) (subst (λ f. ChangesOpen spares a f b x') before changes)
 
+-- a cut to a length that is no less, after calls that keep each open file
+pub changes_cut : {R : Type 0} (a b c : Journaled R) (length reached : ℕ) (x x' y y' : FileBlob) → length ≤ reached → KeepsOpen a b → x ≡ y → y' ≡ x' → ChangesOpen (λ at. at < reached) b x c x' → ChangesOpen (λ at. at < length) a y c y'
+changes_cut a b c length reached x x' y y' within still before after changes =
+    changes_again (λ at. at < length) a c x x' y y' before after
+    (changes_after (λ at. at < length) a b c x x' still (changes_less (λ at. at < reached) (λ at. at < length) b c x x' (λ at low. omega (arith, low, within)) changes))
+
 -- two calls on the same file
 pub changes_twice : {R : Type 0} (one two spares : ℕ → Type 0) (a b c : Journaled R) (x y z : FileBlob) → ((at : ℕ) → spares at → one at) → ((at : ℕ) → spares at → two at)
     → ChangesOpen one a x b y → ChangesOpen two b y c z → ChangesOpen spares a x c z

@@ -4,12 +4,15 @@ use Rattle.blob_directory.specs.declared.table.Table.{Table}
 use Rattle.blob_directory.specs.Names.{Edit, Same, edited}
 use Rattle.blob_directory.specs.Tables.{bound}
 use Rattle.blob_journal.specs.declared.journaled.Journaled.{Journaled}
+use Rattle.blob_journal.specs.Currents.{KeepsFiles}
 use Rattle.blob_journal.specs.Fixed.{KeepsOpen}
-use Rattle.blob_journal.specs.Keeping.{KeepsTable, KeepsTold as keeps_told, table_in, told_in}
+use Rattle.blob_journal.specs.declared.store.FileBlob.{FileBlob}
+use Rattle.blob_journal.specs.Journals.{store_of}
+use Rattle.blob_journal.specs.Unchanged.{KeepsNamesAndEdits, UsesFile}
 use Rattle.blob_fs.specs.declared.file_system.FileSystem.{FileSystem}
 use Rattle.blob_fs.specs.Calls.{Leaves, Makes}
 use Rattle.blob_fs.specs.Files.{KeepsNames, KeepsOptions, KeepsTold, MakesEdit, fresh_inode, journaled_of, names_of, told_of}
-use Rattle.blob_fs.specs.States.{KeepsFixedAndOptions, KeepsNamesAndTold, KeepsState, KeepsStateBut}
+use Rattle.blob_fs.specs.States.{KeepsFixedAndOptions, KeepsState, KeepsStateBut, KeepsStored}
 use Rattle.blob_fs.proofs.Fixed.{SameContents, contents_same, fixed_after, fixed_twice, still_same}
 use Rattle.blob_fs.proofs.Growing.{told_as}
 
@@ -27,23 +30,29 @@ keeps_twice {R} {a} {b} {c} one two = record {
   options = two.options ∙ one.options;
 }
 
+pub edits_self : {R : Type 0} (j : Journaled R) → KeepsNamesAndEdits j j
+edits_self j = record { names = refl; told = refl; unsettled = refl; log = refl }
+
+pub edits_twice : {R : Type 0} {a b c : Journaled R} → KeepsNamesAndEdits a b → KeepsNamesAndEdits b c → KeepsNamesAndEdits a c
+edits_twice one two = record { names = two.names ∙ one.names; told = two.told ∙ one.told; unsettled = two.unsettled ∙ one.unsettled; log = two.log ∙ one.log }
+
 -- the files have the same contents, and the store has changed no name, edit or open file
 pub keeps_changed : {R : Type 0} (a b : FileSystem R) → SameContents a.files b.files → fresh_inode b ≡ fresh_inode a → KeepsOptions a b
-    → KeepsTable (journaled_of a) (journaled_of b) → keeps_told (journaled_of a) (journaled_of b) → KeepsOpen (journaled_of a) (journaled_of b) → KeepsState a b
-keeps_changed a b contents number options names told still =
+    → KeepsNamesAndEdits (journaled_of a) (journaled_of b) → KeepsOpen (journaled_of a) (journaled_of b) → KeepsState a b
+keeps_changed a b contents number options keeps still =
     let more : fresh_inode a ≤ fresh_inode b = omega (arith, number) in
-    record { names = names; told = told; fixed = fixed_after a b more contents still; options = options }
+    record { names = keeps.names; told = keeps.told; fixed = fixed_after a b more contents still; options = options }
 
 -- so after a call that keeps all
 pub keeps_opened : {R : Type 0} {a b : FileSystem R} (c : FileSystem R) → KeepsState a b → c.files ≡ b.files → fresh_inode c ≡ fresh_inode b → KeepsOptions b c
-    → KeepsTable (journaled_of b) (journaled_of c) → keeps_told (journaled_of b) (journaled_of c) → KeepsOpen (journaled_of b) (journaled_of c) → KeepsState a c
-keeps_opened {R} {a} {b} c one files number options names told still =
-    keeps_twice one (keeps_changed b c (contents_same b.files c.files files) number options names told still)
+    → KeepsNamesAndEdits (journaled_of b) (journaled_of c) → KeepsOpen (journaled_of b) (journaled_of c) → KeepsState a c
+keeps_opened {R} {a} {b} c one files number options keeps still =
+    keeps_twice one (keeps_changed b c (contents_same b.files c.files files) number options keeps still)
 
 -- the store is the same
 pub keeps_contents : {R : Type 0} (a b : FileSystem R) → SameContents a.files b.files → fresh_inode b ≡ fresh_inode a → KeepsOptions a b → journaled_of b ≡ journaled_of a → KeepsState a b
 keeps_contents {R} a b contents number options store = keeps_changed a b contents number options
-    (ap (λ (j : Journaled R). table_in j) store) (ap (λ (j : Journaled R). told_in j) store) (still_same (journaled_of a) (journaled_of b) store)
+    (subst (λ (j : Journaled R). KeepsNamesAndEdits (journaled_of a) j) (sym store) (edits_self (journaled_of a))) (still_same (journaled_of a) (journaled_of b) store)
 
 pub keeps_as : {R : Type 0} {a b : FileSystem R} (c : FileSystem R) → KeepsState a b → c.files ≡ b.files → fresh_inode c ≡ fresh_inode b → KeepsOptions b c
     → journaled_of c ≡ journaled_of b → KeepsState a c
@@ -94,8 +103,28 @@ rest_after one two = rest_twice one (rest_of two)
 
 -- The store below.
 
-pub store_twice : {R : Type 0} {a b c : Journaled R} → KeepsNamesAndTold a b → KeepsNamesAndTold b c → KeepsNamesAndTold a c
-store_twice one two = record { names = two.names ∙ one.names; told = two.told ∙ one.told }
+pub stored_then : {R : Type 0} {a b c : Journaled R} → KeepsStored a b → KeepsStored b c → KeepsStored a c
+stored_then one two = record {
+  edits = edits_twice one.edits two.edits;
+  files = λ r. two.files (one.files r);
+  handles = λ inode file h. two.handles inode file (one.handles inode file h);
+}
+
+-- a call on a file
+pub stored_used : {R : Type 0} {file file' : FileBlob} {a b c : Journaled R} → KeepsStored a b → KeepsFiles (store_of b) (store_of c) → UsesFile file b file' c → KeepsStored a c
+stored_used one files two = stored_then one (record { edits = two.edits; files = files; handles = two.handles })
+
+pub uses_self : {R : Type 0} (file : FileBlob) (j : Journaled R) → UsesFile file j file j
+uses_self file j = record { edits = edits_self j; files = λ has r. r; given = λ h. h; handles = λ inode f h. h; ready = λ r. r }
+
+pub uses_twice : {R : Type 0} {f g h : FileBlob} {a b c : Journaled R} → UsesFile f a g b → UsesFile g b h c → UsesFile f a h c
+uses_twice one two = record {
+  edits = edits_twice one.edits two.edits;
+  files = λ has r. two.files (one.given has) (one.files has r);
+  given = λ has. two.given (one.given has);
+  handles = λ inode file h. two.handles inode file (one.handles inode file h);
+  ready = λ r. two.ready (one.ready r);
+}
 
 -- Edits.
 

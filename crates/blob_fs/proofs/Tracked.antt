@@ -29,7 +29,8 @@ use Rattle.blob_journal.specs.Moves.{Name, TellsAgain, binding_told}
 use Rattle.blob_journal.specs.Told.{names_kept}
 use Rattle.blob_fs.specs.declared.file_system.File as of_fs
 use Rattle.blob_fs.specs.Named.{AllNamed, links_in}
-use Rattle.blob_fs.specs.States.{KeepsNamesAndTold}
+use Rattle.blob_journal.specs.Unchanged.{KeepsNamesAndEdits, TellsEdit}
+use Rattle.blob_model.specs.Rates.{Rate}
 use Rattle.blob_fs.specs.Tracked.{AllPresent, IsTracked, freed_in, freed_of}
 use Rattle.blob_fs.proofs.Fixed.{Sets, sets_through, some_same}
 use Rattle.blob_fs.proofs.Naming.{all_freed, fewer, none_some, unnamed}
@@ -190,11 +191,11 @@ one_more laws told edit names names' m made each t = record {
   freed = λ i limit is. laws.freed limit told edit names i (freed_unnamed (edited names edit) m i limit each is) (t.freed i limit is);
 }
 
-pub tracked_made : {R T E : Type 0} (laws : AddsOne) (r : Result T E) (j j' : Journaled R) (edit : Edit) (m : BTreeMap ℕ of_fs.File) → OnOk r (Edits edit j j') → OnErr r (SameBindings j j')
-    → OnOk r (AddsTold edit j j') → OnErr r (KeepsTold j j') → ∥ AllNamed (edited (names_in j) edit) m ∥₁ → Tracked j m → Tracked j' m
-tracked_made laws (Ok x) j j' edit m made refused told untold named h = ∥∥₁_elim named ∥∥₁_prop (λ each. ∥∥₁_map h (λ t.
-    subst (λ (l : List Found). IsTracked l (names_in j') m) (sym told) (one_more laws (told_in j) edit (names_in j) (names_in j') m (λ e to is. made e ∙ is) each t)))
-tracked_made laws (Err e) j j' edit m made refused told untold named h = ∥∥₁_map h (λ t.
+pub tracked_made : {R T E : Type 0} (laws : AddsOne) (r : Result T E) (j j' : Journaled R) (edit : Edit) (rate : Rate) (m : BTreeMap ℕ of_fs.File) → OnOk r (Edits edit j j') → OnErr r (SameBindings j j')
+    → OnOk r (TellsEdit edit rate j j') → OnErr r (KeepsTold j j') → ∥ AllNamed (edited (names_in j) edit) m ∥₁ → Tracked j m → Tracked j' m
+tracked_made laws (Ok x) j j' edit rate m made refused tells untold named h = ∥∥₁_elim named ∥∥₁_prop (λ each. ∥∥₁_map h (λ t.
+    subst (λ (l : List Found). IsTracked l (names_in j') m) (sym tells.told) (one_more laws (told_in j) edit (names_in j) (names_in j') m (λ e to is. made e ∙ is) each t)))
+tracked_made laws (Err e) j j' edit rate m made refused tells untold named h = ∥∥₁_map h (λ t.
     subst (λ (l : List Found). IsTracked l (names_in j') m) (sym untold)
     (record { within = λ x to is. sym (refused x) ∙ t.within x to is; found = t.found; freed = t.freed }))
 
@@ -313,7 +314,7 @@ links_known law j m keeps tree told named h inode linked =
     t.found inode (law (rule_of keeps j.unsettled.items) told.chosen (told_in j) name.0 inode (told.finds.within name.0 (file inode) name.1).0))
 
 -- a journal that gives its names still does after a call that keeps both
-pub gives_told_after : {R : Type 0} {j j' : Journaled R} → KeepsNamesAndTold j j' → GivesTold j → GivesTold j'
+pub gives_told_after : {R : Type 0} {j j' : Journaled R} → KeepsNamesAndEdits j j' → GivesTold j → GivesTold j'
 gives_told_after kept h = record {
   settled = subst AreSettled (sym kept.told) h.settled;
   names = λ keeps chosen e. ap (λ (l : List Found). names_kept keeps chosen l e) kept.told ∙ h.names keeps chosen e ∙ sym (ap (λ (t : Table). bound t e) kept.names);

@@ -1,6 +1,5 @@
 -- The truncations of a file, as the code applies them.
-use Rattle.std.proofs.Common.{◌≡◌, ◌+◌, ◌-◌, ◌<◌, ◌≤◌, ◌&&◌, ◌||◌, ℕ, zero, suc, Bool, true, false, List, [], ◌∷◌, Vec, drop, ext_get_or, get_or, length, min, nat_eq, nat_le, take, if◌then◌else◌, refl, sym, ap, ap₂, ◌∙◌, arith}
-use Rattle.std.proofs.Common.{◌++◌, ⊎_elim}
+use Rattle.std.proofs.Common.{◌≡◌, ◌+◌, ◌-◌, ◌<◌, ◌≤◌, ◌&&◌, ◌||◌, ℕ, zero, suc, Bool, true, false, List, [], ◌∷◌, Vec, drop, ext_get_or, get_or, length, min, nat_eq, nat_le, take, if◌then◌else◌, refl, sym, ap, ap₂, ◌∙◌, arith, ◌++◌, ⊎_elim}
 use Rattle.std.proofs.lemmas.Bool.{and_left, cases_Bool, cond_both, false≢true, lt-leb}
 use Rattle.std.proofs.lemmas.List.{append-nil, nil_from_length, take_all}
 use Rattle.std.proofs.lemmas.List.Elements.{All-head, All-tail}

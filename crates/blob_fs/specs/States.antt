@@ -1,7 +1,10 @@
 -- What a call leaves as it was: names, recorded edits, fixed bytes and options.
 use Rattle.std.specs.Prelude.{ℕ}
 use Rattle.blob_journal.specs.declared.journaled.Journaled.{Journaled}
-use Rattle.blob_journal.specs.Keeping.{KeepsTable, KeepsTold as keeps_told}
+use Rattle.blob_journal.specs.Currents.{KeepsFiles}
+use Rattle.blob_journal.specs.Fixed.{KeepsHandles}
+use Rattle.blob_journal.specs.Journals.{store_of}
+use Rattle.blob_journal.specs.Unchanged.{KeepsNamesAndEdits}
 use Rattle.blob_fs.specs.declared.file_system.FileSystem.{FileSystem}
 use Rattle.blob_fs.specs.Files.{KeepsNames, KeepsOptions, KeepsTold}
 use Rattle.blob_fs.specs.Fixed.{KeepsFixed, KeepsFixedBut}
@@ -25,7 +28,8 @@ pub record KeepsFixedAndOptions {R : Type 0} (fs fs' : FileSystem R) : Type 0 wh
   pub fixed : KeepsFixed fs fs'
   pub options : KeepsOptions fs fs'
 
--- no name of the store has changed, and no edit is recorded or settled
-pub record KeepsNamesAndTold {R : Type 0} (j j' : Journaled R) : Type 0 where
-  pub names : KeepsTable j j'
-  pub told : keeps_told j j'
+-- no name of the store has changed, and no edit is recorded or settled; it still represents files, and each open file stays open
+pub record KeepsStored {R : Type 0} (j j' : Journaled R) : Type 0 where
+  pub edits : KeepsNamesAndEdits j j'
+  pub files : KeepsFiles (store_of j) (store_of j')
+  pub handles : KeepsHandles j j'

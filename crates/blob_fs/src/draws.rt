@@ -1,7 +1,9 @@
 //! Failures of writes and truncations that are drawn before anything is done.
 ghost use Rattle.std.specs.Prelude.{◌≡◌, ◌≤◌, IfOk, OnOk, false, true};
 ghost use Rattle.blob_fs.specs.declared.switches.FailedWrite.TheVariants.{ByMode};
+ghost use Rattle.blob_model.specs.Rates.{sample};
 ghost use Rattle.blob_fs.specs.Draws.{OnlyDraws};
+ghost use Rattle.blob_fs.specs.Files.{generator_of};
 ghost use Rattle.blob_fs.specs.Writes.{KeepsAsSet, failed_write_of};
 
 use crate::error::FsError;
@@ -14,7 +16,8 @@ use rand_core::Rng;
 impl<R: Rng + Drop> FileSystem<R> {
     /// Draws a rate once, and returns whether it is true. Nothing else changes.
     fn draws(&mut self, rate: Probability) -> bool
-        ensures { OnlyDraws self.old self.new }
+        ensures drawn { (result, R.stream (generator_of self.new)) ≡ sample rate (R.stream (generator_of self.old)) }
+        ensures only { OnlyDraws self.old self.new }
     {
         self.store.draw(rate)
     }

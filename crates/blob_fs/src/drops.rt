@@ -7,9 +7,9 @@ ghost use Rattle.blob_fs.specs.Named.{links_of};
 ghost use Rattle.blob_fs.specs.Noted.{ShowsSize};
 ghost use Rattle.blob_fs.specs.Open.{SameContent};
 ghost use Rattle.blob_fs.specs.Reads.{ReadsFrom};
-ghost use Rattle.blob_fs.specs.States.{KeepsNamesAndTold};
 ghost use Rattle.blob_fs.specs.Tracked.{freed_of};
 ghost use Rattle.blob_journal.specs.Fixed.{KeepsOpen};
+ghost use Rattle.blob_journal.specs.Unchanged.{KeepsNamesAndEdits};
 
 use crate::error::FsError;
 use crate::file_system::{File, FileSystem};
@@ -36,7 +36,7 @@ impl File {
         alloc: Global,
         store: &mut Journaled<R>,
     ) -> Result<Vec<u8>, Error>
-        ensures keeps { KeepsNamesAndTold store.old store.new }
+        ensures keeps { KeepsNamesAndEdits store.old store.new }
         ensures still { KeepsOpen store.old store.new }
     {
         let mut bytes = Vec::new(alloc);
@@ -54,7 +54,7 @@ impl File {
         buf: &mut [u8],
     ) -> Result<(), Error>
         ensures read { OnOk result (ReadsFrom store.old self.now offset (length buf.old) buf.new) }
-        ensures keeps { KeepsNamesAndTold store.old store.new }
+        ensures keeps { KeepsNamesAndEdits store.old store.new }
         ensures still { KeepsOpen store.old store.new }
     {
         let Some(shown) = &self.shown else {

@@ -11,15 +11,15 @@ ghost use Rattle.blob_fs.specs.Truncations.{lost_of};
 ghost use Rattle.blob_fs.specs.Fixed.{AllFixed, AreWhole, FixesFound, IsWhole};
 ghost use Rattle.blob_fs.specs.Open.{AllOpen, MayChange};
 ghost use Rattle.blob_fs.specs.Named.{AllNamed, CountsLinks};
-ghost use Rattle.blob_fs.specs.States.{KeepsNamesAndTold};
+ghost use Rattle.blob_fs.specs.States.{KeepsStored};
 ghost use Rattle.blob_fs.specs.Tracked.{AllPresent};
 ghost use Rattle.blob_fs.specs.Files.{FindsAgain, FindsNames, FindsTold, GivesNames, GivesTold, KeepsEdits, KeepsOptions, RepresentsFiles, fresh_inode, journaled_of, keeps_of, table_of};
 ghost use Rattle.blob_journal.specs.Blobs.{ChangesFile, SameFilesBut};
-ghost use Rattle.blob_journal.specs.Currents.{KeepsFiles};
-ghost use Rattle.blob_journal.specs.Errors.{FailsAtLimits, IsFaultless, IsReady, KeepsReady, TracksSize};
-ghost use Rattle.blob_journal.specs.Fixed.{KeepsHandles, KeepsOpenBut};
-ghost use Rattle.blob_journal.specs.Journals.{GivesNames as gives_names, KeepsFile, KeepsFilesOf, store_of};
+ghost use Rattle.blob_journal.specs.Errors.{FailsAtLimits, IsFaultless, IsReady, TracksSize};
+ghost use Rattle.blob_journal.specs.Fixed.{KeepsOpenBut};
+ghost use Rattle.blob_journal.specs.Journals.{GivesNames as gives_names, store_of};
 ghost use Rattle.blob_journal.specs.Settling.{FindsEdits};
+ghost use Rattle.blob_journal.specs.Unchanged.{KeepsNamesAndEdits, UsesFile};
 
 use crate::boxed_file::BoxedFile;
 use crate::error::FsError;
@@ -40,13 +40,10 @@ fn cut_to<R: Rng + Drop>(
     blob: &mut FileBlob,
     length: u64,
 ) -> Result<(), Error>
-    ensures keeps { KeepsNamesAndTold store.old store.new }
-    ensures files { KeepsFilesOf blob.old store.old store.new }
+    ensures uses { UsesFile blob.old store.old blob.new store.new }
     ensures cut { OnOk result (CutsTo length store.old blob.old store.new blob.new) }
     ensures others { OnOk result (ChangesFile store.old blob.old store.new) }
-    ensures handles { KeepsHandles store.old store.new }
     ensures still { OnOk result (MayChange store.old blob.old store.new blob.new) }
-    ensures ready { KeepsReady store.old blob.old store.new blob.new }
     ensures errors { IsReady store.old blob.old → FailsAtLimits (store_of store.new) result }
 {
     blobs::<R>();
@@ -61,14 +58,10 @@ fn rewrite<R: Rng + Drop>(
     blob: &mut FileBlob,
     bytes: &[u8],
 ) -> Result<(), Error>
-    ensures keeps { KeepsNamesAndTold store.old store.new }
-    ensures files { KeepsFilesOf blob.old store.old store.new }
-    ensures given { KeepsFile blob.old store.old blob.new store.new }
+    ensures uses { UsesFile blob.old store.old blob.new store.new }
     ensures rewritten { OnOk result (Rewrites bytes.now store.old blob.old store.new blob.new) }
     ensures others { OnOk result (ChangesOnly store.old blob.old store.new) }
-    ensures handles { KeepsHandles store.old store.new }
     ensures still { OnOk result (MayChange store.old blob.old store.new blob.new) }
-    ensures ready { KeepsReady store.old blob.old store.new blob.new }
     ensures errors { IsReady store.old blob.old → FailsAtLimits (store_of store.new) result }
 {
     blobs::<R>();
@@ -87,14 +80,10 @@ fn truncate_left<R: Rng + Drop>(
     kept: &Kept,
     loss: &Loss,
 ) -> Result<(), Error>
-    ensures keeps { KeepsNamesAndTold store.old store.new }
-    ensures files { KeepsFilesOf blob.old store.old store.new }
-    ensures given { KeepsFile blob.old store.old blob.new store.new }
+    ensures uses { UsesFile blob.old store.old blob.new store.new }
     ensures truncated { OnOk result (Truncates kept.now loss.now inode old.now store.old blob.old store.new blob.new) }
     ensures others { OnOk result (ChangesOnly store.old blob.old store.new) }
-    ensures handles { KeepsHandles store.old store.new }
     ensures still { OnOk result (MayChange store.old blob.old store.new blob.new) }
-    ensures ready { KeepsReady store.old blob.old store.new blob.new }
     ensures errors { IsReady store.old blob.old → FailsAtLimits (store_of store.new) result }
 {
     blobs::<R>();
@@ -117,13 +106,10 @@ fn cut_from<R: Rng + Drop>(
     live: &FileBlob,
     start: u64,
 ) -> Result<(), Error>
-    ensures keeps { KeepsNamesAndTold store.old store.new }
-    ensures files { KeepsFilesOf blob.old store.old store.new }
+    ensures uses { UsesFile blob.old store.old blob.new store.new }
     ensures cut { OnOk result (CutsFrom start live.now store.old blob.old store.new blob.new) }
     ensures others { OnOk result (ChangesOnly store.old blob.old store.new) }
-    ensures handles { KeepsHandles store.old store.new }
     ensures still { OnOk result (MayChange store.old blob.old store.new blob.new) }
-    ensures ready { KeepsReady store.old blob.old store.new blob.new }
     ensures errors { IsReady store.old blob.old → TracksSize live.now → FailsAtLimits (store_of store.new) result }
 {
     blobs::<R>();
@@ -147,13 +133,10 @@ fn cut<R: Rng + Drop>(
     old: &File,
     loss: &Loss,
 ) -> Result<(), Error>
-    ensures keeps { KeepsNamesAndTold store.old store.new }
-    ensures files { KeepsFilesOf blob.old store.old store.new }
+    ensures uses { UsesFile blob.old store.old blob.new store.new }
     ensures cut { OnOk result (CutsFile loss.now old.now store.old blob.old store.new blob.new) }
     ensures others { OnOk result (ChangesOnly store.old blob.old store.new) }
-    ensures handles { KeepsHandles store.old store.new }
     ensures still { OnOk result (MayChange store.old blob.old store.new blob.new) }
-    ensures ready { KeepsReady store.old blob.old store.new blob.new }
     ensures errors { IsReady store.old blob.old → TracksSize old.now.blob → FailsAtLimits (store_of store.new) result }
 {
     blobs::<R>();
@@ -174,11 +157,9 @@ fn open_cut<R: Rng + Drop>(
     loss: &Loss,
 ) -> Result<(FileBlob, u64), Error>
     requires known { is_some (get nat_cmp old.now inode) ≡ true }
-    ensures keeps { KeepsNamesAndTold store.old store.new }
-    ensures files { KeepsFiles (store_of store.old) (store_of store.new) }
+    ensures keeps { KeepsStored store.old store.new }
     ensures left { IfOk result (λ r. OpensLeft store.old inode old.now kept.now loss.now store.new r.0 r.1) }
     ensures others { OnOk result (SameFilesBut inode store.old store.new) }
-    ensures handles { KeepsHandles store.old store.new }
     ensures still { OnOk result (KeepsOpenBut inode store.old store.new) }
     ensures ready { IsFaultless store.old → IfOk result (λ r. IsReady store.new r.0) }
     ensures errors { IsFaultless store.old → TrackSizes old.now → FailsAtLimits (store_of store.new) result }
@@ -204,11 +185,9 @@ fn open_left<R: Rng + Drop>(
     loss: &Loss,
 ) -> Result<(FileBlob, u64), Error>
     requires known { is_some (get nat_cmp old.now inode) ≡ true }
-    ensures keeps { KeepsNamesAndTold store.old store.new }
-    ensures files { KeepsFiles (store_of store.old) (store_of store.new) }
+    ensures keeps { KeepsStored store.old store.new }
     ensures left { IfOk result (λ r. OpensLeft store.old inode old.now kept.now loss.now store.new r.0 r.1) }
     ensures others { OnOk result (SameFilesBut inode store.old store.new) }
-    ensures handles { KeepsHandles store.old store.new }
     ensures still { OnOk result (KeepsOpenBut inode store.old store.new) }
     ensures fixes { IfOk result (λ r. AllFixed store.new r.0) }
     ensures faultless { IsFaultless store.old → OnOk result (IsFaultless store.new) }
@@ -230,11 +209,9 @@ fn reopen<R: Rng + Drop>(
     loss: &Loss,
 ) -> Result<File, Error>
     requires known { is_some (get nat_cmp old.now inode) ≡ true }
-    ensures keeps { KeepsNamesAndTold store.old store.new }
-    ensures files { KeepsFiles (store_of store.old) (store_of store.new) }
+    ensures keeps { KeepsStored store.old store.new }
     ensures left { IfOk result (λ file. Reopens store.old inode old.now kept.now loss.now store.new file) }
     ensures others { OnOk result (SameFilesBut inode store.old store.new) }
-    ensures handles { KeepsHandles store.old store.new }
     ensures still { OnOk result (KeepsOpenBut inode store.old store.new) }
     ensures whole { IfOk result (IsWhole store.new) }
     ensures links { IfOk result (λ file. file.links ≡ links) }
@@ -273,13 +250,11 @@ fn reopen_all<R: Rng + Drop>(
     loss: &Loss,
 ) -> Result<BTreeMap<u64, BoxedFile>, FsError>
     requires known { (inode : ℕ) → has_link tree.now inode ≡ true → is_some (get nat_cmp old.now inode) ≡ true }
-    ensures keeps { KeepsNamesAndTold store.old store.new }
-    ensures files { KeepsFiles (store_of store.old) (store_of store.new) }
+    ensures keeps { KeepsStored store.old store.new }
     ensures left { IfOk result (λ files. ReopensAll store.old old.now tree.now kept.now loss.now store.new files) }
     ensures known { IfOk result (HasOnlyKnown old.now) }
     ensures linked { IfOk result (HasOnlyLinked tree.now) }
     ensures opened { IfOk result (AllOpen store.new) }
-    ensures handles { KeepsHandles store.old store.new }
     ensures whole { IfOk result (AreWhole store.new) }
     ensures counted { IfOk result (CountsLinks tree.now) }
     ensures present { IfOk result AllPresent }
@@ -297,7 +272,7 @@ fn reopen_all<R: Rng + Drop>(
 
 /// Removes the blob of a file. If memory runs out, it stays until the next crash.
 fn remove_blob<R: Rng + Drop>(store: &mut Journaled<R>, inode: u64)
-    ensures keeps { KeepsNamesAndTold store.old store.new }
+    ensures keeps { KeepsNamesAndEdits store.old store.new }
     ensures gives { gives_names store.old → gives_names store.new }
     ensures others { SameFilesBut inode store.old store.new }
     ensures still { KeepsOpenBut inode store.old store.new }
@@ -311,7 +286,7 @@ fn remove_unnamed<R: Rng + Drop>(
     old: &BTreeMap<u64, BoxedFile>,
     files: &BTreeMap<u64, BoxedFile>,
 )
-    ensures keeps { KeepsNamesAndTold store.old store.new }
+    ensures keeps { KeepsNamesAndEdits store.old store.new }
     ensures gives { gives_names store.old → gives_names store.new }
     ensures kept { KeepsBlobsOf files.now store.old store.new }
     ensures opened { AllOpen store.old files.now → AllOpen store.new files.now }

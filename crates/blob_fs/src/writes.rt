@@ -6,10 +6,9 @@ ghost use Rattle.blob_draws.specs.Faults.{retention};
 ghost use Rattle.blob_fs.specs.declared.switches.FailedWrite.TheVariants.{ByMode};
 ghost use Rattle.blob_fs.specs.Noted.{ResizesOpen};
 ghost use Rattle.blob_fs.specs.Reads.{AreZeros, Shows, write_some};
-ghost use Rattle.blob_fs.specs.States.{KeepsNamesAndTold};
 ghost use Rattle.blob_fs.specs.Writes.{leaves_zeros};
 ghost use Rattle.blob_journal.specs.Fixed.{ChangesOpen, IsBeside};
-ghost use Rattle.blob_journal.specs.Settling.{KeepsUnsettled};
+ghost use Rattle.blob_journal.specs.Unchanged.{KeepsNamesAndEdits};
 ghost use Rattle.blob_journal.specs.Writes.{RecordsWrite};
 
 use crate::base::copy_of;
@@ -88,8 +87,7 @@ fn put_zeros<R: Rng + Drop>(
     offset: u64,
     zeros: &[u8],
 ) -> Result<(), Error>
-    ensures keeps { KeepsNamesAndTold store.old store.new }
-    ensures unsettled { OnOk result (KeepsUnsettled store.old store.new) }
+    ensures keeps { KeepsNamesAndEdits store.old store.new }
     ensures none { length zeros.now ≡ 0 → (store.new ≡ store.old) × (blob.new ≡ blob.old) }
     ensures shows { OnOk result (Shows store.old blob.old (λ seen. write_some seen offset zeros.now) blob.new) }
     ensures still { ChangesOpen (IsBeside offset (length zeros.now)) store.old blob.old store.new blob.new }
@@ -110,7 +108,7 @@ pub(crate) fn write_grown<R: Rng + Drop>(
     bytes: (u64, &[u8]),
 ) -> Result<(), Error>
     requires { size_of blob.old.blob ≤ zeros.0 }
-    ensures keeps { KeepsNamesAndTold store.old store.new }
+    ensures keeps { KeepsNamesAndEdits store.old store.new }
     ensures recorded { OnOk result (how ≡ ByMode → length zeros.entry.1.now ≡ 0
         → RecordsWrite bytes.entry.0 bytes.entry.1.now store.old blob.old store.new blob.new) }
     ensures shows { OnOk result (how ≡ ByMode
@@ -128,8 +126,7 @@ pub(crate) fn cut_page<R: Rng + Drop>(
     length: u64,
     zeros: &[u8],
 ) -> Result<(), Error>
-    ensures keeps { KeepsNamesAndTold store.old store.new }
-    ensures unsettled { OnOk result (KeepsUnsettled store.old store.new) }
+    ensures keeps { KeepsNamesAndEdits store.old store.new }
     ensures sized { OnOk result (ResizesOpen length store.old blob.old blob.new) }
     ensures still { ChangesOpen (λ at. at < length) store.old blob.old store.new blob.new }
 {
@@ -164,7 +161,7 @@ pub(crate) fn write_blob<R: Rng + Drop>(
     offset: u64,
     bytes: &[u8],
 ) -> Result<(), Error>
-    ensures keeps { KeepsNamesAndTold store.old store.new }
+    ensures keeps { KeepsNamesAndEdits store.old store.new }
     ensures recorded { OnOk result (how ≡ ByMode → RecordsWrite offset bytes.now store.old blob.old store.new blob.new) }
     ensures shows { OnOk result (how ≡ ByMode → Shows store.old blob.old (λ seen. write_live seen offset bytes.now) blob.new) }
     ensures still { ChangesOpen (IsBeside offset (length bytes.now)) store.old blob.old store.new blob.new }
@@ -184,7 +181,7 @@ fn write_by_prefix<R: Rng + Drop>(
     offset: u64,
     bytes: &[u8],
 ) -> Result<(), Error>
-    ensures keeps { KeepsNamesAndTold store.old store.new }
+    ensures keeps { KeepsNamesAndEdits store.old store.new }
     ensures still { ChangesOpen (IsBeside offset (length bytes.now)) store.old blob.old store.new blob.new }
 {
     let Some(writes) = faults.write_rate else {

@@ -21,6 +21,8 @@ use Rattle.blob_journal.specs.declared.journaled.Journaled.{Journaled}
 use Rattle.blob_journal.specs.Fixed.{KeepsOpen}
 use Rattle.blob_journal.specs.Found.{IsKept, told_by}
 use Rattle.blob_journal.specs.Keeping.{AddsTold, KeepsTable, KeepsTold, names_in, told_in}
+use Rattle.blob_journal.specs.Unchanged.{KeepsNamesAndEdits, KeepsNames, TellsEdit}
+use Rattle.blob_model.specs.Rates.{Rate}
 use Rattle.blob_journal.specs.Moves.{AddsName, AddsNames, BindsMovedAt, HasName, Name, NewNameIsBound, TellsAgain, binding_told, view_name}
 use Rattle.blob_journal.specs.Records.{InRecords, is_listed}
 use Rattle.blob_journal.specs.Settling.{KeepsUnsettled, unsettled_of}
@@ -83,10 +85,10 @@ pub the_name : (o : Option (Vec ℕ Global × Binding)) (x : Vec ℕ Global × B
 the_name o x n e is = some_name (sym is ∙ ap (option_map view_name) e)
 
 -- by a result, an edit of a name is told, or none
-pub tells_by : {R T E : Type 0} (r : Result T E) (j j' : Journaled R) (edit : Edit) (n : Name) → edit ≡ (n.0, Some n.1) ∷ [] → names_in j n.0 ≡ Some n.1
-    → OnOk r (AddsTold edit j j') → OnErr r (KeepsTold j j') → TellsAgain j j'
-tells_by (Ok x) j j' edit n is seen told untold = tells_one j j' n seen (subst (λ (e : Edit). AddsTold e j j') is told)
-tells_by (Err e) j j' edit n is seen told untold = tells_none j j' untold
+pub tells_by : {R T E : Type 0} (r : Result T E) (j j' : Journaled R) (edit : Edit) (rate : Rate) (n : Name) → edit ≡ (n.0, Some n.1) ∷ [] → names_in j n.0 ≡ Some n.1
+    → OnOk r (TellsEdit edit rate j j') → OnErr r (KeepsNamesAndEdits j j') → TellsAgain j j'
+tells_by (Ok x) j j' edit rate n is seen tells keeps = tells_one j j' n seen (subst (λ (e : Edit). AddsTold e j j') is tells.told)
+tells_by (Err e) j j' edit rate n is seen tells keeps = tells_none j j' keeps.told
 
 -- by a result, the new name of this edit is added
 pub binds_at : {R T E : Type 0} (r : Result T E) (j j' : Journaled R) (index directory : ℕ) (edit : Unsettled) (name : Option (Vec ℕ Global × Binding)) → edit ≡ get_or (unsettled_of j) index edit
@@ -114,6 +116,9 @@ open_twice a b c x y = record {
   still = λ inode file is. y.still inode file (x.still inode file is);
   fixed = λ file at byte h. y.fixed file at byte (x.fixed file at byte h);
 }
+
+pub names_twice : {R : Type 0} (a b c : Journaled R) → KeepsNames a b → KeepsNames b c → KeepsNames a c
+names_twice a b c x y = record { table = y.table ∙ x.table; log = y.log ∙ x.log; still = open_twice a b c x.still y.still }
 
 -- The list, noted.
 

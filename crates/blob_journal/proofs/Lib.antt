@@ -20,3 +20,4 @@ pub mod Fixed
 pub mod Limits
 pub mod Numbers
 pub mod Ready
+pub mod Stores

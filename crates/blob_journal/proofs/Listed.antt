@@ -2,7 +2,7 @@
 use Rattle.std.proofs.Common.{◌≡◌, ℕ, zero, suc, ◌+◌, ◌-◌, ◌<◌, ◌≤◌, Bool, false, List, [], ◌∷◌, ◌++◌, length, get_or, drop, take, map, None, Some, refl, sym, ◌∙◌, ap, ap₂, arith, append_assoc, length-append}
 use Rattle.std.specs.Prelude.{filter, slice_get}
 use Rattle.std.proofs.lemmas.Bool.{cond_both}
-use Rattle.std.proofs.lemmas.List.{append-nil, drop_all, length_push, take_all}
+use Rattle.std.proofs.lemmas.List.{append-nil, drop_all, length-map, length_push, take_all}
 use Rattle.blob_packed.specs.Records.{Record, packed}
 use Rattle.blob_directory.specs.declared.unsettled.Unsettled.{Unsettled}
 use Rattle.blob_directory.specs.Names.{edit_of}
@@ -97,3 +97,9 @@ whole new old n same all =
     ap (λ (l : List Unsettled). take n (new ++ l)) (drop_all (length new) old (omega (arith, same)))
     ∙ ap (λ (l : List Unsettled). take n l) (append-nil new)
     ∙ take_all n new (omega (arith, same, all))
+
+-- the same with some of its edits marked
+pub whole_marked : (new old edits : List Unsettled) (n : ℕ) (wants : Unsettled → Bool) → new ≡ map (marked wants) old → old ≡ edits → n ≡ length edits → take n (new ++ drop (length new) edits) ≡ map (marked wants) edits
+whole_marked new old edits n wants is value all =
+    let same = is ∙ ap (map (marked wants)) value in
+    whole new edits n (ap (λ (l : List Unsettled). length l) same ∙ length-map edits (marked wants)) all ∙ same

@@ -27,7 +27,3 @@ pub record IsReady {R : Type 0} (j : Journaled R) (file : FileBlob) : Type 0 whe
 -- if it was so, it still is
 abbrev pub KeepsReady : {R : Type 0} → Journaled R → FileBlob → Journaled R → FileBlob → Type 0
 KeepsReady j file j' file' = IsReady j file → IsReady j' file'
-
--- so it is for each file
-abbrev pub KeepsAllReady : {R : Type 0} → Journaled R → Journaled R → Type 0
-KeepsAllReady j j' = (file : FileBlob) → KeepsReady j file j' file

@@ -11,7 +11,7 @@ use Rattle.blob_directory.specs.declared.unsettled.Unsettled.{Unsettled}
 use Rattle.blob_directory.specs.Names.{Edit}
 use Rattle.blob_directory.specs.Records.{Found, found_in, record_of}
 use Rattle.blob_journal.specs.declared.journal.Journal.{Journal}
-use Rattle.blob_journal.specs.Currents.{FindsOnly}
+use Rattle.blob_journal.specs.Currents.{FindsNoMoreBut, FindsOnly, SameDirectory}
 use Rattle.blob_journal.specs.Records.{AreListed, HasEdit, InRecords, settled_of}
 
 -- the bytes of a journal, as calls see them
@@ -29,6 +29,13 @@ pub record HasRecords {R : Type 0} (store : OverMemory R) (journal : Journal) (r
 -- it has the same records
 abbrev pub KeepsRecords : {R : Type 0} → OverMemory R → Journal → OverMemory R → Journal → Type 0
 KeepsRecords store journal store' journal' = (records : List Record) → HasRecords store journal records → HasRecords store' journal' records
+
+-- a call on the journal's blob: the blob, the generation and the store's directory are the same, and of no other blob more may be found
+pub record WritesJournal {R : Type 0} (store : OverMemory R) (journal : Journal) (store' : OverMemory R) (journal' : Journal) : Type 0 where
+  pub beside : FindsNoMoreBut (place (inside journal.blob)) store store'
+  pub directory : SameDirectory store store'
+  pub generation : journal'.generation ≡ journal.generation
+  pub place : place (inside journal'.blob) ≡ place (inside journal.blob)
 
 -- it has one more, of an edit that nothing settled
 abbrev pub AddsEdit : {R : Type 0} → Edit → OverMemory R → Journal → OverMemory R → Journal → Type 0

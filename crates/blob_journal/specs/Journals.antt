@@ -75,10 +75,6 @@ pub record GivesNames {R : Type 0} (j : Journaled R) : Type 0 where
 abbrev pub HasFile : {R : Type 0} → Journaled R → FileBlob → Type 0
 HasFile j file = IsGiven (store_of j) (place (inside file.blob))
 
--- each file that was still is
-abbrev pub KeepsGiven : {R : Type 0} → Journaled R → Journaled R → Type 0
-KeepsGiven j j' = (file : FileBlob) → HasFile j file → HasFile j' file
-
 -- after a call on a file
 abbrev pub KeepsFile : {R : Type 0} → FileBlob → Journaled R → FileBlob → Journaled R → Type 0
 KeepsFile file j file' j' = HasFile j file → HasFile j' file'

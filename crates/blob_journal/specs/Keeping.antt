@@ -57,7 +57,7 @@ AddsRecord edit j j' = (bytes_in j'.journal ≡ with_record j.journal edit) × (
 
 -- only the number up to which blobs of files were opened has changed
 abbrev pub NotesOpened : {R : Type 0} → Journaled R → Journaled R → Type 0
-NotesOpened j j' = (j'.store ≡ j.store) × (j'.journal ≡ j.journal) × (j'.names ≡ j.names) × (j'.unsettled ≡ j.unsettled)
+NotesOpened j j' = (j'.store ≡ j.store) × (j'.journal ≡ j.journal) × (j'.names ≡ j.names) × (j'.unsettled ≡ j.unsettled) × (j'.log ≡ j.log)
 
 -- the edits that the journal was told, in its records, each settled or not
 abbrev pub told_in : {R : Type 0} → Journaled R → List Found

@@ -14,4 +14,6 @@ pub mod Moves
 pub mod Writes
 pub mod Fixed
 pub mod Limits
+pub mod Stores
 pub mod Errors
+pub mod Unchanged

@@ -14,9 +14,8 @@ impl<R: Rng + Drop> Journaled<R> {
     ghost use Rattle.blob_header.specs.Refusals.{IsMemory};
     ghost use Rattle.blob_journal.specs.Fixed.{KeepsOpen};
     ghost use Rattle.blob_journal.specs.Journals.{CrashKeeps, GivesNames, store_of};
-    ghost use Rattle.blob_journal.specs.Keeping.{KeepsTable, KeepsTold};
-    ghost use Rattle.blob_journal.specs.Logs.{KeepsLog};
-    ghost use Rattle.blob_journal.specs.Settling.{CrashKeepsEdits, KeepsUnsettled};
+    ghost use Rattle.blob_journal.specs.Settling.{CrashKeepsEdits};
+    ghost use Rattle.blob_journal.specs.Unchanged.{KeepsNamesAndEdits};
 
     /// Crashes the store. The draws decide which unsynced bytes and which unsettled edits are kept. Handles keep their live
     /// bytes, and calls see the same names, until a recovery.
@@ -29,12 +28,9 @@ impl<R: Rng + Drop> Journaled<R> {
         ensures kept { IfOk result (λ rows. CrashKeeps self.old rows self.new) }
         ensures files { OnOk result (Represents (store_of self.new)) }
         ensures gives { OnOk result (GivesNames self.old → GivesNames self.new) }
-        ensures names { KeepsTable self.old self.new }
-        ensures told { KeepsTold self.old self.new }
+        ensures keeps { KeepsNamesAndEdits self.old self.new }
         ensures bytes { IfOk result (λ rows. (i : ℕ) → current_file self.new i ≡ crashed_file self.old rows i) }
         ensures edits { IfOk result (λ rows. CrashKeepsEdits self.old rows self.new) }
-        ensures unsettled { KeepsUnsettled self.old self.new }
-        ensures log { KeepsLog self.old self.new }
         ensures still { KeepsOpen self.old self.new }
         ensures errors { OnErr result (IsMemory result) }
     {

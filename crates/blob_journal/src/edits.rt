@@ -6,9 +6,8 @@ ghost use Rattle.blob_faulty.specs.Wrapper.{config_of, inside, next_write_of};
 ghost use Rattle.blob_directory.specs.Names.{Same, edit_of, resizes};
 ghost use Rattle.blob_directory.specs.Settled.{AreSettled};
 ghost use Rattle.blob_directory.specs.Syncs.{of_truncation};
-ghost use Rattle.blob_journal.specs.Currents.{FindsNoMoreBut, SameDirectory};
-ghost use Rattle.blob_journal.specs.Draws.{EndsWithEdit, RecordsEdit};
-ghost use Rattle.blob_journal.specs.Found.{IsKept};
+ghost use Rattle.blob_journal.specs.Draws.{EndsWithEdit};
+ghost use Rattle.blob_journal.specs.Found.{IsKept, WritesJournal};
 ghost use Rattle.blob_journal.specs.Keeping.{told_by};
 ghost use Rattle.blob_journal.specs.Settling.{Changes, all_settled};
 ghost use Rattle.blob_journal.specs.Told.{Grows, is_marked_in, settled_in};
@@ -35,15 +34,12 @@ fn settle_marked<R: Rng>(
     journal: &mut Journal,
     edits: &[Unsettled],
 ) -> Result<(), Error>
-    ensures place { place (inside journal.new.blob) ≡ place (inside journal.old.blob) }
-    ensures generation { journal.new.generation ≡ journal.old.generation }
+    ensures writes { WritesJournal store.old journal.old store.new journal.new }
     ensures records { journal.new.records ≡ journal.old.records }
-    ensures directory { SameDirectory store.old store.new }
     ensures settled { OnOk result (Changes store.old store.new (place (inside journal.old.blob)) (all_settled edits.now)) }
     ensures kept { IsKept store.old journal.old edits.now → IsKept store.new journal.new edits.now }
     ensures told { OnOk result (IsKept store.old journal.old edits.now → told_by journal.new ≡ settled_in (is_marked_in edits.now) 0 (told_by journal.old)) }
     ensures grows { IsKept store.old journal.old edits.now → Grows (told_by journal.old) (told_by journal.new) }
-    ensures beside { FindsNoMoreBut (place (inside journal.old.blob)) store.old store.new }
 {
     records();
     for edit in edits {
@@ -56,11 +52,11 @@ fn settle_marked<R: Rng>(
 
 impl<R: Rng + Drop> Journaled<R> {
     ghost use Rattle.blob_journal.specs.Fixed.{KeepsOpen};
-    ghost use Rattle.blob_journal.specs.Settling.{AddsUnsettled, KeepsJournal, KeepsUnsettled, NotesEdit, SettlesEdits, unsettled_of};
+    ghost use Rattle.blob_journal.specs.Settling.{AddsUnsettled, NotesEdit, SettlesEdits, unsettled_of};
     ghost use Rattle.blob_journal.specs.Journals.{store_of};
-    ghost use Rattle.blob_journal.specs.Logs.{Follows, KeepsLog, MarksLast, NotesSync, logged_in};
-    ghost use Rattle.blob_journal.specs.Writes.{SameCrashes};
-    ghost use Rattle.blob_journal.specs.Keeping.{AddsRecord, AddsTold, Edits, KeepsTable, KeepsTold, SameBindings, SettlesSome, generator_in, names_in, table_in, told_in, with_generator};
+    ghost use Rattle.blob_journal.specs.Logs.{Follows, MarksLast, NotesSync, logged_in};
+    ghost use Rattle.blob_journal.specs.Keeping.{Edits, KeepsTable, KeepsTold, SameBindings, SettlesSome, generator_in, names_in, table_in, told_in, with_generator};
+    ghost use Rattle.blob_journal.specs.Unchanged.{KeepsContents, KeepsNamesAndEdits, KeepsNames, TellsEdit};
 
     /// Returns no names over a new store, with faults drawn from the generator.
     ///
@@ -106,10 +102,7 @@ impl<R: Rng + Drop> Journaled<R> {
     pub fn replace_rng(&mut self, rng: R) -> R
         ensures before { result ≡ generator_in self.old }
         ensures set { self.new ≡ with_generator self.old rng }
-        ensures names { KeepsTable self.old self.new }
-        ensures told { KeepsTold self.old self.new }
-        ensures log { KeepsLog self.old self.new }
-        ensures still { KeepsOpen self.old self.new }
+        ensures contents { KeepsContents self.old self.new }
     {
         self.store.replace_rng(rng)
     }
@@ -118,11 +111,7 @@ impl<R: Rng + Drop> Journaled<R> {
     pub fn draw(&mut self, rate: Probability) -> bool
         ensures drawn { (result, R.stream (generator_in self.new)) ≡ sample rate (R.stream (generator_in self.old)) }
         ensures set { self.new ≡ with_generator self.old (generator_in self.new) }
-        ensures names { KeepsTable self.old self.new }
-        ensures journal { KeepsJournal self.old self.new }
-        ensures crashes { SameCrashes self.old self.new }
-        ensures log { KeepsLog self.old self.new }
-        ensures still { KeepsOpen self.old self.new }
+        ensures contents { KeepsContents self.old self.new }
     {
         self.store.draw(rate)
     }
@@ -130,11 +119,7 @@ impl<R: Rng + Drop> Journaled<R> {
     /// Replaces the fault rates of calls on files. What is pending keeps the mode and the rate of its issue.
     pub fn set_config(&mut self, config: Config)
         ensures set { config_of (store_of self.new) ≡ config }
-        ensures names { KeepsTable self.old self.new }
-        ensures journal { KeepsJournal self.old self.new }
-        ensures crashes { SameCrashes self.old self.new }
-        ensures log { KeepsLog self.old self.new }
-        ensures still { KeepsOpen self.old self.new }
+        ensures contents { KeepsContents self.old self.new }
     {
         self.store.set_config(config);
     }
@@ -199,15 +184,10 @@ impl<R: Rng + Drop> Journaled<R> {
     ) -> Result<u64, Error>
         ensures noted { IfOk result (λ number. AddsUnsettled (edit_of edit) about number self.old self.new) }
         ensures marked { OnOk result (MarksLast is_followed self.old self.new) }
-        ensures refused { OnErr result (KeepsUnsettled self.old self.new) }
-        ensures names { KeepsTable self.old self.new }
-        ensures record { OnOk result (AddsRecord (edit_of edit) self.old self.new) }
-        ensures logged { OnOk result (RecordsEdit (edit_of edit) rate self.old self.new) }
+        ensures tells { OnOk result (TellsEdit (edit_of edit) rate self.old self.new) }
         ensures ends { OnOk result (∥ EndsWithEdit (edit_of edit) rate self.new ∥₁) }
-        ensures told { OnOk result (AddsTold (edit_of edit) self.old self.new) }
-        ensures untold { OnErr result (KeepsTold self.old self.new) }
-        ensures log { KeepsLog self.old self.new }
-        ensures still { KeepsOpen self.old self.new }
+        ensures refused { OnErr result (KeepsNamesAndEdits self.old self.new) }
+        ensures names { KeepsNames self.old self.new }
     {
         directory::records();
         records();
@@ -244,10 +224,8 @@ impl<R: Rng + Drop> Journaled<R> {
     pub fn make(&mut self, edit: Edit, about: About, rate: Probability) -> Result<(), Error>
         ensures made { OnOk result (Edits (edit_of edit) self.old self.new) }
         ensures noted { OnOk result (NotesEdit (edit_of edit) about rate self.old self.new) }
-        ensures record { OnOk result (AddsRecord (edit_of edit) self.old self.new) }
-        ensures logged { OnOk result (RecordsEdit (edit_of edit) rate self.old self.new) }
+        ensures tells { OnOk result (TellsEdit (edit_of edit) rate self.old self.new) }
         ensures refused { OnErr result (SameBindings self.old self.new) }
-        ensures told { OnOk result (AddsTold (edit_of edit) self.old self.new) }
         ensures untold { OnErr result (KeepsTold self.old self.new) }
         ensures followed { OnOk result (Follows (edit_of edit) self.old self.new) }
         ensures log { OnErr result (Same (logged_in self.old) (logged_in self.new)) }
@@ -272,15 +250,10 @@ impl<R: Rng + Drop> Journaled<R> {
     /// Those of `make`. No edit was recorded.
     pub fn record_truncation(&mut self, inode: u64, rate: Probability) -> Result<u64, Error>
         ensures noted { IfOk result (λ n. AddsUnsettled (resizes inode) (of_truncation inode) n self.old self.new) }
-        ensures refused { OnErr result (KeepsUnsettled self.old self.new) }
-        ensures names { KeepsTable self.old self.new }
-        ensures record { OnOk result (AddsRecord (resizes inode) self.old self.new) }
-        ensures logged { OnOk result (RecordsEdit (resizes inode) rate self.old self.new) }
+        ensures tells { OnOk result (TellsEdit (resizes inode) rate self.old self.new) }
         ensures ends { OnOk result (∥ EndsWithEdit (resizes inode) rate self.new ∥₁) }
-        ensures told { OnOk result (AddsTold (resizes inode) self.old self.new) }
-        ensures untold { OnErr result (KeepsTold self.old self.new) }
-        ensures log { KeepsLog self.old self.new }
-        ensures still { KeepsOpen self.old self.new }
+        ensures refused { OnErr result (KeepsNamesAndEdits self.old self.new) }
+        ensures names { KeepsNames self.old self.new }
     {
         let edit = truncation_of(self.alloc, inode)?;
         self.add_edit(edit, About::of_truncation(inode), rate, false)

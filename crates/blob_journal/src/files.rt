@@ -32,12 +32,13 @@ pub(crate) fn number_of<R: Rng>(blob: &Handle) -> u64
 impl<R: Rng + Drop> Journaled<R> {
     ghost use Rattle.blob_journal.specs.Blobs.{ChangesFile, FixesFile, OpensFile, ReadsFile, ResizesFile, SameFiles, SameFilesBut, SyncsFile, WritesFile, bytes_of};
     ghost use Rattle.blob_journal.specs.Currents.{IsGiven, KeepsFiles};
-    ghost use Rattle.blob_journal.specs.Errors.{FailsAtLimits, IsFaultless, IsReady, KeepsAllReady, KeepsReady, TracksSize};
-    ghost use Rattle.blob_journal.specs.Fixed.{ChangesOpen, FixesOpen, IsBeside, KeepsHandles, KeepsOpen, KeepsOpenBut, ReopensFile};
-    ghost use Rattle.blob_journal.specs.Journals.{GivesNames, HasFile, KeepsFile, KeepsFilesOf, KeepsGiven, durable_file, store_of};
-    ghost use Rattle.blob_journal.specs.Keeping.{KeepsTable, KeepsTold, NotesOpened};
-    ghost use Rattle.blob_journal.specs.Settling.{KeepsJournal, KeepsUnsettled};
-    ghost use Rattle.blob_journal.specs.Writes.{RecordsWrite, SameCrashes};
+    ghost use Rattle.blob_journal.specs.Errors.{FailsAtLimits, IsFaultless, IsReady, TracksSize};
+    ghost use Rattle.blob_journal.specs.Fixed.{ChangesOpen, FixesOpen, IsBeside, KeepsOpen, KeepsOpenBut, ReopensFile};
+    ghost use Rattle.blob_journal.specs.Journals.{GivesNames, HasFile, durable_file, store_of};
+    ghost use Rattle.blob_journal.specs.Keeping.{NotesOpened};
+    ghost use Rattle.blob_journal.specs.Settling.{KeepsJournal};
+    ghost use Rattle.blob_journal.specs.Unchanged.{KeepsContents, KeepsNamesAndEdits, UsesEach, UsesFile};
+    ghost use Rattle.blob_journal.specs.Writes.{RecordsWrite};
 
     /// Opens the blob of a file's number. A missing one is created, empty.
     ///
@@ -46,8 +47,7 @@ impl<R: Rng + Drop> Journaled<R> {
     /// Those of the layer's open. If no fault rate is set: `Memory`, and `GenerationsExhausted` if the store has given all of its
     /// numbers.
     pub fn open_file(&mut self, inode: u64) -> Result<FileBlob, Error>
-        ensures names { KeepsTable self.old self.new }
-        ensures told { KeepsTold self.old self.new }
+        ensures keeps { KeepsNamesAndEdits self.old self.new }
         ensures files { KeepsFiles (store_of self.old) (store_of self.new) }
         ensures given { IfOk result (λ file. HasFile self.new file) }
         ensures opened { IfOk result (λ file. OpensFile self.old inode self.new file) }
@@ -56,7 +56,6 @@ impl<R: Rng + Drop> Journaled<R> {
         ensures reopened { IfOk result (λ file. ReopensFile self.old inode self.new file) }
         ensures ready { IsFaultless self.old → IfOk result (IsReady self.new) }
         ensures errors { IsFaultless self.old → FailsAtLimits (store_of self.new) result }
-        ensures unsettled { KeepsUnsettled self.old self.new }
     {
         let (blob, _) = open(&mut self.store, FILES, &inode.to_be_bytes())?;
         self.note(&blob);
@@ -69,8 +68,7 @@ impl<R: Rng + Drop> Journaled<R> {
     ///
     /// Those of the layer's open. Nothing is discarded.
     pub fn reopen_file(&mut self, inode: u64) -> Result<FileBlob, Error>
-        ensures names { KeepsTable self.old self.new }
-        ensures told { KeepsTold self.old self.new }
+        ensures keeps { KeepsNamesAndEdits self.old self.new }
         ensures still { KeepsOpen self.old self.new }
         ensures reopened { IfOk result (λ file. ReopensFile self.old inode self.new file) }
     {
@@ -112,8 +110,7 @@ impl<R: Rng + Drop> Journaled<R> {
     ///
     /// Those of the layer's removal. Nothing has changed.
     pub fn remove_file(&mut self, inode: u64) -> Result<(), Error>
-        ensures names { KeepsTable self.old self.new }
-        ensures told { KeepsTold self.old self.new }
+        ensures keeps { KeepsNamesAndEdits self.old self.new }
         ensures gives { GivesNames self.old → GivesNames self.new }
         ensures journal { KeepsJournal self.old self.new }
         ensures others { SameFilesBut inode self.old self.new }
@@ -129,14 +126,11 @@ impl<R: Rng + Drop> Journaled<R> {
     /// Those of the layer's read, and `Memory`. If no fault rate is set and its size is that of its bytes: `Memory`, and
     /// `OffsetOverflow` if the end of its blob has no number of 64 bits.
     pub fn read_whole(&mut self, file: &FileBlob) -> Result<Vec<u8>, Error>
-        ensures names { KeepsTable self.old self.new }
-        ensures told { KeepsTold self.old self.new }
         ensures files { KeepsFiles (store_of self.old) (store_of self.new) }
-        ensures given { KeepsGiven self.old self.new }
         ensures bytes { IfOk result (λ bytes. bytes.items ≡ bytes_of file.now) }
         ensures same { OnOk result (SameFiles self.old self.new) }
         ensures still { KeepsOpen self.old self.new }
-        ensures ready { KeepsAllReady self.old self.new }
+        ensures uses { UsesEach self.old self.new }
         ensures errors { IsFaultless self.old → TracksSize file.now → FailsAtLimits (store_of self.new) result }
     {
         let size = file.size();
@@ -163,12 +157,7 @@ impl<R: Rng + Drop> Journaled<R> {
     pub fn read_file(&mut self, file: &FileBlob, offset: u64, buf: &mut [u8]) -> Result<(), Error>
         ensures read { OnOk result (ReadsFile file.now offset (length buf.old) buf.new) }
         ensures refused { OnErr result (buf.new ≡ buf.old) }
-        ensures names { KeepsTable self.old self.new }
-        ensures told { KeepsTold self.old self.new }
-        ensures files { KeepsFiles (store_of self.old) (store_of self.new) }
-        ensures journal { KeepsJournal self.old self.new }
-        ensures crashes { SameCrashes self.old self.new }
-        ensures still { KeepsOpen self.old self.new }
+        ensures contents { KeepsContents self.old self.new }
     {
         leaves::same_bytes::<blob_memory::Storage, R>();
         file.blob.read_into(&mut self.store, offset, buf)
@@ -185,17 +174,11 @@ impl<R: Rng + Drop> Journaled<R> {
         offset: u64,
         bytes: &[u8],
     ) -> Result<(), Error>
-        ensures names { KeepsTable self.old self.new }
-        ensures told { KeepsTold self.old self.new }
-        ensures files { KeepsFilesOf file.old self.old self.new }
-        ensures given { KeepsFile file.old self.old file.new self.new }
+        ensures uses { UsesFile file.old self.old file.new self.new }
         ensures written { OnOk result (WritesFile offset bytes.now self.old file.old self.new file.new) }
         ensures same { OnOk result (SameFiles self.old self.new) }
-        ensures unsettled { KeepsUnsettled self.old self.new }
         ensures recorded { OnOk result (RecordsWrite offset bytes.now self.old file.old self.new file.new) }
         ensures still { ChangesOpen (IsBeside offset (length bytes.now)) self.old file.old self.new file.new }
-        ensures handles { KeepsHandles self.old self.new }
-        ensures ready { KeepsReady self.old file.old self.new file.new }
         ensures errors { IsReady self.old file.old → FailsAtLimits (store_of self.new) result }
     {
         self.check(file)?;
@@ -215,16 +198,10 @@ impl<R: Rng + Drop> Journaled<R> {
     ///
     /// `Closed` for a blob whose number this store hasn't given. Those of the layer's resize, which may leave a part of it.
     pub fn resize_file(&mut self, file: &mut FileBlob, length: u64) -> Result<(), Error>
-        ensures names { KeepsTable self.old self.new }
-        ensures told { KeepsTold self.old self.new }
-        ensures files { KeepsFilesOf file.old self.old self.new }
-        ensures given { KeepsFile file.old self.old file.new self.new }
-        ensures unsettled { KeepsUnsettled self.old self.new }
+        ensures uses { UsesFile file.old self.old file.new self.new }
         ensures resized { OnOk result (ResizesFile length self.old file.old self.new file.new) }
         ensures same { OnOk result (SameFiles self.old self.new) }
         ensures still { ChangesOpen (λ at. at < length) self.old file.old self.new file.new }
-        ensures handles { KeepsHandles self.old self.new }
-        ensures ready { KeepsReady self.old file.old self.new file.new }
         ensures errors { IsReady self.old file.old → FailsAtLimits (store_of self.new) result }
     {
         self.check(file)?;
@@ -240,18 +217,13 @@ impl<R: Rng + Drop> Journaled<R> {
     ///
     /// `Closed` for a blob whose number this store hasn't given. Those of the layer's sync. Nothing is durable that was not.
     pub fn sync_file(&mut self, file: &mut FileBlob) -> Result<(), Error>
-        ensures names { KeepsTable self.old self.new }
-        ensures told { KeepsTold self.old self.new }
-        ensures files { KeepsFiles (store_of self.old) (store_of self.new) }
         ensures journal { KeepsJournal self.old self.new }
-        ensures given { KeepsFile file.old self.old file.new self.new }
+        ensures uses { UsesFile file.old self.old file.new self.new }
         ensures synced { OnOk result (SyncsFile self.old file.old self.new file.new) }
         ensures others { OnOk result (ChangesFile self.old file.old self.new) }
         ensures fixed { OnOk result (FixesFile self.old file.old self.new) }
         ensures still { ChangesOpen (λ at. Unit) self.old file.old self.new file.new }
-        ensures handles { KeepsHandles self.old self.new }
         ensures fixes { OnOk result (FixesOpen self.old file.old self.new file.new) }
-        ensures ready { KeepsReady self.old file.old self.new file.new }
         ensures errors { IsReady self.old file.old → FailsAtLimits (store_of self.new) result }
     {
         self.check(file)?;

@@ -6,14 +6,15 @@ ghost use Rattle.blob_model.specs.Places.{Place};
 ghost use Rattle.blob_directory.specs.Names.{edit_of};
 ghost use Rattle.blob_memory.specs.Store.{directory, durable, place};
 ghost use Rattle.blob_faulty.specs.Wrapper.{inner_of, inside};
-ghost use Rattle.blob_journal.specs.Incarnations.{ChangesOnly, KeepsIncarnations, KeepsPartition};
-ghost use Rattle.blob_journal.specs.Currents.{BeginsAs, BeginsNext, FindsNoMore, FindsNoMoreBut, FixesBytes, IsGiven, KeepsCurrent, KeepsFiles, KeepsNext, SameDirectory, SamePending};
+ghost use Rattle.blob_journal.specs.Incarnations.{ChangesOnly, KeepsPartition};
+ghost use Rattle.blob_journal.specs.Currents.{BeginsAs, BeginsNext, FixesBytes, IsGiven, SamePending};
 ghost use Rattle.blob_draws.specs.Faults.{retention};
 ghost use Rattle.blob_journal.specs.Draws.{DrawsWhole, LogsEdit, kept_whole};
-ghost use Rattle.blob_journal.specs.Found.{AddsEdit, KeepsRecords, SettlesEdit};
+ghost use Rattle.blob_journal.specs.Found.{AddsEdit, KeepsRecords, SettlesEdit, WritesJournal};
 ghost use Rattle.blob_journal.specs.Keeping.{bytes_in, with_record};
-ghost use Rattle.blob_journal.specs.Limits.{DrawsNothing, FailsAtLimits, KeepsAccepted, OpensQuietly, SameFaults};
+ghost use Rattle.blob_journal.specs.Limits.{DrawsNothing, FailsAtLimits, OpensQuietly};
 ghost use Rattle.blob_journal.specs.Settling.{Changes, with_settled};
+ghost use Rattle.blob_journal.specs.Stores.{KeepsStore};
 
 use crate::store::{Handle, JOURNALS, Store, open, read_all};
 use blob_base::{Blob, Error, Probability, SectorSize, WriteOptions};
@@ -72,8 +73,7 @@ impl Journal {
         ensures current { IfOk result (λ r. is_current (directory (inner_of store.new)) (place (inside r.0.blob)) ≡ true) }
         ensures found { IfOk result (λ r. (o : Place) → current (directory (inner_of store.old)) (codes "j") (to_be_bytes w64 generation) ≡ Some o → durable (inner_of store.old) o ≡ Some r.1.items) }
         ensures durable { IfOk result (λ r. durable (inner_of store.new) (place (inside r.0.blob)) ≡ Some r.1.items) }
-        ensures kept { KeepsCurrent store.old store.new }
-        ensures files { KeepsFiles store.old store.new }
+        ensures keeps { KeepsStore store.old store.new }
         ensures pending { SamePending store.old store.new }
         ensures bytes { IfOk result (λ r. bytes_in r.0 ≡ r.1.items) }
         ensures records { IfOk result (λ r. r.0.records ≡ 0) }
@@ -81,12 +81,7 @@ impl Journal {
         ensures begun { IfOk result (λ r. (directory (inner_of store.old)).file (codes "j") (to_be_bytes w64 generation) ≡ None → r.1.items ≡ []) }
         ensures numbered { IfOk result (λ r. BeginsNext (codes "j") (to_be_bytes w64 generation) store.old (place (inside r.0.blob))) }
         ensures given { IfOk result (λ r. IsGiven store.new (place (inside r.0.blob))) }
-        ensures left { FindsNoMore store.old store.new }
-        ensures next { KeepsNext store.old store.new }
         ensures blobs { OnOk result (KeepsPartition (codes "f") store.old store.new) }
-        ensures incarnations { KeepsIncarnations store.old store.new }
-        ensures accepted { KeepsAccepted store.old store.new }
-        ensures faults { SameFaults store.old store.new }
         ensures errors { OpensQuietly store.old → FailsAtLimits store.new result }
     {
         let (blob, size) = open(store, JOURNALS, &generation.to_be_bytes())?;
@@ -112,9 +107,7 @@ impl Journal {
         edit: &Edit,
         rate: Probability,
     ) -> Result<(u64, u64), Error>
-        ensures place { place (inside self.new.blob) ≡ place (inside self.old.blob) }
-        ensures generation { self.new.generation ≡ self.old.generation }
-        ensures directory { SameDirectory store.old store.new }
+        ensures writes { WritesJournal store.old self.old store.new self.new }
         ensures bytes { OnOk result (bytes_in self.new ≡ with_record self.old (edit_of edit.now)) }
         ensures records { OnOk result (self.new.records ≡ self.old.records + 1) }
         ensures number { IfOk result (λ r. r.0 ≡ self.old.records) }
@@ -122,7 +115,6 @@ impl Journal {
         ensures refused { OnErr result (bytes_in self.new ≡ bytes_in self.old) }
         ensures left { OnOk result (AddsEdit (edit_of edit.now) store.old self.old store.new self.new) }
         ensures same { OnErr result (KeepsRecords store.old self.old store.new self.new) }
-        ensures beside { FindsNoMoreBut (place (inside self.old.blob)) store.old store.new }
         ensures logged { OnOk result (LogsEdit (edit_of edit.now) rate self.old store.old store.new) }
     {
         leaves::other_blobs::<blob_memory::Storage, R>();
@@ -154,14 +146,11 @@ impl Journal {
         store: &mut Store<R>,
         edit: &Unsettled,
     ) -> Result<(), Error>
-        ensures place { place (inside self.new.blob) ≡ place (inside self.old.blob) }
-        ensures generation { self.new.generation ≡ self.old.generation }
-        ensures directory { SameDirectory store.old store.new }
+        ensures writes { WritesJournal store.old self.old store.new self.new }
         ensures settled { OnOk result (Changes store.old store.new (place (inside self.old.blob)) (with_settled edit.now)) }
         ensures records { self.new.records ≡ self.old.records }
         ensures left { OnOk result (SettlesEdit edit.now store.old self.old store.new self.new) }
         ensures same { OnErr result (KeepsRecords store.old self.old store.new self.new) }
-        ensures beside { FindsNoMoreBut (place (inside self.old.blob)) store.old store.new }
     {
         leaves::other_blobs::<blob_memory::Storage, R>();
         writes::<blob_memory::Storage, R, blob_memory::Blob>();
@@ -183,15 +172,12 @@ impl Journal {
         bytes: &[u8],
         count: u64,
     ) -> Result<(), Error>
-        ensures place { place (inside self.new.blob) ≡ place (inside self.old.blob) }
-        ensures generation { self.new.generation ≡ self.old.generation }
-        ensures directory { SameDirectory store.old store.new }
+        ensures writes { WritesJournal store.old self.old store.new self.new }
         ensures bytes { OnOk result (BeginsAs (place (inside self.old.blob)) bytes.now store.old store.new) }
         ensures fixed { OnOk result (FixesBytes (place (inside self.old.blob)) bytes.now store.old store.new) }
         ensures live { OnOk result (bytes_in self.old ≡ [] → bytes_in self.new ≡ bytes.now) }
         ensures records { OnOk result (self.new.records ≡ count) }
         ensures end { OnOk result (self.new.end ≡ length bytes.now) }
-        ensures left { FindsNoMoreBut (place (inside self.old.blob)) store.old store.new }
         ensures only { OnOk result (ChangesOnly (place (inside self.old.blob)) store.old store.new) }
         ensures errors { DrawsNothing store.old → is_current (directory (inner_of store.old)) (place (inside self.old.blob)) ≡ true → FailsAtLimits store.new result }
     {

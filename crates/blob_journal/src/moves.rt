@@ -16,10 +16,8 @@ fn is_same(a: Binding, b: Binding) -> bool
 }
 
 impl<R: Rng + Drop> Journaled<R> {
-    ghost use Rattle.blob_journal.specs.Fixed.{KeepsOpen};
-    ghost use Rattle.blob_journal.specs.Keeping.{KeepsTable};
-    ghost use Rattle.blob_journal.specs.Logs.{KeepsLog};
     ghost use Rattle.blob_journal.specs.Moves.{AddsName, BindsMoved, BindsMovedAt, TellsAgain};
+    ghost use Rattle.blob_journal.specs.Unchanged.{KeepsNames};
 
     /// Records a name as an edit of its own, in a directory, if calls see it bound so.
     fn add_name(
@@ -29,11 +27,9 @@ impl<R: Rng + Drop> Journaled<R> {
         directory: u64,
         rate: Probability,
     ) -> Result<(), Error>
-        ensures names { KeepsTable self.old self.new }
+        ensures names { KeepsNames self.old self.new }
         ensures told { TellsAgain self.old self.new }
-        ensures log { KeepsLog self.old self.new }
         ensures added { OnOk result (AddsName (option_map view_name name) inode directory self.old self.new) }
-        ensures still { KeepsOpen self.old self.new }
     {
         let Some((entry, to)) = name else {
             return Ok(());
@@ -51,11 +47,9 @@ impl<R: Rng + Drop> Journaled<R> {
 
     /// Records the new name of one edit, as `bind_moved` does of each.
     fn bind_one(&mut self, at: usize, directory: u64, rate: Probability) -> Result<(), Error>
-        ensures names { KeepsTable self.old self.new }
+        ensures names { KeepsNames self.old self.new }
         ensures told { TellsAgain self.old self.new }
-        ensures log { KeepsLog self.old self.new }
         ensures bound { OnOk result (BindsMovedAt at directory self.old self.new) }
-        ensures still { KeepsOpen self.old self.new }
     {
         let Some(edit) = self.unsettled.get(at) else {
             return Ok(());
@@ -76,11 +70,9 @@ impl<R: Rng + Drop> Journaled<R> {
     ///
     /// Those of `make`. Some of these edits may be recorded.
     pub fn bind_moved(&mut self, directory: u64, rate: Probability) -> Result<(), Error>
-        ensures names { KeepsTable self.old self.new }
+        ensures names { KeepsNames self.old self.new }
         ensures told { TellsAgain self.old self.new }
-        ensures log { KeepsLog self.old self.new }
         ensures bound { OnOk result (BindsMoved directory self.old self.new) }
-        ensures still { KeepsOpen self.old self.new }
     {
         for at in 0..self.unsettled.len() {
             self.bind_one(at, directory, rate)?;

@@ -7,10 +7,11 @@ ghost use Rattle.blob_directory.specs.Names.{Same};
 ghost use Rattle.blob_directory.specs.Tables.{bound};
 ghost use Rattle.blob_directory.specs.Trees.{Finds, HasLinks, HasNamedLinks};
 ghost use Rattle.blob_faulty.specs.Wrapper.{inner_of, inside};
-ghost use Rattle.blob_journal.specs.Currents.{FindsNoMoreBeside, IsEmpty, IsGiven, KeepsFiles, KeepsNext, KeepsOthers, Represents};
+ghost use Rattle.blob_journal.specs.Currents.{IsEmpty, IsGiven, KeepsFiles, Represents};
 ghost use Rattle.blob_journal.specs.Found.{bytes_in};
 ghost use Rattle.blob_journal.specs.Incarnations.{KeepsIncarnationsOf, KeepsPartition};
-ghost use Rattle.blob_journal.specs.Limits.{FailsAtLimits, KeepsAccepted, OpensQuietly, SameFaults};
+ghost use Rattle.blob_journal.specs.Limits.{FailsAtLimits, OpensQuietly};
+ghost use Rattle.blob_journal.specs.Stores.{KeepsStoreBut};
 ghost use Rattle.blob_memory.specs.Store.{directory, place};
 
 use crate::files::number_of;
@@ -42,14 +43,9 @@ fn next_journal<R: Rng>(
     ensures live { IfOk result (λ j. bytes_in j ≡ []) }
     ensures numbered { IfOk result (λ j. (directory (inner_of store.old)).next ≤ (place (inside j.blob)).number) }
     ensures given { IfOk result (λ j. IsGiven store.new (place (inside j.blob))) }
-    ensures current { KeepsOthers (codes "j") (to_be_bytes w64 generation) store.old store.new }
-    ensures files { KeepsFiles store.old store.new }
-    ensures left { FindsNoMoreBeside (codes "j") (to_be_bytes w64 generation) store.old store.new }
-    ensures next { KeepsNext store.old store.new }
+    ensures keeps { KeepsStoreBut (codes "j") (to_be_bytes w64 generation) store.old store.new }
     ensures blobs { OnOk result (KeepsPartition (codes "f") store.old store.new) }
     ensures incarnations { KeepsIncarnationsOf (codes "f") store.old store.new }
-    ensures accepted { KeepsAccepted store.old store.new }
-    ensures faults { SameFaults store.old store.new }
     ensures errors { OpensQuietly store.old → FailsAtLimits store.new result }
 {
     leaves::same_bytes::<blob_memory::Storage, R>();
@@ -64,10 +60,11 @@ impl<R: Rng + Drop> Journaled<R> {
     ghost use Rattle.blob_journal.specs.Blobs.{SameFiles};
     ghost use Rattle.blob_journal.specs.Errors.{IsFaultless};
     ghost use Rattle.blob_journal.specs.Fixed.{KeepsOpen};
-    ghost use Rattle.blob_journal.specs.Logs.{KeepsLog, logged_in};
+    ghost use Rattle.blob_journal.specs.Logs.{logged_in};
     ghost use Rattle.blob_journal.specs.Journals.{FindsNames, GivesNames, store_of};
-    ghost use Rattle.blob_journal.specs.Settling.{FindsEdits, KeepsUnsettled, counted, unsettled_of};
-    ghost use Rattle.blob_journal.specs.Keeping.{FindsTold, GivesTold, KeepsTable, KeepsTold, SameBindings, names_in, table_in};
+    ghost use Rattle.blob_journal.specs.Settling.{FindsEdits, counted, unsettled_of};
+    ghost use Rattle.blob_journal.specs.Keeping.{FindsTold, GivesTold, KeepsTold, SameBindings, names_in, table_in};
+    ghost use Rattle.blob_journal.specs.Unchanged.{KeepsNamesAndEdits};
 
     /// Returns the names that the journal gives and the root reaches, and of each edit that nothing settled, in order, whether
     /// the journal has its record and it counts. Calls still see the names of before. From here on the store draws nothing.
@@ -79,18 +76,15 @@ impl<R: Rng + Drop> Journaled<R> {
         ensures found { IfOk result (λ r. FindsNames self.old keeps (bound r.0.names)) }
         ensures fits { IfOk result (λ r. FitsJournal r.0) }
         ensures again { IfOk result (λ r. GivesNames self.old → Finds (bound r.0.names) (names_in self.old)) }
-        ensures names { KeepsTable self.old self.new }
+        ensures keeps { KeepsNamesAndEdits self.old self.new }
         ensures files { KeepsFiles (store_of self.old) (store_of self.new) }
-        ensures told { KeepsTold self.old self.new }
         ensures kept { IfOk result (λ r. FindsTold self.old keeps (bound r.0.names)) }
         ensures links { IfOk result (λ r. HasLinks r.0) }
         ensures edits { IfOk result (λ r. FindsEdits self.old keeps r.1.items) }
-        ensures unsettled { KeepsUnsettled self.old self.new }
         ensures named { IfOk result (λ r. HasNamedLinks r.0) }
         ensures counts { IfOk result (λ r. CountsNames r.0) }
         ensures same { OnOk result (SameFiles self.old self.new) }
         ensures still { KeepsOpen self.old self.new }
-        ensures log { KeepsLog self.old self.new }
         ensures faultless { IsFaultless self.new }
         ensures errors { FailsAtLimits (store_of self.new) result }
     {
@@ -137,12 +131,10 @@ impl<R: Rng + Drop> Journaled<R> {
         ensures done { OnOk result (table_in self.new ≡ tree.names) }
         ensures gives { OnOk result (FitsJournal tree → Represents (store_of self.old) → GivesNames self.new) }
         ensures told { OnOk result (FitsJournal tree → GivesTold self.new) }
-        ensures refused { OnErr result (KeepsTable self.old self.new) }
-        ensures untold { OnErr result (KeepsTold self.old self.new) }
+        ensures refused { OnErr result (KeepsNamesAndEdits self.old self.new) }
         ensures same { OnOk result (SameFiles self.old self.new) }
         ensures still { KeepsOpen self.old self.new }
         ensures log { OnOk result (Same (logged_in self.new) (λ _. None)) }
-        ensures kept_log { OnErr result (KeepsLog self.old self.new) }
         ensures errors { IsFaultless self.old → FailsAtLimits (store_of self.new) result }
     {
         records();

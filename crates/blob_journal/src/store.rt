@@ -4,11 +4,12 @@ ghost use Rattle.blob_model.specs.Directory.{current, is_current};
 ghost use Rattle.blob_model.specs.Places.{Place};
 ghost use Rattle.blob_memory.specs.Store.{directory, durable, live, place};
 ghost use Rattle.blob_faulty.specs.Wrapper.{inner_of, inside, size_of};
-ghost use Rattle.blob_journal.specs.Incarnations.{IsIncarnation, KeepsIncarnations, KeepsOtherBlobs};
+ghost use Rattle.blob_journal.specs.Incarnations.{IsIncarnation, KeepsOtherBlobs};
 ghost use Rattle.blob_header.specs.PartitionName.{is_partition_name};
 ghost use Rattle.blob_header.specs.Refusals.{IsMemory, error_of, refusal_of};
-ghost use Rattle.blob_journal.specs.Limits.{DrawsNothing, FailsAtLimits, IsRemoval, KeepsAccepted, OpensQuietly, SameFaults, is_missing};
-ghost use Rattle.blob_journal.specs.Currents.{BeginsNext, FindsNoMore, FindsNoMoreBeside, HasNoBlob, IsGiven, KeepsBytes, KeepsCurrent, KeepsFiles, KeepsNext, KeepsOthers, KeepsPending, SamePending};
+ghost use Rattle.blob_journal.specs.Limits.{DrawsNothing, FailsAtLimits, IsRemoval, OpensQuietly, is_missing};
+ghost use Rattle.blob_journal.specs.Currents.{BeginsNext, HasNoBlob, IsGiven, KeepsBytes, KeepsPending, SamePending};
+ghost use Rattle.blob_journal.specs.Stores.{KeepsStore, KeepsStoreBut};
 
 use blob_base::laws::opens::{accepted_opens, numbers_are_given};
 use blob_base::{Blob, Error, Storage};
@@ -41,20 +42,14 @@ pub(crate) fn open<R: Rng>(
     ensures found { IfOk result (λ r. (o : Place) → current (directory (inner_of store.old)) partition.now name.now ≡ Some o → durable (inner_of store.old) o ≡ Some (live (inside r.0))) }
     ensures durable { IfOk result (λ r. durable (inner_of store.new) (place (inside r.0)) ≡ Some (live (inside r.0))) }
     ensures size { IfOk result (λ r. r.1 ≡ length (live (inside r.0))) }
-    ensures kept { KeepsCurrent store.old store.new }
+    ensures keeps { KeepsStore store.old store.new }
     ensures given { IfOk result (λ r. IsGiven store.new (place (inside r.0))) }
-    ensures files { KeepsFiles store.old store.new }
     ensures pending { SamePending store.old store.new }
     ensures begun { IfOk result (λ r. (directory (inner_of store.old)).file partition.now name.now ≡ None → live (inside r.0) ≡ []) }
     ensures numbered { IfOk result (λ r. BeginsNext partition.now name.now store.old (place (inside r.0))) }
-    ensures left { FindsNoMore store.old store.new }
-    ensures next { KeepsNext store.old store.new }
     ensures others { KeepsOtherBlobs partition.now name.now store.old store.new }
     ensures incarnation { IfOk result (λ r. IsIncarnation store.new partition.now name.now (place (inside r.0))) }
     ensures tracked { IfOk result (λ r. size_of r.0 ≡ length (live (inside r.0))) }
-    ensures incarnations { KeepsIncarnations store.old store.new }
-    ensures accepted { KeepsAccepted store.old store.new }
-    ensures faults { SameFaults store.old store.new }
     ensures errors { OpensQuietly store.old → is_partition_name partition.now ≡ true → FailsAtLimits store.new result }
 {
     accepted_opens();
@@ -73,15 +68,11 @@ pub(crate) fn reopen<R: Rng>(
     name: &[u8],
 ) -> Result<Handle, Error>
     ensures partition { IfOk result (λ blob. (place (inside blob)).partition ≡ partition.now) }
-    ensures kept { KeepsCurrent store.old store.new }
+    ensures keeps { KeepsStore store.old store.new }
     ensures given { IfOk result (λ blob. IsGiven store.new (place (inside blob))) }
-    ensures left { FindsNoMore store.old store.new }
-    ensures next { KeepsNext store.old store.new }
     ensures incarnation { IfOk result (λ blob. IsIncarnation store.new partition.now name.now (place (inside blob))) }
     ensures durable { IfOk result (λ blob. durable (inner_of store.new) (place (inside blob)) ≡ Some (live (inside blob))) }
     ensures tracked { IfOk result (λ blob. size_of blob ≡ length (live (inside blob))) }
-    ensures incarnations { KeepsIncarnations store.old store.new }
-    ensures accepted { KeepsAccepted store.old store.new }
 {
     leaves::same_bytes::<blob_memory::Storage, R>();
     let (blob, _) = open(store, partition, name)?;
@@ -97,15 +88,10 @@ pub(crate) fn remove<R: Rng>(
 ) -> Result<(), Error>
     ensures gone { OnOk result (HasNoBlob partition.now name.now store.new) }
     ensures missing { is_missing (error_of result) ≡ true → HasNoBlob partition.now name.now store.new }
-    ensures current { KeepsOthers partition.now name.now store.old store.new }
+    ensures keeps { KeepsStoreBut partition.now name.now store.old store.new }
     ensures bytes { KeepsBytes partition.now name.now store.old store.new }
     ensures pending { KeepsPending partition.now name.now store.old store.new }
-    ensures files { KeepsFiles store.old store.new }
-    ensures left { FindsNoMoreBeside partition.now name.now store.old store.new }
-    ensures next { KeepsNext store.old store.new }
     ensures others { KeepsOtherBlobs partition.now name.now store.old store.new }
-    ensures accepted { KeepsAccepted store.old store.new }
-    ensures faults { SameFaults store.old store.new }
     ensures errors { DrawsNothing store.old → is_partition_name partition.now ≡ true → IsRemoval (error_of result) }
 {
     leaves::same_bytes::<blob_memory::Storage, R>();
@@ -128,13 +114,8 @@ pub(crate) fn discard<R: Rng>(
     name: &[u8],
 ) -> Result<(), Error>
     ensures gone { OnOk result (HasNoBlob partition.now name.now store.new) }
-    ensures current { KeepsOthers partition.now name.now store.old store.new }
-    ensures files { KeepsFiles store.old store.new }
-    ensures left { FindsNoMoreBeside partition.now name.now store.old store.new }
-    ensures next { KeepsNext store.old store.new }
+    ensures keeps { KeepsStoreBut partition.now name.now store.old store.new }
     ensures others { KeepsOtherBlobs partition.now name.now store.old store.new }
-    ensures accepted { KeepsAccepted store.old store.new }
-    ensures faults { SameFaults store.old store.new }
     ensures errors { DrawsNothing store.old → is_partition_name partition.now ≡ true → OnErr result (IsMemory result) }
 {
     let Err(error) = remove(store, partition, name) else {
@@ -156,10 +137,8 @@ pub(crate) fn read_all<R: Rng>(
     ensures bytes { IfOk result (λ bytes. size ≡ length (live (inside blob.now)) → bytes.items ≡ live (inside blob.now)) }
     ensures read { IfOk result (λ bytes. bytes.items ≡ take size (live (inside blob.now))) }
     ensures inner { inner_of store.new ≡ inner_of store.old }
-    ensures files { KeepsFiles store.old store.new }
+    ensures keeps { KeepsStore store.old store.new }
     ensures pending { SamePending store.old store.new }
-    ensures left { FindsNoMore store.old store.new }
-    ensures faults { SameFaults store.old store.new }
     ensures errors { DrawsNothing store.old → size ≤ length (live (inside blob.now)) → FailsAtLimits store.new result }
 {
     leaves::same_bytes::<blob_memory::Storage, R>();

@@ -20,9 +20,6 @@ returns-then-not-loss-clause-cut g c = λ inode found h.
 pub returns-then-not-loss-clause-others : goal.returns-then-not-loss-clause-others
 returns-then-not-loss-clause-others g c = λ inode bytes below h other there apart. record { file = refl; durable = λ o x y. refl }
 
-pub returns-then-not-loss-clause-handles : goal.returns-then-not-loss-clause-handles
-returns-then-not-loss-clause-handles g c = λ inode file h. h
-
 pub returns-clause-cut : goal.returns-clause-cut
 returns-clause-cut g c = on_map c.cut_from.result c.cut_from.ensures.cut (λ cuts inode found h.
     let loss = c.args.loss.now in

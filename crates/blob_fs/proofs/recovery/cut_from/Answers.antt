@@ -1,16 +1,13 @@
-use Rattle.std.proofs.Common.{◌≡◌, ◌≤◌, ℕ, List, length, take, arith, subst, sym, ◌∙◌}
+use Rattle.std.proofs.Common.{◌≡◌, ◌≤◌, ℕ, List, length, take, arith, subst, sym, ◌∙◌, rules}
 use Rattle.blob_journal.specs.Blobs.{HasDurable, bytes_of}
 use Rattle.blob_fs.specs.Bytes.{kept_length}
 use Rattle.blob_fs.proofs.Cutting.{kept_is, on_map, uncut}
 use Rattle.blob_fs.proofs.Fixed.{changes_after, still_self, still_twice}
 use Rattle.blob_fs.proofs.Fixing.{may_keep}
-use Rattle.std.proofs.Common.{rules}
 use Rattle.blob_header.specs.Refusals.{error_of}
 use Rattle.blob_journal.specs.Limits.{IsLimit}
+use Rattle.blob_fs.proofs.States.{uses_twice}
 use Rattle.blob_fs.proofs.recovery.cut_from.Goals as goal
-
-pub returns-clause-files : goal.returns-clause-files
-returns-clause-files g c = λ h r. c.cut_to.ensures.files (c.in_ok-seen.ensures.given c.args.blob.now (c.in_ok-found.ensures.given c.args.blob.now h)) (c.in_ok-seen.ensures.files (c.in_ok-found.ensures.files r))
 
 pub returns-then-length-size-clause-cut : goal.returns-then-length-size-clause-cut
 returns-then-length-size-clause-cut g c = λ inode found h.
@@ -52,21 +49,6 @@ returns-clause-others g c = on_map c.cut_to.result c.cut_to.ensures.others (λ o
     (c.blobs.ensures.twice c.args.store.now c.read_whole.new.self c.read_whole-2.new.self other (c.in_ok-found.ensures.same other) (c.in_ok-seen.ensures.same other))
     (others inode bytes below two.is other there apart))
 
-pub returns-then-size-start-clause-handles : goal.returns-then-size-start-clause-handles
-returns-then-size-start-clause-handles g c = λ inode file h. h
-
-pub returns-in_err-found-clause-handles : goal.returns-in_err-found-clause-handles
-returns-in_err-found-clause-handles g c = c.read_whole.ensures.still.still
-
-pub returns-in_err-seen-clause-handles : goal.returns-in_err-seen-clause-handles
-returns-in_err-seen-clause-handles g c = λ inode file h. c.read_whole-2.ensures.still.still inode file (c.read_whole.ensures.still.still inode file h)
-
-pub returns-then-length-size-clause-handles : goal.returns-then-length-size-clause-handles
-returns-then-length-size-clause-handles g c = λ inode file h. c.read_whole-2.ensures.still.still inode file (c.read_whole.ensures.still.still inode file h)
-
-pub returns-clause-handles : goal.returns-clause-handles
-returns-clause-handles g c = λ inode file h. c.cut_to.ensures.handles inode file (c.read_whole-2.ensures.still.still inode file (c.read_whole.ensures.still.still inode file h))
-
 pub returns-then-size-start-clause-still : goal.returns-then-size-start-clause-still
 returns-then-size-start-clause-still g c = may_keep c.args.store.now c.args.store.now c.args.blob.now (still_self c.args.store.now)
 
@@ -87,19 +69,19 @@ returns-in_err-found-clause-errors g c = λ r live.
 pub returns-in_err-seen-clause-errors : goal.returns-in_err-seen-clause-errors
 returns-in_err-seen-clause-errors g c = λ r live.
     let said : error_of c.from_residual-in_err-seen.result ≡ error_of c.read_whole-2.result = search rules in
-    subst (IsLimit _) (sym said) (c.read_whole-2.ensures.errors (c.read_whole.ensures.ready c.args.blob.now r).faultless live)
+    subst (IsLimit _) (sym said) (c.read_whole-2.ensures.errors ((c.read_whole.ensures.uses c.args.blob.now).ready r).faultless live)
 
 pub returns-clause-errors : goal.returns-clause-errors
-returns-clause-errors g c = λ r live. c.cut_to.ensures.errors (c.read_whole-2.ensures.ready c.args.blob.now (c.read_whole.ensures.ready c.args.blob.now r))
+returns-clause-errors g c = λ r live. c.cut_to.ensures.errors ((c.read_whole-2.ensures.uses c.args.blob.now).ready ((c.read_whole.ensures.uses c.args.blob.now).ready r))
 
-pub returns-in_err-found-clause-ready : goal.returns-in_err-found-clause-ready
-returns-in_err-found-clause-ready g c = λ r. c.read_whole.ensures.ready c.args.blob.now r
+pub returns-in_err-found-clause-uses : goal.returns-in_err-found-clause-uses
+returns-in_err-found-clause-uses g c = c.read_whole.ensures.uses c.args.blob.now
 
-pub returns-in_err-seen-clause-ready : goal.returns-in_err-seen-clause-ready
-returns-in_err-seen-clause-ready g c = λ r. c.read_whole-2.ensures.ready c.args.blob.now (c.read_whole.ensures.ready c.args.blob.now r)
+pub returns-in_err-seen-clause-uses : goal.returns-in_err-seen-clause-uses
+returns-in_err-seen-clause-uses g c = uses_twice (c.read_whole.ensures.uses c.args.blob.now) (c.read_whole-2.ensures.uses c.args.blob.now)
 
-pub returns-then-length-size-clause-ready : goal.returns-then-length-size-clause-ready
-returns-then-length-size-clause-ready g c = λ r. c.read_whole-2.ensures.ready c.args.blob.now (c.read_whole.ensures.ready c.args.blob.now r)
+pub returns-then-length-size-clause-uses : goal.returns-then-length-size-clause-uses
+returns-then-length-size-clause-uses g c = uses_twice (c.read_whole.ensures.uses c.args.blob.now) (c.read_whole-2.ensures.uses c.args.blob.now)
 
-pub returns-clause-ready : goal.returns-clause-ready
-returns-clause-ready g c = λ r. c.cut_to.ensures.ready (c.read_whole-2.ensures.ready c.args.blob.now (c.read_whole.ensures.ready c.args.blob.now r))
+pub returns-clause-uses : goal.returns-clause-uses
+returns-clause-uses g c = uses_twice (uses_twice (c.read_whole.ensures.uses c.args.blob.now) (c.read_whole-2.ensures.uses c.args.blob.now)) c.cut_to.ensures.uses

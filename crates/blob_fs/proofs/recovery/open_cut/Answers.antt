@@ -5,23 +5,11 @@ use Rattle.blob_journal.specs.Blobs.{HasDurable}
 use Rattle.blob_fs.specs.declared.file_system.File.{File}
 use Rattle.blob_fs.specs.Bytes.{found_after, left_after}
 use Rattle.blob_fs.proofs.Fixing.{but_keeps, but_twice}
-use Rattle.std.proofs.Common.{rules}
 use Rattle.blob_header.specs.Refusals.{error_of}
-use Rattle.blob_journal.specs.Limits.{IsLimit}
+use Rattle.blob_journal.specs.Limits.{IsLimit, FailsAtLimits}
 use Rattle.std.specs.Prelude.{Err}
-use Rattle.blob_journal.specs.Limits.{FailsAtLimits}
+use Rattle.blob_fs.proofs.States.{stored_used}
 use Rattle.blob_fs.proofs.recovery.open_cut.Goals as goal
-
-pub returns-in_err-truncate_left-clause-files : goal.returns-in_err-truncate_left-clause-files
-returns-in_err-truncate_left-clause-files g c = λ r. c.truncate_left.ensures.files c.in_ok-blob.ensures.given (c.in_ok-blob.ensures.files r)
-
-pub returns-in_err-cut-clause-files : goal.returns-in_err-cut-clause-files
-returns-in_err-cut-clause-files g c = λ r.
-    c.cut.ensures.files (c.truncate_left.ensures.given c.in_ok-blob.ensures.given) (c.truncate_left.ensures.files c.in_ok-blob.ensures.given (c.in_ok-blob.ensures.files r))
-
-pub returns-clause-files : goal.returns-clause-files
-returns-clause-files g c = λ r.
-    c.cut.ensures.files (c.truncate_left.ensures.given c.in_ok-blob.ensures.given) (c.truncate_left.ensures.files c.in_ok-blob.ensures.given (c.in_ok-blob.ensures.files r))
 
 pub returns-clause-left : goal.returns-clause-left
 returns-clause-left g c =
@@ -52,18 +40,6 @@ returns-clause-others g c = λ other below apart.
     (c.in_ok-truncate_left.ensures.others inode o.bytes (omega arith) o.has other below apart))
     (c.in_ok-cut.ensures.others inode found (omega arith) truncated other below apart)
 
-pub returns-in_err-blob-clause-handles : goal.returns-in_err-blob-clause-handles
-returns-in_err-blob-clause-handles g c = c.open_file.ensures.still.still
-
-pub returns-in_err-truncate_left-clause-handles : goal.returns-in_err-truncate_left-clause-handles
-returns-in_err-truncate_left-clause-handles g c = λ inode file h. c.truncate_left.ensures.handles inode file (c.open_file.ensures.still.still inode file h)
-
-pub returns-in_err-cut-clause-handles : goal.returns-in_err-cut-clause-handles
-returns-in_err-cut-clause-handles g c = λ inode file h. c.cut.ensures.handles inode file (c.truncate_left.ensures.handles inode file (c.open_file.ensures.still.still inode file h))
-
-pub returns-clause-handles : goal.returns-clause-handles
-returns-clause-handles g c = λ inode file h. c.cut.ensures.handles inode file (c.truncate_left.ensures.handles inode file (c.open_file.ensures.still.still inode file h))
-
 pub returns-clause-still : goal.returns-clause-still
 returns-clause-still g c =
     let inode = c.args.inode in
@@ -88,7 +64,24 @@ returns-in_err-truncate_left-clause-errors g c = λ q sizes.
 pub returns-in_err-cut-clause-errors : goal.returns-in_err-cut-clause-errors
 returns-in_err-cut-clause-errors g c = λ q sizes.
     let said : error_of c.from_residual-in_err-cut.result ≡ error_of c.cut.result = search rules in
-    subst (IsLimit _) (sym said) (c.cut.ensures.errors (c.truncate_left.ensures.ready (c.in_ok-blob.ensures.ready q)) (sizes c.args.inode c.as_ref-was.result.now (omega arith) (sym (ap Some c.as_ref-was.ensures ∙ c.in-Some.ensures.value))))
+    subst (IsLimit _) (sym said) (c.cut.ensures.errors (c.truncate_left.ensures.uses.ready (c.in_ok-blob.ensures.ready q)) (sizes c.args.inode c.as_ref-was.result.now (omega arith) (sym (ap Some c.as_ref-was.ensures ∙ c.in-Some.ensures.value))))
 
 pub returns-clause-ready : goal.returns-clause-ready
-returns-clause-ready g c = λ q. c.cut.ensures.ready (c.truncate_left.ensures.ready (c.in_ok-blob.ensures.ready q))
+returns-clause-ready g c = λ q. c.cut.ensures.uses.ready (c.truncate_left.ensures.uses.ready (c.in_ok-blob.ensures.ready q))
+
+pub returns-in_err-blob-clause-keeps : goal.returns-in_err-blob-clause-keeps
+returns-in_err-blob-clause-keeps g c = record { edits = c.open_file.ensures.keeps; files = c.open_file.ensures.files; handles = c.open_file.ensures.still.still }
+
+pub returns-in_err-truncate_left-clause-keeps : goal.returns-in_err-truncate_left-clause-keeps
+returns-in_err-truncate_left-clause-keeps g c =
+    stored_used (record { edits = c.open_file.ensures.keeps; files = c.open_file.ensures.files; handles = c.open_file.ensures.still.still }) (c.truncate_left.ensures.uses.files c.in_ok-blob.ensures.given) c.truncate_left.ensures.uses
+
+pub returns-in_err-cut-clause-keeps : goal.returns-in_err-cut-clause-keeps
+returns-in_err-cut-clause-keeps g c =
+    stored_used (stored_used (record { edits = c.open_file.ensures.keeps; files = c.open_file.ensures.files; handles = c.open_file.ensures.still.still }) (c.truncate_left.ensures.uses.files c.in_ok-blob.ensures.given) c.truncate_left.ensures.uses)
+    (c.cut.ensures.uses.files (c.truncate_left.ensures.uses.given c.in_ok-blob.ensures.given)) c.cut.ensures.uses
+
+pub returns-clause-keeps : goal.returns-clause-keeps
+returns-clause-keeps g c =
+    stored_used (stored_used (record { edits = c.open_file.ensures.keeps; files = c.open_file.ensures.files; handles = c.open_file.ensures.still.still }) (c.truncate_left.ensures.uses.files c.in_ok-blob.ensures.given) c.truncate_left.ensures.uses)
+    (c.cut.ensures.uses.files (c.truncate_left.ensures.uses.given c.in_ok-blob.ensures.given)) c.cut.ensures.uses

@@ -1,17 +1,11 @@
-use Rattle.std.proofs.Common.{ℕ, List, arith, subst}
+use Rattle.std.proofs.Common.{ℕ, List, arith, subst, ◌≡◌, rules, sym}
 use Rattle.blob_journal.specs.Blobs.{HasDurable}
 use Rattle.blob_journal.specs.Fixed.{IsOpen}
 use Rattle.blob_fs.proofs.Fixing.{all_fixed, but_twice}
-use Rattle.std.proofs.Common.{◌≡◌, rules, sym}
 use Rattle.blob_header.specs.Refusals.{error_of}
 use Rattle.blob_journal.specs.Limits.{IsLimit}
+use Rattle.blob_fs.proofs.States.{stored_used}
 use Rattle.blob_fs.proofs.recovery.open_left.Goals as goal
-
-pub returns-in_err-sync_file-clause-files : goal.returns-in_err-sync_file-clause-files
-returns-in_err-sync_file-clause-files g c = λ r. c.sync_file.ensures.files (c.open_cut.ensures.files r)
-
-pub returns-clause-files : goal.returns-clause-files
-returns-clause-files g c = λ r. c.sync_file.ensures.files (c.open_cut.ensures.files r)
 
 pub returns-clause-left : goal.returns-clause-left
 returns-clause-left g c =
@@ -30,12 +24,6 @@ returns-clause-others g c = λ other below apart.
     let d = c.in_ok-blob.ensures.left in
     c.blobs.ensures.twice c.args.store.now c.open_cut.new.store c.sync_file.new.self other (c.in_ok-blob.ensures.others other below apart)
     (c.in_ok-sync_file.ensures.others c.args.inode _ (omega arith) d.has.is other below apart)
-
-pub returns-in_err-sync_file-clause-handles : goal.returns-in_err-sync_file-clause-handles
-returns-in_err-sync_file-clause-handles g c = λ inode file h. c.sync_file.ensures.handles inode file (c.open_cut.ensures.handles inode file h)
-
-pub returns-clause-handles : goal.returns-clause-handles
-returns-clause-handles g c = λ inode file h. c.sync_file.ensures.handles inode file (c.open_cut.ensures.handles inode file h)
 
 pub returns-clause-still : goal.returns-clause-still
 returns-clause-still g c =
@@ -60,4 +48,10 @@ returns-in_err-sync_file-clause-errors g c = λ q sizes.
     subst (IsLimit _) (sym said) (c.sync_file.ensures.errors (c.in_ok-blob.ensures.ready q))
 
 pub returns-clause-faultless : goal.returns-clause-faultless
-returns-clause-faultless g c = λ q. (c.sync_file.ensures.ready (c.in_ok-blob.ensures.ready q)).faultless
+returns-clause-faultless g c = λ q. (c.sync_file.ensures.uses.ready (c.in_ok-blob.ensures.ready q)).faultless
+
+pub returns-in_err-sync_file-clause-keeps : goal.returns-in_err-sync_file-clause-keeps
+returns-in_err-sync_file-clause-keeps g c = stored_used c.open_cut.ensures.keeps c.sync_file.ensures.journal.files c.sync_file.ensures.uses
+
+pub returns-clause-keeps : goal.returns-clause-keeps
+returns-clause-keeps g c = stored_used c.open_cut.ensures.keeps c.sync_file.ensures.journal.files c.sync_file.ensures.uses

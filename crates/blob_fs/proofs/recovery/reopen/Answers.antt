@@ -1,9 +1,8 @@
-use Rattle.std.proofs.Common.{ap, subst, sym, ◌∙◌}
+use Rattle.std.proofs.Common.{ap, subst, sym, ◌∙◌, ◌≡◌, rules}
 use Rattle.blob_faulty.specs.Wrapper.{size_of}
 use Rattle.blob_journal.specs.declared.store.FileBlob.{FileBlob}
 use Rattle.blob_fs.specs.Fixed.{AllFixed}
 use Rattle.blob_fs.proofs.Fixing.{is_whole}
-use Rattle.std.proofs.Common.{◌≡◌, rules}
 use Rattle.blob_header.specs.Refusals.{error_of}
 use Rattle.blob_journal.specs.Limits.{IsLimit}
 use Rattle.blob_fs.proofs.recovery.reopen.Goals as goal

@@ -1,16 +1,15 @@
-use Rattle.std.proofs.Common.{◌≡◌, ◌∷◌, ℕ, [], List, subst}
+use Rattle.std.proofs.Common.{◌≡◌, ◌∷◌, ℕ, [], List, subst, sym}
 use Rattle.std.specs.Map.Iter.{deref_pair}
 use Rattle.std.proofs.lemmas.Map.Iter.{rest_all, rest_more}
 use Rattle.blob_journal.specs.Fixed.{IsOpen}
 use Rattle.blob_fs.proofs.Counting.{CountsAllBut, counts_all, counts_more}
 use Rattle.blob_fs.proofs.Fixing.{open_more, whole_more}
-use Rattle.blob_fs.proofs.States.{store_twice}
+use Rattle.blob_fs.proofs.States.{stored_then}
 use Rattle.blob_fs.proofs.Tracked.{present_more}
 use Rattle.blob_fs.proofs.Recovering.{AreLinked, Ascend, Stands, ascend_rest, ends, known_more, linked_first, linked_rest, only_more, takes}
 use Rattle.std.specs.Prelude.{Err}
 use Rattle.blob_fs.specs.Errors.{StopsAtLimits}
 use Rattle.blob_fs.specs.declared.error.FsError.TheVariants.{Store}
-use Rattle.std.proofs.Common.{sym}
 use Rattle.blob_fs.proofs.Errors.{refused_store}
 use Rattle.blob_fs.proofs.recovery.reopen_all.Goals as goal
 
@@ -29,14 +28,12 @@ loop-inode-preserved g c =
     let file = c.in_ok-file.file in
     let own : IsOpen c.reopen.new.store k file.blob = laws.is_open c.reopen.new.store k file.blob _ c.in_ok-file.ensures.left.left.has in
     record {
-      keeps = store_twice i.keeps c.reopen.ensures.keeps;
-      files = λ r. c.reopen.ensures.files (i.files r);
+      keeps = stored_then i.keeps c.reopen.ensures.keeps;
       ascend = ascend_rest c.loop-inode.inode-iterator rest (k, links) is i.ascend;
       counted = linked_rest tree k links rest counted;
       left = takes j old tree c.args.kept.now c.args.loss.now laws.current laws.stays laws.twice k links rest c.loop-inode.store c.reopen.new.store c.loop-inode.files c.put.new.files c.in_ok-file.file
           (subst Ascend is i.ascend) c.in_ok-put.ensures.updated.0 c.in_ok-file.ensures.others c.in_ok-file.ensures.left
           (subst (λ (l : List (ℕ × ℕ)). Stands j old tree c.args.kept.now c.args.loss.now l c.loop-inode.store c.loop-inode.files) is i.left);
-      handles = λ inode file is. c.reopen.ensures.handles inode file (i.handles inode file is);
       linked = only_more tree c.loop-inode.files c.put.new.files k c.in_ok-file.file c.in_ok-put.ensures.updated (linked_first tree k links rest counted) i.linked;
       opened = open_more c.loop-inode.store c.reopen.new.store c.loop-inode.files c.put.new.files k file c.in_ok-put.ensures.updated.0 c.in_ok-file.ensures.still i.opened own;
       whole = whole_more c.loop-inode.store c.reopen.new.store c.loop-inode.files c.put.new.files k file c.in_ok-put.ensures.updated.0 c.in_ok-file.ensures.still i.opened i.whole c.in_ok-file.ensures.whole;
@@ -64,12 +61,6 @@ returns-clause-opened g c = c.loop-inode.invariant.opened
 pub returns-clause-whole : goal.returns-clause-whole
 returns-clause-whole g c = c.loop-inode.invariant.whole
 
-pub returns-in_err-file-clause-handles : goal.returns-in_err-file-clause-handles
-returns-in_err-file-clause-handles g c = λ inode file h. c.reopen.ensures.handles inode file (c.loop-inode.invariant.handles inode file h)
-
-pub returns-in_err-put-clause-handles : goal.returns-in_err-put-clause-handles
-returns-in_err-put-clause-handles g c = λ inode file h. c.reopen.ensures.handles inode file (c.loop-inode.invariant.handles inode file h)
-
 pub returns-clause-present : goal.returns-clause-present
 returns-clause-present g c = c.loop-inode.invariant.present
 
@@ -86,3 +77,9 @@ pub returns-in_err-file-clause-errors : goal.returns-in_err-file-clause-errors
 returns-in_err-file-clause-errors g c = λ q sizes.
     let said : c.from_residual.result ≡ Err (Store c.in_err-file.field-0.0) = refused_store c.from_residual.result c.in_err-file.field-0.0 c.from_residual.ensures.0 c.from_residual.ensures.1 in
     subst (StopsAtLimits c.reopen.new.store) (sym said) (c.in_err-file.ensures.errors (c.loop-inode.invariant.faultless q) sizes)
+
+pub returns-in_err-file-clause-keeps : goal.returns-in_err-file-clause-keeps
+returns-in_err-file-clause-keeps g c = stored_then c.loop-inode.invariant.keeps c.reopen.ensures.keeps
+
+pub returns-in_err-put-clause-keeps : goal.returns-in_err-put-clause-keeps
+returns-in_err-put-clause-keeps g c = stored_then c.loop-inode.invariant.keeps c.reopen.ensures.keeps

@@ -1,11 +1,8 @@
-use Rattle.blob_journal.specs.Currents.{KeepsFiles}
 use Rattle.blob_journal.specs.Errors.{IsFaultless}
-use Rattle.blob_journal.specs.Fixed.{KeepsHandles}
-use Rattle.blob_journal.specs.Journals.{store_of}
 use Rattle.blob_fs.specs.Bytes.{HasOnlyKnown, HasOnlyLinked}
 use Rattle.blob_fs.specs.Fixed.{AreWhole}
 use Rattle.blob_fs.specs.Open.{AllOpen}
-use Rattle.blob_fs.specs.States.{KeepsNamesAndTold}
+use Rattle.blob_fs.specs.States.{KeepsStored}
 use Rattle.blob_fs.specs.Tracked.{AllPresent}
 use Rattle.blob_fs.proofs.Counting.{CountsAllBut}
 use Rattle.blob_fs.proofs.Recovering.{AreLinked, Ascend, Stands}
@@ -13,12 +10,10 @@ use Rattle.blob_fs.proofs.recovery.reopen_all.Given as goal
 
 abbrev pub invariant-loop-inode : goal.invariant-loop-inode
 invariant-loop-inode g l = record {
-  keeps : KeepsNamesAndTold l.fn.store l.store;
-  files : KeepsFiles (store_of l.fn.store) (store_of l.store);
+  keeps : KeepsStored l.fn.store l.store;
   ascend : Ascend l.inode-iterator;
   counted : AreLinked l.tree l.inode-iterator;
   left : Stands l.fn.store l.old l.tree l.kept l.loss l.inode-iterator l.store l.files;
-  handles : KeepsHandles l.fn.store l.store;
   linked : HasOnlyLinked l.tree l.files;
   opened : AllOpen l.store l.files;
   whole : AreWhole l.store l.files;

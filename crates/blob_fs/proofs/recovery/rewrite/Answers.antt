@@ -1,23 +1,11 @@
-use Rattle.std.proofs.Common.{◌≡◌, List, ℕ, ap, length, subst, sym, ◌∙◌}
+use Rattle.std.proofs.Common.{◌≡◌, List, ℕ, ap, length, subst, sym, ◌∙◌, rules}
 use Rattle.blob_journal.specs.Blobs.{HasDurable, IsOpen, bytes_of}
 use Rattle.blob_fs.proofs.Truncating.{written_whole}
 use Rattle.blob_fs.proofs.Fixing.{may_twice}
-use Rattle.std.proofs.Common.{rules}
 use Rattle.blob_header.specs.Refusals.{error_of}
 use Rattle.blob_journal.specs.Limits.{IsLimit}
+use Rattle.blob_fs.proofs.States.{uses_twice}
 use Rattle.blob_fs.proofs.recovery.rewrite.Goals as goal
-
-pub returns-in_err-resize_file-clause-files : goal.returns-in_err-resize_file-clause-files
-returns-in_err-resize_file-clause-files g c = λ h r. c.resize_file.ensures.files h r
-
-pub returns-in_err-write_file-clause-files : goal.returns-in_err-write_file-clause-files
-returns-in_err-write_file-clause-files g c = λ h r. c.write_file.ensures.files (c.resize_file.ensures.given h) (c.resize_file.ensures.files h r)
-
-pub returns-in_err-sync_file-clause-files : goal.returns-in_err-sync_file-clause-files
-returns-in_err-sync_file-clause-files g c = λ h r. c.sync_file.ensures.files (c.write_file.ensures.files (c.resize_file.ensures.given h) (c.resize_file.ensures.files h r))
-
-pub returns-clause-files : goal.returns-clause-files
-returns-clause-files g c = λ h r. c.sync_file.ensures.files (c.write_file.ensures.files (c.resize_file.ensures.given h) (c.resize_file.ensures.files h r))
 
 pub returns-clause-rewritten : goal.returns-clause-rewritten
 returns-clause-rewritten g c = λ inode bytes h.
@@ -38,28 +26,10 @@ returns-clause-others g c = λ inode bytes below h other there apart.
     (c.blobs.ensures.twice c.args.store.now c.resize_file.new.self c.write_file.new.self other (c.in_ok-resize_file.ensures.same other) (c.in_ok-write_file.ensures.same other))
     (c.in_ok-sync_file.ensures.others inode bytes below w.0 other there apart)
 
-pub returns-in_err-write_file-clause-handles : goal.returns-in_err-write_file-clause-handles
-returns-in_err-write_file-clause-handles g c = λ inode file h. c.write_file.ensures.handles inode file (c.resize_file.ensures.handles inode file h)
-
-pub returns-in_err-sync_file-clause-handles : goal.returns-in_err-sync_file-clause-handles
-returns-in_err-sync_file-clause-handles g c = λ inode file h. c.sync_file.ensures.handles inode file (c.write_file.ensures.handles inode file (c.resize_file.ensures.handles inode file h))
-
-pub returns-clause-handles : goal.returns-clause-handles
-returns-clause-handles g c = λ inode file h. c.sync_file.ensures.handles inode file (c.write_file.ensures.handles inode file (c.resize_file.ensures.handles inode file h))
-
 pub returns-clause-still : goal.returns-clause-still
 returns-clause-still g c =
     let written = may_twice _ _ c.args.store.now c.resize_file.new.self c.write_file.new.self c.args.blob.now c.resize_file.new.file c.write_file.new.file c.resize_file.ensures.still c.write_file.ensures.still in
     may_twice _ _ c.args.store.now c.write_file.new.self c.sync_file.new.self c.args.blob.now c.write_file.new.file c.sync_file.new.file written c.sync_file.ensures.still
-
-pub returns-in_err-write_file-clause-ready : goal.returns-in_err-write_file-clause-ready
-returns-in_err-write_file-clause-ready g c = λ r. c.write_file.ensures.ready (c.resize_file.ensures.ready r)
-
-pub returns-in_err-sync_file-clause-ready : goal.returns-in_err-sync_file-clause-ready
-returns-in_err-sync_file-clause-ready g c = λ r. c.sync_file.ensures.ready (c.write_file.ensures.ready (c.resize_file.ensures.ready r))
-
-pub returns-clause-ready : goal.returns-clause-ready
-returns-clause-ready g c = λ r. c.sync_file.ensures.ready (c.write_file.ensures.ready (c.resize_file.ensures.ready r))
 
 pub returns-in_err-resize_file-clause-errors : goal.returns-in_err-resize_file-clause-errors
 returns-in_err-resize_file-clause-errors g c = λ r.
@@ -69,9 +39,18 @@ returns-in_err-resize_file-clause-errors g c = λ r.
 pub returns-in_err-write_file-clause-errors : goal.returns-in_err-write_file-clause-errors
 returns-in_err-write_file-clause-errors g c = λ r.
     let said : error_of c.from_residual-in_err-write_file.result ≡ error_of c.write_file.result = search rules in
-    subst (IsLimit _) (sym said) (c.write_file.ensures.errors (c.resize_file.ensures.ready r))
+    subst (IsLimit _) (sym said) (c.write_file.ensures.errors (c.resize_file.ensures.uses.ready r))
 
 pub returns-in_err-sync_file-clause-errors : goal.returns-in_err-sync_file-clause-errors
 returns-in_err-sync_file-clause-errors g c = λ r.
     let said : error_of c.from_residual-in_err-sync_file.result ≡ error_of c.sync_file.result = search rules in
-    subst (IsLimit _) (sym said) (c.sync_file.ensures.errors (c.write_file.ensures.ready (c.resize_file.ensures.ready r)))
+    subst (IsLimit _) (sym said) (c.sync_file.ensures.errors (c.write_file.ensures.uses.ready (c.resize_file.ensures.uses.ready r)))
+
+pub returns-in_err-write_file-clause-uses : goal.returns-in_err-write_file-clause-uses
+returns-in_err-write_file-clause-uses g c = uses_twice c.resize_file.ensures.uses c.write_file.ensures.uses
+
+pub returns-in_err-sync_file-clause-uses : goal.returns-in_err-sync_file-clause-uses
+returns-in_err-sync_file-clause-uses g c = uses_twice (uses_twice c.resize_file.ensures.uses c.write_file.ensures.uses) c.sync_file.ensures.uses
+
+pub returns-clause-uses : goal.returns-clause-uses
+returns-clause-uses g c = uses_twice (uses_twice c.resize_file.ensures.uses c.write_file.ensures.uses) c.sync_file.ensures.uses

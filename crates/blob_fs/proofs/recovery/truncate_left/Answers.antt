@@ -1,41 +1,14 @@
-use Rattle.std.proofs.Common.{◌≡◌, List, ℕ, ap₂, subst, sym, ◌∙◌}
+use Rattle.std.proofs.Common.{◌≡◌, List, ℕ, ap₂, subst, sym, ◌∙◌, rules}
 use Rattle.blob_journal.specs.Blobs.{HasDurable}
 use Rattle.blob_fs.specs.declared.truncation.Truncation.{Truncation}
 use Rattle.blob_fs.specs.Truncations.{truncated}
 use Rattle.blob_fs.proofs.Cutting.{on_map}
 use Rattle.blob_fs.proofs.Fixed.{changes_after, still_self}
 use Rattle.blob_fs.proofs.Fixing.{may_keep}
-use Rattle.std.proofs.Common.{rules}
 use Rattle.blob_header.specs.Refusals.{error_of}
 use Rattle.blob_journal.specs.Limits.{IsLimit}
+use Rattle.blob_fs.proofs.States.{uses_twice}
 use Rattle.blob_fs.proofs.recovery.truncate_left.Goals as goal
-
-pub returns-in_err-found-clause-given : goal.returns-in_err-found-clause-given
-returns-in_err-found-clause-given g c = λ h. c.read_whole.ensures.given c.args.blob.now h
-
-pub returns-in_err-bytes-clause-given : goal.returns-in_err-bytes-clause-given
-returns-in_err-bytes-clause-given g c = λ h. c.read_whole.ensures.given c.args.blob.now h
-
-pub returns-then-are_same-clause-given : goal.returns-then-are_same-clause-given
-returns-then-are_same-clause-given g c = λ h. c.read_whole.ensures.given c.args.blob.now h
-
-pub returns-clause-given : goal.returns-clause-given
-returns-clause-given g c = λ h. c.rewrite.ensures.given (c.read_whole.ensures.given c.args.blob.now h)
-
-pub returns-in_err-found-clause-handles : goal.returns-in_err-found-clause-handles
-returns-in_err-found-clause-handles g c = c.read_whole.ensures.still.still
-
-pub returns-in_err-bytes-clause-handles : goal.returns-in_err-bytes-clause-handles
-returns-in_err-bytes-clause-handles g c = c.read_whole.ensures.still.still
-
-pub returns-then-are_same-clause-handles : goal.returns-then-are_same-clause-handles
-returns-then-are_same-clause-handles g c = c.read_whole.ensures.still.still
-
-pub returns-clause-handles : goal.returns-clause-handles
-returns-clause-handles g c = λ inode file h. c.rewrite.ensures.handles inode file (c.read_whole.ensures.still.still inode file h)
-
-pub returns-clause-files : goal.returns-clause-files
-returns-clause-files g c = λ h r. c.rewrite.ensures.files (c.read_whole.ensures.given c.args.blob.now h) (c.read_whole.ensures.files r)
 
 pub returns-then-are_same-clause-truncated : goal.returns-then-are_same-clause-truncated
 returns-then-are_same-clause-truncated g c = λ bytes h.
@@ -88,16 +61,16 @@ returns-in_err-found-clause-errors g c = λ r.
     subst (IsLimit _) (sym said) (c.read_whole.ensures.errors r.faultless r.is.tracked)
 
 pub returns-clause-errors : goal.returns-clause-errors
-returns-clause-errors g c = λ r. c.rewrite.ensures.errors (c.read_whole.ensures.ready c.args.blob.now r)
+returns-clause-errors g c = λ r. c.rewrite.ensures.errors ((c.read_whole.ensures.uses c.args.blob.now).ready r)
 
-pub returns-in_err-found-clause-ready : goal.returns-in_err-found-clause-ready
-returns-in_err-found-clause-ready g c = λ r. c.read_whole.ensures.ready c.args.blob.now r
+pub returns-in_err-found-clause-uses : goal.returns-in_err-found-clause-uses
+returns-in_err-found-clause-uses g c = c.read_whole.ensures.uses c.args.blob.now
 
-pub returns-in_err-bytes-clause-ready : goal.returns-in_err-bytes-clause-ready
-returns-in_err-bytes-clause-ready g c = λ r. c.read_whole.ensures.ready c.args.blob.now r
+pub returns-in_err-bytes-clause-uses : goal.returns-in_err-bytes-clause-uses
+returns-in_err-bytes-clause-uses g c = c.read_whole.ensures.uses c.args.blob.now
 
-pub returns-then-are_same-clause-ready : goal.returns-then-are_same-clause-ready
-returns-then-are_same-clause-ready g c = λ r. c.read_whole.ensures.ready c.args.blob.now r
+pub returns-then-are_same-clause-uses : goal.returns-then-are_same-clause-uses
+returns-then-are_same-clause-uses g c = c.read_whole.ensures.uses c.args.blob.now
 
-pub returns-clause-ready : goal.returns-clause-ready
-returns-clause-ready g c = λ r. c.rewrite.ensures.ready (c.read_whole.ensures.ready c.args.blob.now r)
+pub returns-clause-uses : goal.returns-clause-uses
+returns-clause-uses g c = uses_twice (c.read_whole.ensures.uses c.args.blob.now) c.rewrite.ensures.uses

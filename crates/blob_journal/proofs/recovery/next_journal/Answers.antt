@@ -1,4 +1,4 @@
-use Rattle.std.proofs.Common.{◌≡◌, ◌<◌, ◌≤◌, ℕ, List, Some, ap, ap₂, arith, refl, rules, subst, sym, ◌∙◌}
+use Rattle.std.proofs.Common.{◌≡◌, ◌<◌, ℕ, List, Some, ap, ap₂, arith, refl, rules, subst, sym, ◌∙◌}
 use Rattle.std.specs.Prelude.{codes}
 use Rattle.std.specs.Int.{w64, to_be_bytes}
 use Rattle.blob_header.specs.Refusals.{error_of, refusal_of}
@@ -8,83 +8,28 @@ use Rattle.blob_model.specs.Places.{Place}
 use Rattle.blob_memory.specs.Store.{directory, durable, place}
 use Rattle.blob_memory.specs.declared.storage.Storage as memory
 use Rattle.blob_faulty.specs.Wrapper.{inner_of, inside, pending_of}
-use Rattle.blob_journal.specs.Currents.{FindsNoMoreBeside, HasNoBlob, KeepsOthers}
+use Rattle.blob_journal.specs.Currents.{HasNoBlob}
 use Rattle.blob_journal.specs.Limits.{IsLimit}
 use Rattle.blob_journal.proofs.Blobs.{blob_same, blob_twice, partition_beside}
 use Rattle.blob_journal.proofs.Currents.{current_of_name}
 use Rattle.blob_journal.proofs.Fixed.{incarnation_stays, incarnations_same}
-use Rattle.blob_journal.proofs.Limits.{still_accepted}
 use Rattle.blob_journal.proofs.Standing.{retired_at}
+use Rattle.blob_journal.specs.Stores.{KeepsStoreBut}
+use Rattle.blob_journal.proofs.Stores.{store_same, store_then, store_twice}
 use Rattle.blob_journal.proofs.recovery.next_journal.Goals as goal
-
-pub returns-in_err-discard-clause-current : goal.returns-in_err-discard-clause-current
-returns-in_err-discard-clause-current g c = subst (λ (n : List ℕ). KeepsOthers (codes "j") n c.args.store.now c.discard.new.store) c.to_be_bytes-name.ensures c.discard.ensures.current
-
-pub returns-in_err-journal-clause-current : goal.returns-in_err-journal-clause-current
-returns-in_err-journal-clause-current g c = λ o other h.
-    let one = subst (λ (n : List ℕ). KeepsOthers (codes "j") n c.args.store.now c.discard.new.store) c.to_be_bytes-name.ensures c.discard.ensures.current in
-    c.open.ensures.kept o (one o other h)
-
-pub returns-clause-current : goal.returns-clause-current
-returns-clause-current g c = λ o other h.
-    let one = subst (λ (n : List ℕ). KeepsOthers (codes "j") n c.args.store.now c.discard.new.store) c.to_be_bytes-name.ensures c.discard.ensures.current in
-    ap (λ (s : memory.Storage). is_current (directory s) o) c.admit.ensures.inner ∙ c.open.ensures.kept o (one o other h)
-
-pub returns-in_err-discard-clause-left : goal.returns-in_err-discard-clause-left
-returns-in_err-discard-clause-left g c = subst (λ (n : List ℕ). FindsNoMoreBeside (codes "j") n c.args.store.now c.discard.new.store) c.to_be_bytes-name.ensures c.discard.ensures.left
-
-pub returns-in_err-journal-clause-left : goal.returns-in_err-journal-clause-left
-returns-in_err-journal-clause-left g c = λ o test other k.
-    let one = subst (λ (n : List ℕ). FindsNoMoreBeside (codes "j") n c.args.store.now c.discard.new.store) c.to_be_bytes-name.ensures c.discard.ensures.left in
-    c.open.ensures.left o test (one o test other k)
-
-pub returns-clause-left : goal.returns-clause-left
-returns-clause-left g c = λ o test other k.
-    let one = subst (λ (n : List ℕ). FindsNoMoreBeside (codes "j") n c.args.store.now c.discard.new.store) c.to_be_bytes-name.ensures c.discard.ensures.left in
-    c.same_bytes.ensures.admitted c.open.new.store c.admit.new.self (codes "j") c.to_be_bytes-name.result o test (ap (λ (s : memory.Storage). directory s) c.admit.ensures.inner) c.admit.ensures.stands
-    (c.open.ensures.left o test (one o test other k))
 
 pub returns-in_err-discard-clause-incarnations : goal.returns-in_err-discard-clause-incarnations
 returns-in_err-discard-clause-incarnations g c = λ n o is.
     incarnation_stays (codes "f") n c.args.store.now c.discard.new.store o (partition_beside c.args.store.now c.discard.new.store c.to_be_bytes-name.result c.discard.ensures.others n) is
 
 pub returns-in_err-journal-clause-incarnations : goal.returns-in_err-journal-clause-incarnations
-returns-in_err-journal-clause-incarnations g c = λ n o is. c.open.ensures.incarnations (codes "f") n o
+returns-in_err-journal-clause-incarnations g c = λ n o is. c.open.ensures.keeps.incarnations (codes "f") n o
     (incarnation_stays (codes "f") n c.args.store.now c.discard.new.store o (partition_beside c.args.store.now c.discard.new.store c.to_be_bytes-name.result c.discard.ensures.others n) is)
 
 pub returns-clause-incarnations : goal.returns-clause-incarnations
 returns-clause-incarnations g c = λ n o is. incarnations_same c.open.new.store c.admit.new.self (ap (λ (s : memory.Storage). directory s) c.admit.ensures.inner) (codes "f") n o
-    (c.open.ensures.incarnations (codes "f") n o
+    (c.open.ensures.keeps.incarnations (codes "f") n o
     (incarnation_stays (codes "f") n c.args.store.now c.discard.new.store o (partition_beside c.args.store.now c.discard.new.store c.to_be_bytes-name.result c.discard.ensures.others n) is))
-
-pub returns-in_err-journal-clause-files : goal.returns-in_err-journal-clause-files
-returns-in_err-journal-clause-files g c = λ r. c.open.ensures.files (c.discard.ensures.files r)
-
-pub returns-clause-files : goal.returns-clause-files
-returns-clause-files g c = λ r.
-    let found = c.open.ensures.files (c.discard.ensures.files r) in
-    (admit found.0 (codes "j") c.to_be_bytes-name.result, c.admit.ensures.stands found.0 found.1)
-
-pub returns-in_err-journal-clause-next : goal.returns-in_err-journal-clause-next
-returns-in_err-journal-clause-next g c = let a = c.discard.ensures.next in let b = c.open.ensures.next in omega (arith, a, b)
-
-pub returns-clause-next : goal.returns-clause-next
-returns-clause-next g c =
-    let a = c.discard.ensures.next in
-    let b = c.open.ensures.next in
-    subst (λ (s : memory.Storage). (directory (inner_of c.args.store.now)).next ≤ (directory s).next) (sym c.admit.ensures.inner) (omega (arith, a, b))
-
-pub returns-in_err-journal-clause-accepted : goal.returns-in_err-journal-clause-accepted
-returns-in_err-journal-clause-accepted g c = λ all. c.open.ensures.accepted (c.discard.ensures.accepted all)
-
-pub returns-clause-accepted : goal.returns-clause-accepted
-returns-clause-accepted g c = λ all. still_accepted c.open.new.store c.admit.new.self (ap (λ (s : memory.Storage). directory s) c.admit.ensures.inner) (c.open.ensures.accepted (c.discard.ensures.accepted all))
-
-pub returns-in_err-journal-clause-faults : goal.returns-in_err-journal-clause-faults
-returns-in_err-journal-clause-faults g c = c.open.ensures.faults ∙ c.discard.ensures.faults
-
-pub returns-clause-faults : goal.returns-clause-faults
-returns-clause-faults g c = c.admit.ensures.numbers.config ∙ c.open.ensures.faults ∙ c.discard.ensures.faults
 
 pub returns-in_err-discard-clause-errors : goal.returns-in_err-discard-clause-errors
 returns-in_err-discard-clause-errors g c = λ q.
@@ -94,7 +39,7 @@ returns-in_err-discard-clause-errors g c = λ q.
 pub returns-in_err-journal-clause-errors : goal.returns-in_err-journal-clause-errors
 returns-in_err-journal-clause-errors g c = λ q.
     let said : error_of c.from_residual-in_err-journal.result ≡ error_of c.open.result = search rules in
-    subst (IsLimit _) (sym said) (c.open.ensures.errors (c.discard.ensures.faults ∙ q.0, c.discard.ensures.accepted q.1))
+    subst (IsLimit _) (sym said) (c.open.ensures.errors (c.discard.ensures.keeps.faults ∙ q.0, c.discard.ensures.keeps.accepted q.1))
 
 pub returns-clause-blobs : goal.returns-clause-blobs
 returns-clause-blobs g c = λ n.
@@ -114,7 +59,7 @@ returns-clause-live g c =
 pub returns-clause-numbered : goal.returns-clause-numbered
 returns-clause-numbered g c =
     let none = subst (λ (n : List ℕ). HasNoBlob (codes "j") n c.discard.new.store) c.to_be_bytes-name.ensures c.in_ok-discard.ensures.gone in
-    let a = c.discard.ensures.next in
+    let a = c.discard.ensures.keeps.next in
     let b = c.in_ok-journal.ensures.numbered none in
     omega (arith, a, b)
 
@@ -139,3 +84,20 @@ returns-clause-empty g c =
 
 pub returns-clause-name : goal.returns-clause-name
 returns-clause-name g c = c.in_ok-journal.ensures.name ∙ ap (λ (n : ℕ). to_be_bytes w64 n) c.in_ok-journal.ensures.generation
+
+pub returns-in_err-discard-clause-keeps : goal.returns-in_err-discard-clause-keeps
+returns-in_err-discard-clause-keeps g c = subst (λ (n : List ℕ). KeepsStoreBut (codes "j") n c.args.store.now c.discard.new.store) c.to_be_bytes-name.ensures c.discard.ensures.keeps
+
+pub returns-in_err-journal-clause-keeps : goal.returns-in_err-journal-clause-keeps
+returns-in_err-journal-clause-keeps g c =
+    store_then _ _ _ _ _ (subst (λ (n : List ℕ). KeepsStoreBut (codes "j") n c.args.store.now c.discard.new.store) c.to_be_bytes-name.ensures c.discard.ensures.keeps) c.open.ensures.keeps
+
+pub returns-clause-keeps : goal.returns-clause-keeps
+returns-clause-keeps g c =
+    let opened = c.open.new.store in
+    let same : directory (inner_of c.admit.new.self) ≡ directory (inner_of opened) = ap (λ (s : memory.Storage). directory s) c.admit.ensures.inner in
+    store_then _ _ _ _ _ (subst (λ (n : List ℕ). KeepsStoreBut (codes "j") n c.args.store.now c.discard.new.store) c.to_be_bytes-name.ensures c.discard.ensures.keeps)
+    (store_twice _ _ _ c.open.ensures.keeps (store_same opened c.admit.new.self same
+    (λ r. (admit r.0 (codes "j") c.to_be_bytes-name.result, c.admit.ensures.stands r.0 r.1))
+    (λ o test k. c.same_bytes.ensures.admitted opened c.admit.new.self (codes "j") c.to_be_bytes-name.result o test same c.admit.ensures.stands k)
+    c.admit.ensures.numbers.config))

@@ -1,15 +1,13 @@
-use Rattle.std.proofs.Common.{sym, subst}
+use Rattle.std.proofs.Common.{sym, subst, Some, ap, ◌∙◌, arith}
 use Rattle.blob_journal.specs.declared.store.FileBlob.{FileBlob}
 use Rattle.blob_journal.specs.Fixed.{IsOpen}
 use Rattle.blob_journal.specs.Keeping.{names_in}
 use Rattle.blob_fs.proofs.Fixed.{opened_inserted}
-use Rattle.blob_fs.proofs.Named.{most_more, named_inserted}
+use Rattle.blob_fs.proofs.Named.{most_more, named_inserted, links_there}
 use Rattle.blob_fs.proofs.Tracked.{tracked_inserted}
-use Rattle.std.proofs.Common.{Some, ap, ◌∙◌, arith}
 use Rattle.std.proofs.lemmas.Bool.{cond-true}
 use Rattle.std.specs.Ordering.{is_eq, nat_cmp}
 use Rattle.blob_fs.specs.Named.{links_in}
-use Rattle.blob_fs.proofs.Named.{links_there}
 use Rattle.blob_fs.proofs.Recovering.{key_self}
 use Rattle.blob_fs.specs.declared.file_system.File.{File}
 use Rattle.blob_fs.proofs.file_system.FileSystem.add_file.Goals as goal

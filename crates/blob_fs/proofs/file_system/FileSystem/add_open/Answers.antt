@@ -1,7 +1,6 @@
 use Rattle.std.proofs.Common.{refl, ◌∙◌, Some, ap}
 use Rattle.blob_fs.specs.declared.file_system.File.{File}
-use Rattle.blob_fs.proofs.Named.{at_most_self}
-use Rattle.blob_fs.proofs.Named.{links_kept, links_through}
+use Rattle.blob_fs.proofs.Named.{at_most_self, links_kept, links_through}
 use Rattle.blob_fs.proofs.Standing.{standing_none, standing_through}
 use Rattle.blob_fs.proofs.file_system.FileSystem.add_open.Goals as goal
 

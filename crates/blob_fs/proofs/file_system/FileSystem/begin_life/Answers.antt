@@ -1,4 +1,4 @@
-use Rattle.std.proofs.Common.{◌≡◌, sym, subst, ◌∙◌}
+use Rattle.std.proofs.Common.{◌≡◌, sym, subst, ◌∙◌, rules}
 use Rattle.blob_directory.specs.declared.table.Table.{Table}
 use Rattle.blob_directory.specs.Tables.{bound}
 use Rattle.blob_journal.specs.Keeping.{table_in}
@@ -6,7 +6,6 @@ use Rattle.blob_fs.specs.Named.{AllNamed}
 use Rattle.blob_fs.specs.Open.{AllOpen}
 use Rattle.blob_fs.proofs.Fixing.{whole_after}
 use Rattle.blob_fs.proofs.Tracked.{gives_told_after, tracked_new}
-use Rattle.std.proofs.Common.{rules}
 use Rattle.std.specs.Prelude.{Err}
 use Rattle.blob_fs.specs.Errors.{StopsAtLimits}
 use Rattle.blob_fs.specs.declared.error.FsError.TheVariants.{Store}
@@ -33,7 +32,7 @@ returns-clause-whole g c = λ whole.
     c.remove_unnamed.ensures.whole opened (whole_after c.args.self.now.store renewed c.args.files c.renew.ensures.still whole)
 
 pub invariant_of-self : goal.invariant_of-self
-invariant_of-self g c = standing_store c.args.self.now c.renew.new.self c.renew.ensures.still c.in_err-directories.ensures.refused c.in_err-directories.ensures.untold
+invariant_of-self g c = standing_store c.args.self.now c.renew.new.self c.renew.ensures.still c.in_err-directories.ensures.refused
 
 pub invariant_of-self-2 : goal.invariant_of-self-2
 invariant_of-self-2 g c =

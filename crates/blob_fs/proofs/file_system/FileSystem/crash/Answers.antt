@@ -1,16 +1,13 @@
-use Rattle.std.proofs.Common.{List}
+use Rattle.std.proofs.Common.{List, sym, subst, ◌∙◌, ◌≡◌, Bool, Option, ap, map, ℕ, ◌≤◌, arith, length}
 use Rattle.blob_directory.specs.Records.{Found}
 use Rattle.blob_directory.specs.Rules.{rule_of}
 use Rattle.blob_journal.specs.Keeping.{told_in}
 use Rattle.blob_journal.specs.Settling.{unsettled_of}
 use Rattle.blob_journal.specs.Told.{names_kept}
-use Rattle.std.proofs.Common.{sym, subst}
 use Rattle.blob_directory.specs.declared.table.Table.{Table}
 use Rattle.blob_directory.specs.Tables.{bound}
 use Rattle.blob_directory.specs.Trees.{Finds}
 use Rattle.blob_fs.specs.Files.{keeps_of, names_of}
-use Rattle.std.proofs.Common.{◌∙◌}
-use Rattle.std.proofs.Common.{◌≡◌, Bool, Option, ap, map, ℕ}
 use Rattle.std.specs.Prelude.{unwrap_or}
 use Rattle.blob_directory.specs.declared.unsettled.Unsettled.{Unsettled}
 use Rattle.blob_fs.specs.declared.truncation.Kept.{Kept}
@@ -18,7 +15,6 @@ use Rattle.blob_fs.specs.Bytes.{HasBytes, bytes_found, bytes_left, unsettled_num
 use Rattle.blob_fs.specs.Truncations.{lost_of}
 use Rattle.blob_fs.proofs.Crashed.{finds_byte}
 use Rattle.blob_fs.proofs.Fixed.{opened_store, some_same}
-use Rattle.std.proofs.Common.{◌≤◌, arith, length}
 use Rattle.blob_draws.specs.Rows.{rows_of}
 use Rattle.blob_journal.specs.Journals.{store_of}
 use Rattle.blob_fs.specs.declared.crash.Place.{Place}
@@ -45,17 +41,17 @@ pub returns-clause-again : goal.returns-clause-again
 returns-clause-again g c = λ before e.
     let again = c.in-Ok.ensures.again (c.in_ok-rows.ensures.gives before.gives) in
     sym (c.found.ensures.again (names_of c.recover.new.self) (names_of c.args.self.now) before.told before.finds
-    (subst (λ (t : Table). Finds (names_of c.recover.new.self) (bound t)) c.in_ok-rows.ensures.names again) e)
+    (subst (λ (t : Table). Finds (names_of c.recover.new.self) (bound t)) c.crash.ensures.keeps.names again) e)
 
 pub returns-clause-kept : goal.returns-clause-kept
 returns-clause-kept g c =
     let f = c.in-Ok.ensures.kept in
     let fs = c.args.self.now in
     let found = names_of c.recover.new.self in
-    let seen = subst (λ (u : List Unsettled). Finds found (names_kept (rule_of (keeps_of fs) u) f.chosen (told_in c.crash.new.self))) c.crash.ensures.unsettled f.finds in
+    let seen = subst (λ (u : List Unsettled). Finds found (names_kept (rule_of (keeps_of fs) u) f.chosen (told_in c.crash.new.self))) c.crash.ensures.keeps.unsettled f.finds in
     record {
       chosen = f.chosen;
-      finds = subst (λ (l : List Found). Finds found (names_kept (rule_of (keeps_of fs) (unsettled_of fs.store)) f.chosen l)) c.crash.ensures.told seen;
+      finds = subst (λ (l : List Found). Finds found (names_kept (rule_of (keeps_of fs) (unsettled_of fs.store)) f.chosen l)) c.crash.ensures.keeps.told seen;
     }
 
 pub returns-clause-bytes : goal.returns-clause-bytes
@@ -98,10 +94,10 @@ returns-clause-fixed g c = λ name inode at byte below named f.
     }
 
 pub invariant_of-self : goal.invariant_of-self
-invariant_of-self g c = standing_store c.args.self.now c.crash.new.self c.crash.ensures.still c.crash.ensures.names c.crash.ensures.told
+invariant_of-self g c = standing_store c.args.self.now c.crash.new.self c.crash.ensures.still c.crash.ensures.keeps
 
 pub invariant_of-self-2 : goal.invariant_of-self-2
-invariant_of-self-2 g c = standing_store c.args.self.now c.crash.new.self c.crash.ensures.still c.crash.ensures.names c.crash.ensures.told
+invariant_of-self-2 g c = standing_store c.args.self.now c.crash.new.self c.crash.ensures.still c.crash.ensures.keeps
 
 pub returns-clause-fixes : goal.returns-clause-fixes
 returns-clause-fixes g c = λ inode at byte below numbered f.

@@ -1,5 +1,5 @@
-use Rattle.blob_fs.proofs.Standing.{standing_store}
+use Rattle.blob_fs.proofs.Standing.{standing_contents}
 use Rattle.blob_fs.proofs.file_system.FileSystem.draw_nothing.Goals as goal
 
 pub invariant_of-self : goal.invariant_of-self
-invariant_of-self g c = standing_store c.args.self.now c.set_config.new.self c.set_config.ensures.still c.set_config.ensures.names c.set_config.ensures.journal.told
+invariant_of-self g c = standing_contents c.args.self.now c.set_config.new.self c.set_config.ensures.contents

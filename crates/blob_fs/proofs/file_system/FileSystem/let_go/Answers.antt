@@ -2,7 +2,7 @@ use Rattle.std.proofs.Common.{Some, ap, arith, refl, sym, true, ◌∙◌}
 use Rattle.blob_fs.specs.declared.file_system.File.{File}
 use Rattle.blob_fs.specs.Files.{names_of}
 use Rattle.blob_fs.specs.Named.{links_in}
-use Rattle.blob_fs.proofs.Fixed.{contents_same, contents_through, contents_twice, fixed_after, opened_through, still_same}
+use Rattle.blob_fs.proofs.Fixed.{contents_same, contents_through, contents_twice, opened_through}
 use Rattle.blob_fs.proofs.Named.{at_most_self, named_through, no_links, none_left, none_named}
 use Rattle.blob_fs.proofs.Tracked.{tracked_gone}
 use Rattle.blob_fs.proofs.Standing.{standing_none, standing_through}

@@ -1,9 +1,8 @@
-use Rattle.std.proofs.Common.{◌≡◌, IsSome, Option, Some, ap, arith, option_copied, refl, subst, sym, ◌∙◌}
+use Rattle.std.proofs.Common.{◌≡◌, IsSome, Option, Some, ap, arith, option_copied, refl, subst, sym, ◌∙◌, ◌∷◌, [], List, ℕ}
 use Rattle.blob_fs.specs.declared.file_system.File.{File}
 use Rattle.blob_fs.specs.Files.{file_of, names_of, table_of}
 use Rattle.blob_fs.proofs.Named.{edit_is, linked, linked_most, most_more, most_same, most_table}
 use Rattle.blob_directory.specs.Names.{file}
-use Rattle.std.proofs.Common.{◌∷◌, [], List, Some, ap, ℕ, ◌∙◌}
 use Rattle.blob_journal.specs.Settling.{unsettled_of}
 use Rattle.blob_journal.specs.declared.journaled.Journaled.{Journaled}
 use Rattle.blob_fs.proofs.Noting.{noted_between}

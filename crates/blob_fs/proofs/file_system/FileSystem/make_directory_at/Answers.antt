@@ -1,8 +1,7 @@
-use Rattle.std.proofs.Common.{arith, refl}
+use Rattle.std.proofs.Common.{arith, refl, ◌∷◌, [], List, Some, ap, ℕ, ◌∙◌}
 use Rattle.blob_fs.specs.Files.{names_of}
 use Rattle.blob_fs.proofs.Named.{edit_is, placed}
 use Rattle.blob_directory.specs.Names.{directory_at}
-use Rattle.std.proofs.Common.{◌∷◌, [], List, Some, ap, ℕ, ◌∙◌}
 use Rattle.blob_fs.proofs.Noting.{noted_between}
 use Rattle.blob_fs.specs.declared.file_system.Options.{Options}
 use Rattle.blob_fs.proofs.States.{keeps_as, keeps_self, makes_after, rest_after, rest_before, rest_numbered, rest_of}

@@ -19,13 +19,13 @@ pub returns-then-count-eq0-clause-keeps : goal.returns-then-count-eq0-clause-kee
 returns-then-count-eq0-clause-keeps g c = keeps_as _ c.begin_call.ensures.keeps refl refl refl refl
 
 pub invariant_of-self-2 : goal.invariant_of-self-2
-invariant_of-self-2 g c = standing_store c.begin_call.new.self c.read_into.new.store c.read_into.ensures.still c.read_into.ensures.keeps.names c.read_into.ensures.keeps.told
+invariant_of-self-2 g c = standing_store c.begin_call.new.self c.read_into.new.store c.read_into.ensures.still c.read_into.ensures.keeps
 
 pub returns-in_err-read_into-clause-keeps : goal.returns-in_err-read_into-clause-keeps
-returns-in_err-read_into-clause-keeps g c = keeps_opened _ c.begin_call.ensures.keeps refl refl refl c.read_into.ensures.keeps.names c.read_into.ensures.keeps.told c.read_into.ensures.still
+returns-in_err-read_into-clause-keeps g c = keeps_opened _ c.begin_call.ensures.keeps refl refl refl c.read_into.ensures.keeps c.read_into.ensures.still
 
 pub returns-clause-keeps : goal.returns-clause-keeps
-returns-clause-keeps g c = keeps_opened _ c.begin_call.ensures.keeps refl refl refl c.read_into.ensures.keeps.names c.read_into.ensures.keeps.told c.read_into.ensures.still
+returns-clause-keeps g c = keeps_opened _ c.begin_call.ensures.keeps refl refl refl c.read_into.ensures.keeps c.read_into.ensures.still
 
 pub returns-then-count-eq0-clause-read : goal.returns-then-count-eq0-clause-read
 returns-then-count-eq0-clause-read g c =

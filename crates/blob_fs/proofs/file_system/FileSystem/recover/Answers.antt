@@ -1,17 +1,13 @@
-use Rattle.std.proofs.Common.{◌≡◌, sym, subst, ◌∙◌}
+use Rattle.std.proofs.Common.{◌≡◌, sym, subst, ◌∙◌, true, ap, ℕ, Bool, List, Option, rules}
 use Rattle.blob_directory.specs.Tables.{bound}
 use Rattle.blob_directory.specs.declared.table.Table.{Table}
 use Rattle.blob_journal.specs.Journals.{FindsNames}
 use Rattle.blob_journal.specs.Keeping.{FindsTold}
-use Rattle.blob_directory.specs.Trees.{Finds}
+use Rattle.blob_directory.specs.Trees.{Finds, has_link}
 use Rattle.blob_fs.specs.Files.{keeps_of, names_of, table_of}
-use Rattle.std.proofs.Common.{true, ap}
-use Rattle.blob_directory.specs.Trees.{has_link}
-use Rattle.std.proofs.Common.{ℕ}
 use Rattle.std.specs.BTreeMap.{BTreeMap, get}
 use Rattle.std.specs.Ordering.{nat_cmp}
-use Rattle.std.specs.Prelude.{is_some}
-use Rattle.std.proofs.Common.{Bool, List, Option}
+use Rattle.std.specs.Prelude.{is_some, Err}
 use Rattle.blob_journal.specs.Blobs.{current_file}
 use Rattle.blob_fs.specs.Bytes.{HasBytes, HasOnlyLinked, IsFound, IsLeft, bytes_found, bytes_left, file_in}
 use Rattle.blob_fs.specs.Truncations.{lost_of}
@@ -24,8 +20,6 @@ use Rattle.blob_fs.proofs.Recovering.{has_bytes, left_stays, no_orphan}
 use Rattle.blob_fs.proofs.Fixing.{fixes_found}
 use Rattle.blob_fs.proofs.Named.{named_store}
 use Rattle.blob_fs.proofs.Tracked.{links_known, tracked_store}
-use Rattle.std.proofs.Common.{rules}
-use Rattle.std.specs.Prelude.{Err}
 use Rattle.blob_fs.specs.Errors.{StopsAtLimits}
 use Rattle.blob_fs.specs.declared.error.FsError.TheVariants.{Store}
 use Rattle.blob_fs.proofs.Errors.{sizes_tracked}
@@ -38,7 +32,7 @@ returns-clause-found g c =
     subst (λ (t : Table). FindsNames c.args.self.now.store (keeps_of c.args.self.now) (bound t)) (sym taken) c.in_ok-tree.ensures.found
 
 pub returns-clause-gives : goal.returns-clause-gives
-returns-clause-gives g c = λ r. c.in_ok-begin_life.ensures.gives (c.reopen_all.ensures.files (c.find_names.ensures.files r))
+returns-clause-gives g c = λ r. c.in_ok-begin_life.ensures.gives (c.reopen_all.ensures.keeps.files (c.find_names.ensures.files r))
 
 pub returns-clause-again : goal.returns-clause-again
 returns-clause-again g c = λ gives.
@@ -96,16 +90,16 @@ pub returns-clause-opened : goal.returns-clause-opened
 returns-clause-opened g c = subst (AllOpen c.begin_life.new.self.store) (sym c.in_ok-begin_life.ensures.files) c.in_ok-begin_life.ensures.opened
 
 pub invariant_of-self : goal.invariant_of-self
-invariant_of-self g c = standing_store c.args.self.now c.find_names.new.self c.find_names.ensures.still c.find_names.ensures.names c.find_names.ensures.told
+invariant_of-self g c = standing_store c.args.self.now c.find_names.new.self c.find_names.ensures.still c.find_names.ensures.keeps
 
 pub invariant_of-self-2 : goal.invariant_of-self-2
 invariant_of-self-2 g c =
     let fs = c.args.self.now in
     record {
-      opened = opened_handles c.find_names.new.self c.reopen_all.new.store fs.files c.reopen_all.ensures.handles
+      opened = opened_handles c.find_names.new.self c.reopen_all.new.store fs.files c.reopen_all.ensures.keeps.handles
           (opened_store fs.store c.find_names.new.self fs.files c.find_names.ensures.still fs.opened);
-      named = named_store fs.store c.reopen_all.new.store fs.files (c.reopen_all.ensures.keeps.names ∙ c.find_names.ensures.names) fs.named;
-      tracked = tracked_store fs.store c.reopen_all.new.store fs.files (c.reopen_all.ensures.keeps.names ∙ c.find_names.ensures.names) (c.reopen_all.ensures.keeps.told ∙ c.find_names.ensures.told) fs.tracked;
+      named = named_store fs.store c.reopen_all.new.store fs.files (c.reopen_all.ensures.keeps.edits.names ∙ c.find_names.ensures.keeps.names) fs.named;
+      tracked = tracked_store fs.store c.reopen_all.new.store fs.files (c.reopen_all.ensures.keeps.edits.names ∙ c.find_names.ensures.keeps.names) (c.reopen_all.ensures.keeps.edits.told ∙ c.find_names.ensures.keeps.told) fs.tracked;
     }
 
 pub begin_life-requires : goal.begin_life-requires
@@ -124,7 +118,7 @@ reopen_all-requires g c = record {
 pub invariant_of-self-in-Break-branch-2 : goal.invariant_of-self-in-Break-branch-2
 invariant_of-self-in-Break-branch-2 g c =
     let fs = c.args.self.now in
-    standing_store fs c.find_names.new.self c.find_names.ensures.still c.find_names.ensures.names c.find_names.ensures.told
+    standing_store fs c.find_names.new.self c.find_names.ensures.still c.find_names.ensures.keeps
 
 pub returns-clause-fixes : goal.returns-clause-fixes
 returns-clause-fixes g c =

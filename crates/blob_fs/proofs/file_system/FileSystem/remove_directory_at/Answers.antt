@@ -1,13 +1,11 @@
-use Rattle.std.proofs.Common.{◌≡◌, Option, Some, ap₂, sym}
+use Rattle.std.proofs.Common.{◌≡◌, Option, Some, ap₂, sym, ◌∷◌, [], List, None, ap, ℕ, ◌∙◌, refl}
 use Rattle.std.specs.Prelude.{option_map, unwrap_or}
 use Rattle.blob_directory.specs.declared.edit.Binding.{Binding}
 use Rattle.blob_directory.specs.declared.table.Table.{Table}
 use Rattle.blob_directory.specs.Tables.{bound}
 use Rattle.blob_directory.specs.Names.{entry}
-use Rattle.blob_fs.specs.Files.{about_name}
-use Rattle.blob_fs.specs.Files.{names_of}
+use Rattle.blob_fs.specs.Files.{about_name, names_of}
 use Rattle.blob_fs.proofs.Named.{edit_is, freed}
-use Rattle.std.proofs.Common.{◌∷◌, [], List, None, ap, ℕ, ◌∙◌, refl}
 use Rattle.blob_fs.proofs.Noting.{noted_between}
 use Rattle.blob_fs.specs.declared.file_system.Options.{Options}
 use Rattle.blob_fs.proofs.States.{keeps_as, keeps_self, makes_after, rest_after, rest_before}

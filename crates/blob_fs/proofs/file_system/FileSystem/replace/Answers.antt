@@ -1,4 +1,4 @@
-use Rattle.std.proofs.Common.{◌≡◌, ℕ, Some, pred, subst, sym}
+use Rattle.std.proofs.Common.{◌≡◌, ℕ, Some, pred, subst, sym, ap, ◌∙◌, refl}
 use Rattle.std.specs.BTreeMap.{BTreeMap, get}
 use Rattle.std.specs.Ordering.{nat_cmp}
 use Rattle.blob_directory.specs.Counts.{NamedAtMost}
@@ -6,16 +6,13 @@ use Rattle.blob_directory.specs.Names.{file}
 use Rattle.blob_fs.specs.declared.file_system.File as fs_file
 use Rattle.blob_fs.specs.Named.{links_in}
 use Rattle.blob_fs.proofs.Naming.{file_is}
-use Rattle.std.proofs.Common.{ap, ◌∙◌}
 use Rattle.blob_directory.specs.declared.table.Table.{Table}
 use Rattle.blob_directory.specs.Tables.{bound}
-use Rattle.blob_fs.specs.Files.{names_of}
+use Rattle.blob_fs.specs.Files.{names_of, journaled_of}
 use Rattle.blob_fs.proofs.Named.{one_replaced}
 use Rattle.blob_fs.specs.declared.file_system.FileSystem.{FileSystem}
 use Rattle.blob_fs.proofs.file_system.FileSystem.replace.Goals.{in-File, in-Directory}
-use Rattle.std.proofs.Common.{refl}
 use Rattle.blob_fs.specs.declared.file_system.Options.{Options}
-use Rattle.blob_fs.specs.Files.{journaled_of}
 use Rattle.blob_fs.proofs.Noting.{noted_between}
 use Rattle.blob_fs.proofs.States.{keeps_as, keeps_self, keeps_twice, rest_after, rest_before}
 use Rattle.blob_fs.specs.States.{KeepsState}

@@ -7,13 +7,13 @@ use Rattle.blob_fs.specs.Fixed.{ListsFiles}
 use Rattle.blob_fs.proofs.Calls.{always_ok, on_ok}
 use Rattle.blob_fs.proofs.Syncing.{done_after, done_all, done_more, seen_same, seen_twice}
 use Rattle.blob_fs.proofs.States.{keeps_opened, keeps_twice, rest_before, rest_of}
-use Rattle.blob_fs.proofs.Standing.{standing_store}
+use Rattle.blob_fs.proofs.Standing.{standing_contents}
 use Rattle.blob_fs.proofs.file_system.FileSystem.settle.Goals as goal
 
 pub loop-inode-init : goal.loop-inode-init
 loop-inode-init g c = record {
-  keeps = keeps_opened _ c.begin_call.ensures.keeps refl refl refl c.set_config.ensures.names c.set_config.ensures.journal.told c.set_config.ensures.still;
-  journal = c.settling.ensures.twice c.args.self.now.store c.begin_call.new.self.store c.set_config.new.self c.in_ok-begin_call.ensures.journal c.set_config.ensures.journal;
+  keeps = keeps_opened _ c.begin_call.ensures.keeps refl refl refl c.set_config.ensures.contents.edits c.set_config.ensures.contents.still;
+  journal = c.settling.ensures.twice c.args.self.now.store c.begin_call.new.self.store c.set_config.new.self c.in_ok-begin_call.ensures.journal c.set_config.ensures.contents.journal;
   seen = seen_same c.args.self.now _ c.begin_call.ensures.files.files;
   done = λ k less. absurd (omega (arith, less));
 }
@@ -21,7 +21,7 @@ loop-inode-init g c = record {
 pub invariant_of-self : goal.invariant_of-self
 invariant_of-self g c =
     let one = c.begin_call.new.self in
-    standing_store one c.set_config.new.self c.set_config.ensures.still c.set_config.ensures.names c.set_config.ensures.journal.told
+    standing_contents one c.set_config.new.self c.set_config.ensures.contents
 
 pub loop-inode-preserved : goal.loop-inode-preserved
 loop-inode-preserved g c = record {

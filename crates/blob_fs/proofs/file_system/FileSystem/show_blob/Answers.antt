@@ -1,11 +1,9 @@
-use Rattle.std.proofs.Common.{ℕ, None, arith, refl, subst, sym, ◌∙◌, Some, ap}
+use Rattle.std.proofs.Common.{ℕ, None, refl, subst, sym, ◌∙◌, Some, ap}
 use Rattle.std.specs.BTreeMap.{BTreeMap}
 use Rattle.blob_fs.specs.declared.file_system.File.{File}
-use Rattle.blob_fs.proofs.Fixed.{Sets, contents_same, contents_through, contents_twice, fixed_after, sets_through, still_same}
+use Rattle.blob_fs.proofs.Fixed.{Sets, contents_same, contents_through, contents_twice, sets_through}
 use Rattle.blob_fs.proofs.Syncing.{seen_same, seen_set}
-use Rattle.blob_fs.proofs.Named.{at_most_self}
-use Rattle.std.proofs.Common.{◌∙◌}
-use Rattle.blob_fs.proofs.Named.{links_kept, links_through}
+use Rattle.blob_fs.proofs.Named.{at_most_self, links_kept, links_through}
 use Rattle.blob_fs.proofs.Standing.{standing_none, standing_through}
 use Rattle.blob_fs.proofs.States.{keeps_contents}
 use Rattle.blob_fs.proofs.file_system.FileSystem.show_blob.Goals as goal

@@ -1,6 +1,5 @@
-use Rattle.std.proofs.Common.{refl, ◌<◌, ◌≤◌, ◌^◌, inr, arith, ◌∙◌, Some, ap}
+use Rattle.std.proofs.Common.{refl, ◌<◌, ◌≤◌, ◌^◌, inr, arith, ◌∙◌, Some, ap, ◌≡◌, [], subst}
 use Rattle.blob_fs.specs.declared.file_system.File.{File}
-use Rattle.std.proofs.Common.{◌≡◌, [], subst}
 use Rattle.blob_faulty.specs.Wrapper.{size_of}
 use Rattle.blob_fs.proofs.Fixed.{fixed_changed, sets_through}
 use Rattle.blob_fs.proofs.Syncing.{set_here, fixes_synced, seen_below, seen_synced, synced_whole}
@@ -19,7 +18,7 @@ invariant_of-self-in-Err-1 g c =
     let there = ap Some c.as_mut-file.ensures.value ∙ c.in-Some.ensures.value in
     let new : File = record was { blob = c.sync_file.new.file } in
     standing_changed (λ at. Unit) fs c.sync_file.new.self (c.get_mut.follows.lender new) c.args.inode was new (omega arith) there (c.get_mut.follows.holds new) c.sync_file.ensures.still
-    (at_most_self _) refl c.sync_file.ensures.names c.sync_file.ensures.told
+    (at_most_self _) refl c.sync_file.ensures.uses.edits
 
 pub returns-in-Err-clause-keeps : goal.returns-in-Err-clause-keeps
 returns-in-Err-clause-keeps g c =
@@ -30,8 +29,8 @@ returns-in-Err-clause-keeps g c =
     let more : fs.next_inode ≤ fs.next_inode = omega arith in
     let small : c.args.inode < 2 ^ 64 = omega arith in
     keeps_twice (record {
-      names = c.sync_file.ensures.names;
-      told = c.sync_file.ensures.told;
+      names = c.sync_file.ensures.uses.edits.names;
+      told = c.sync_file.ensures.uses.edits.told;
       fixed = λ inode at byte below h.
           fixed_changed fs _ more (λ at. Unit) c.args.inode was new small there
           (sets_through fs.files (c.get_mut.follows.lender new) c.args.inode was new there (c.get_mut.follows.holds new)) c.sync_file.ensures.still fs.opened
@@ -46,7 +45,7 @@ invariant_of-self-2 g c =
     let there = ap Some c.as_mut-file.ensures.value ∙ c.in-Some.ensures.value in
     let new : File = record was { blob = c.sync_file.new.file; synced = c.size-file.result; truncations = c.clear.new.self } in
     standing_changed (λ at. Unit) fs c.sync_file.new.self (c.get_mut.follows.lender new) c.args.inode was new (omega arith) there (c.get_mut.follows.holds new) c.sync_file.ensures.still
-    (at_most_self _) refl c.sync_file.ensures.names c.sync_file.ensures.told
+    (at_most_self _) refl c.sync_file.ensures.uses.edits
 
 pub returns-clause-keeps : goal.returns-clause-keeps
 returns-clause-keeps g c =
@@ -57,8 +56,8 @@ returns-clause-keeps g c =
     let more : fs.next_inode ≤ fs.next_inode = omega arith in
     let small : c.args.inode < 2 ^ 64 = omega arith in
     record {
-      names = c.sync_file.ensures.names;
-      told = c.sync_file.ensures.told;
+      names = c.sync_file.ensures.uses.edits.names;
+      told = c.sync_file.ensures.uses.edits.told;
       fixed = λ inode at byte below h.
           fixed_changed fs _ more (λ at. Unit) c.args.inode was new small there
           (sets_through fs.files (c.get_mut.follows.lender new) c.args.inode was new there (c.get_mut.follows.holds new)) c.sync_file.ensures.still fs.opened

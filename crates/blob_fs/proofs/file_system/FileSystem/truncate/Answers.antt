@@ -1,4 +1,4 @@
-use Rattle.std.proofs.Common.{◌≡◌, ◌<◌, ◌≤◌, ◌^◌, ◌∷◌, [], ◌++◌, List, Some, false, ℕ, ap, inl, inr, sym, refl, ◌∙◌, arith}
+use Rattle.std.proofs.Common.{◌≡◌, ◌<◌, ◌≤◌, ◌^◌, ◌∷◌, [], ◌++◌, List, Some, false, ℕ, ap, inl, inr, sym, refl, ◌∙◌, arith, subst}
 use Rattle.blob_journal.specs.Fixed.{ChangesOpen, KeepsOpen}
 use Rattle.std.specs.BTreeMap.{BTreeMap, get}
 use Rattle.std.proofs.lemmas.Bool.{cond-true}
@@ -14,15 +14,14 @@ use Rattle.blob_fs.specs.declared.file_system.File.{File}
 use Rattle.blob_fs.specs.declared.truncation.Truncation.{Truncation}
 use Rattle.blob_fs.specs.Fixed.{KeepsFixed}
 use Rattle.blob_fs.specs.Files.{descriptor_number}
-use Rattle.blob_fs.proofs.Fixed.{changes_after, changes_again, changes_less, contents_same, contents_through, fixed_after, fixed_twice, keeps_spared, opened_after, opened_changed, sets_through, still_self, still_twice, synced_kept, synced_more}
-use Rattle.blob_fs.proofs.Named.{links_set, named_after, same_at_most}
-use Rattle.blob_fs.proofs.Tracked.{freed_set, tracked_after, tracked_freed, tracked_store}
+use Rattle.blob_fs.proofs.Fixed.{changes_cut, contents_same, contents_through, fixed_after, fixed_twice, keeps_spared, sets_through, still_self, still_twice, synced_kept, synced_more}
+use Rattle.blob_fs.proofs.Named.{same_at_most}
 use Rattle.blob_faulty.specs.Wrapper.{next_write_of, size_of}
 use Rattle.blob_journal.specs.Journals.{store_of}
 use Rattle.blob_journal.specs.declared.store.FileBlob.{FileBlob}
 use Rattle.blob_fs.proofs.Sizing.{resized_size}
-use Rattle.std.proofs.Common.{subst}
-use Rattle.blob_fs.proofs.Standing.{standing_lent, standing_none, standing_through}
+use Rattle.blob_fs.proofs.Standing.{standing_lent, standing_none, standing_through, standing_truncated}
+use Rattle.blob_fs.proofs.States.{edits_twice}
 use Rattle.blob_fs.proofs.file_system.FileSystem.truncate.Goals as goal
 
 pub returns-in_err-begin_call-clause-fixed : goal.returns-in_err-begin_call-clause-fixed
@@ -111,7 +110,7 @@ invariant_of-self-in-Break-branch-9 g c =
     let new : File = record c.reserve_shown.new.self { truncations = c.reserve.new.self } in
     standing_lent one c.record_truncation.new.self (c.get_mut.follows.lender new) c.in_ok-inode.inode was new there (c.get_mut.follows.holds new)
     (record { blob = c.reserve_shown.ensures.content.blob; synced = c.reserve_shown.ensures.content.synced; truncations = c.reserve.ensures.items ∙ c.reserve_shown.ensures.content.truncations })
-    (same_at_most (sym c.reserve_shown.ensures.links)) c.reserve_shown.ensures.gone c.record_truncation.ensures.still c.record_truncation.ensures.names c.in_err-edit.ensures.untold
+    (same_at_most (sym c.reserve_shown.ensures.links)) c.reserve_shown.ensures.gone c.record_truncation.ensures.names.still c.in_err-edit.ensures.refused
 
 pub returns-in_err-edit-clause-fixed : goal.returns-in_err-edit-clause-fixed
 returns-in_err-edit-clause-fixed g c =
@@ -124,7 +123,7 @@ returns-in_err-edit-clause-fixed g c =
     λ inode at byte below spared f.
     fixed_after one _ more
     (contents_through one.files (c.get_mut.follows.lender new) c.in_ok-inode.inode was new (ap Some c.as_mut-found.ensures.value ∙ c.in-Some.ensures.value) (c.get_mut.follows.holds new) (record { blob = c.reserve_shown.ensures.content.blob; synced = c.reserve_shown.ensures.content.synced; truncations = c.reserve.ensures.items ∙ c.reserve_shown.ensures.content.truncations }))
-    c.record_truncation.ensures.still inode at byte below (keeps inode at byte below f)
+    c.record_truncation.ensures.names.still inode at byte below (keeps inode at byte below f)
 
 pub invariant_of-self-in-Break-branch-10 : goal.invariant_of-self-in-Break-branch-10
 invariant_of-self-in-Break-branch-10 g c =
@@ -133,22 +132,14 @@ invariant_of-self-in-Break-branch-10 g c =
     let there = ap Some c.as_mut-found.ensures.value ∙ c.in-Some.ensures.value in
     let new : File = record c.reserve_shown.new.self { blob = c.cut_page.new.blob; truncations = c.reserve.new.self } in
     let spares = λ (at : ℕ). at < c.args.length in
-    let still : KeepsOpen one.store c.set_config.new.self = still_twice one.store c.record_truncation.new.self c.set_config.new.self c.record_truncation.ensures.still c.set_config.ensures.still in
-    let sets = sets_through one.files (c.get_mut.follows.lender new) c.in_ok-inode.inode was new there (c.get_mut.follows.holds new) in
-    let resized : ChangesOpen spares c.set_config.new.self c.reserve_shown.new.self.blob c.cut_page.new.store c.cut_page.new.blob =
-    changes_less (λ at. at < c.in_ok-reached.reached) spares c.set_config.new.self c.cut_page.new.store c.reserve_shown.new.self.blob c.cut_page.new.blob
-    (λ at low. omega (arith, low, c.in_ok-reached.ensures.reached)) c.cut_page.ensures.still in
+    let still : KeepsOpen one.store c.set_config.new.self = still_twice one.store c.record_truncation.new.self c.set_config.new.self c.record_truncation.ensures.names.still c.set_config.ensures.contents.still in
     let changes : ChangesOpen spares one.store was.blob c.cut_page.new.store new.blob =
-    changes_again spares one.store c.cut_page.new.store c.reserve_shown.new.self.blob c.cut_page.new.blob was.blob new.blob c.reserve_shown.ensures.content.blob refl
-    (changes_after spares one.store c.set_config.new.self c.cut_page.new.store c.reserve_shown.new.self.blob c.cut_page.new.blob still resized) in
-    record {
-      opened = opened_changed spares one.store c.cut_page.new.store one.files (c.get_mut.follows.lender new) c.in_ok-inode.inode was new (omega arith) there sets changes one.opened;
-      named = named_after one.store c.cut_page.new.store one.files (c.get_mut.follows.lender new) (c.cut_page.ensures.keeps.names ∙ c.set_config.ensures.names ∙ c.record_truncation.ensures.names) (links_set one.files (c.get_mut.follows.lender new) c.in_ok-inode.inode was new there sets (same_at_most (sym c.reserve_shown.ensures.links))) one.named;
-      tracked = tracked_store c.record_truncation.new.self c.cut_page.new.store (c.get_mut.follows.lender new) (c.cut_page.ensures.keeps.names ∙ c.set_config.ensures.names) (c.cut_page.ensures.keeps.told ∙ c.set_config.ensures.journal.told)
-          (tracked_freed (record { may = c.bindings.ensures.one_more; within = c.bindings.ensures.within_one_more; freed = c.bindings.ensures.freed_one_more })
-          one.store c.record_truncation.new.self c.in_ok-inode.inode one.files (c.get_mut.follows.lender new) c.record_truncation.ensures.names c.in_ok-edit.ensures.told
-          (freed_set one.files (c.get_mut.follows.lender new) c.in_ok-inode.inode was new there sets c.reserve_shown.ensures.gone) one.named one.tracked);
-    }
+    changes_cut one.store c.set_config.new.self c.cut_page.new.store c.args.length c.in_ok-reached.reached c.reserve_shown.new.self.blob c.cut_page.new.blob was.blob new.blob
+    c.in_ok-reached.ensures.reached still c.reserve_shown.ensures.content.blob refl c.cut_page.ensures.still in
+    standing_truncated (record { may = c.bindings.ensures.one_more; within = c.bindings.ensures.within_one_more; freed = c.bindings.ensures.freed_one_more })
+    one c.record_truncation.new.self c.cut_page.new.store (c.get_mut.follows.lender new) c.in_ok-inode.inode was new spares (omega arith) there (c.get_mut.follows.holds new) changes
+    (same_at_most (sym c.reserve_shown.ensures.links)) (c.reserve_shown.ensures.gone)
+    c.record_truncation.ensures.names.table c.in_ok-edit.ensures.tells.told (edits_twice c.set_config.ensures.contents.edits c.cut_page.ensures.keeps)
 
 pub returns-in_err-cut_page-clause-fixed : goal.returns-in_err-cut_page-clause-fixed
 returns-in_err-cut_page-clause-fixed g c =
@@ -159,14 +150,11 @@ returns-in_err-cut_page-clause-fixed g c =
     let there = ap Some c.as_mut-found.ensures.value ∙ c.in-Some.ensures.value in
     let new : File = record c.reserve_shown.new.self { blob = c.cut_page.new.blob; truncations = c.reserve.new.self } in
     let spares = λ (at : ℕ). at < c.args.length in
-    let still : KeepsOpen one.store c.set_config.new.self = still_twice one.store c.record_truncation.new.self c.set_config.new.self c.record_truncation.ensures.still c.set_config.ensures.still in
+    let still : KeepsOpen one.store c.set_config.new.self = still_twice one.store c.record_truncation.new.self c.set_config.new.self c.record_truncation.ensures.names.still c.set_config.ensures.contents.still in
     let sets = sets_through one.files (c.get_mut.follows.lender new) c.in_ok-inode.inode was new there (c.get_mut.follows.holds new) in
-    let resized : ChangesOpen spares c.set_config.new.self c.reserve_shown.new.self.blob c.cut_page.new.store c.cut_page.new.blob =
-    changes_less (λ at. at < c.in_ok-reached.reached) spares c.set_config.new.self c.cut_page.new.store c.reserve_shown.new.self.blob c.cut_page.new.blob
-    (λ at low. omega (arith, low, c.in_ok-reached.ensures.reached)) c.cut_page.ensures.still in
     let changes : ChangesOpen spares one.store was.blob c.cut_page.new.store new.blob =
-    changes_again spares one.store c.cut_page.new.store c.reserve_shown.new.self.blob c.cut_page.new.blob was.blob new.blob c.reserve_shown.ensures.content.blob refl
-    (changes_after spares one.store c.set_config.new.self c.cut_page.new.store c.reserve_shown.new.self.blob c.cut_page.new.blob still resized) in
+    changes_cut one.store c.set_config.new.self c.cut_page.new.store c.args.length c.in_ok-reached.reached c.reserve_shown.new.self.blob c.cut_page.new.blob was.blob new.blob
+    c.in_ok-reached.ensures.reached still c.reserve_shown.ensures.content.blob refl c.cut_page.ensures.still in
     let opens = ap (λ (m : BTreeMap ℕ ℕ). get nat_cmp m (descriptor_number c.args.file)) (sym c.begin_call.ensures.files.opens) ∙ c.in_ok-inode.ensures in
     let small : c.in_ok-inode.inode < 2 ^ 64 = omega arith in
     keeps_spared fs one _ c.args.file spares c.cut_page.new.store (c.get_mut.follows.lender new) c.in_ok-inode.inode was new opens keeps refl refl refl small there sets changes
@@ -179,22 +167,14 @@ invariant_of-self-2 g c =
     let there = ap Some c.as_mut-found.ensures.value ∙ c.in-Some.ensures.value in
     let new : File = c.end_truncate-now.new.self in
     let spares = λ (at : ℕ). at < c.args.length in
-    let still : KeepsOpen one.store c.set_config.new.self = still_twice one.store c.record_truncation.new.self c.set_config.new.self c.record_truncation.ensures.still c.set_config.ensures.still in
-    let sets = sets_through one.files (c.get_mut.follows.lender new) c.in_ok-inode.inode was new there (c.get_mut.follows.holds new) in
-    let resized : ChangesOpen spares c.set_config.new.self c.reserve_shown.new.self.blob c.cut_page.new.store c.cut_page.new.blob =
-    changes_less (λ at. at < c.in_ok-reached.reached) spares c.set_config.new.self c.cut_page.new.store c.reserve_shown.new.self.blob c.cut_page.new.blob
-    (λ at low. omega (arith, low, c.in_ok-reached.ensures.reached)) c.cut_page.ensures.still in
+    let still : KeepsOpen one.store c.set_config.new.self = still_twice one.store c.record_truncation.new.self c.set_config.new.self c.record_truncation.ensures.names.still c.set_config.ensures.contents.still in
     let changes : ChangesOpen spares one.store was.blob c.cut_page.new.store new.blob =
-    changes_again spares one.store c.cut_page.new.store c.reserve_shown.new.self.blob c.cut_page.new.blob was.blob new.blob c.reserve_shown.ensures.content.blob c.end_truncate-now.ensures.content.blob
-    (changes_after spares one.store c.set_config.new.self c.cut_page.new.store c.reserve_shown.new.self.blob c.cut_page.new.blob still resized) in
-    record {
-      opened = opened_changed spares one.store c.cut_page.new.store one.files (c.get_mut.follows.lender new) c.in_ok-inode.inode was new (omega arith) there sets changes one.opened;
-      named = named_after one.store c.cut_page.new.store one.files (c.get_mut.follows.lender new) (c.cut_page.ensures.keeps.names ∙ c.set_config.ensures.names ∙ c.record_truncation.ensures.names) (links_set one.files (c.get_mut.follows.lender new) c.in_ok-inode.inode was new there sets (same_at_most (sym (c.end_truncate-now.ensures.links ∙ c.reserve_shown.ensures.links)))) one.named;
-      tracked = tracked_store c.record_truncation.new.self c.cut_page.new.store (c.get_mut.follows.lender new) (c.cut_page.ensures.keeps.names ∙ c.set_config.ensures.names) (c.cut_page.ensures.keeps.told ∙ c.set_config.ensures.journal.told)
-          (tracked_freed (record { may = c.bindings.ensures.one_more; within = c.bindings.ensures.within_one_more; freed = c.bindings.ensures.freed_one_more })
-          one.store c.record_truncation.new.self c.in_ok-inode.inode one.files (c.get_mut.follows.lender new) c.record_truncation.ensures.names c.in_ok-edit.ensures.told
-          (freed_set one.files (c.get_mut.follows.lender new) c.in_ok-inode.inode was new there sets (c.end_truncate-now.ensures.gone ∙ c.reserve_shown.ensures.gone)) one.named one.tracked);
-    }
+    changes_cut one.store c.set_config.new.self c.cut_page.new.store c.args.length c.in_ok-reached.reached c.reserve_shown.new.self.blob c.cut_page.new.blob was.blob new.blob
+    c.in_ok-reached.ensures.reached still c.reserve_shown.ensures.content.blob c.end_truncate-now.ensures.content.blob c.cut_page.ensures.still in
+    standing_truncated (record { may = c.bindings.ensures.one_more; within = c.bindings.ensures.within_one_more; freed = c.bindings.ensures.freed_one_more })
+    one c.record_truncation.new.self c.cut_page.new.store (c.get_mut.follows.lender new) c.in_ok-inode.inode was new spares (omega arith) there (c.get_mut.follows.holds new) changes
+    (same_at_most (sym (c.end_truncate-now.ensures.links ∙ c.reserve_shown.ensures.links))) ((c.end_truncate-now.ensures.gone ∙ c.reserve_shown.ensures.gone))
+    c.record_truncation.ensures.names.table c.in_ok-edit.ensures.tells.told (edits_twice c.set_config.ensures.contents.edits c.cut_page.ensures.keeps)
 
 pub returns-then-is_failed-clause-fixed : goal.returns-then-is_failed-clause-fixed
 returns-then-is_failed-clause-fixed g c =
@@ -205,14 +185,11 @@ returns-then-is_failed-clause-fixed g c =
     let there = ap Some c.as_mut-found.ensures.value ∙ c.in-Some.ensures.value in
     let new : File = c.end_truncate-now.new.self in
     let spares = λ (at : ℕ). at < c.args.length in
-    let still : KeepsOpen one.store c.set_config.new.self = still_twice one.store c.record_truncation.new.self c.set_config.new.self c.record_truncation.ensures.still c.set_config.ensures.still in
+    let still : KeepsOpen one.store c.set_config.new.self = still_twice one.store c.record_truncation.new.self c.set_config.new.self c.record_truncation.ensures.names.still c.set_config.ensures.contents.still in
     let sets = sets_through one.files (c.get_mut.follows.lender new) c.in_ok-inode.inode was new there (c.get_mut.follows.holds new) in
-    let resized : ChangesOpen spares c.set_config.new.self c.reserve_shown.new.self.blob c.cut_page.new.store c.cut_page.new.blob =
-    changes_less (λ at. at < c.in_ok-reached.reached) spares c.set_config.new.self c.cut_page.new.store c.reserve_shown.new.self.blob c.cut_page.new.blob
-    (λ at low. omega (arith, low, c.in_ok-reached.ensures.reached)) c.cut_page.ensures.still in
     let changes : ChangesOpen spares one.store was.blob c.cut_page.new.store new.blob =
-    changes_again spares one.store c.cut_page.new.store c.reserve_shown.new.self.blob c.cut_page.new.blob was.blob new.blob c.reserve_shown.ensures.content.blob c.end_truncate-now.ensures.content.blob
-    (changes_after spares one.store c.set_config.new.self c.cut_page.new.store c.reserve_shown.new.self.blob c.cut_page.new.blob still resized) in
+    changes_cut one.store c.set_config.new.self c.cut_page.new.store c.args.length c.in_ok-reached.reached c.reserve_shown.new.self.blob c.cut_page.new.blob was.blob new.blob
+    c.in_ok-reached.ensures.reached still c.reserve_shown.ensures.content.blob c.end_truncate-now.ensures.content.blob c.cut_page.ensures.still in
     let opens = ap (λ (m : BTreeMap ℕ ℕ). get nat_cmp m (descriptor_number c.args.file)) (sym c.begin_call.ensures.files.opens) ∙ c.in_ok-inode.ensures in
     let small : c.in_ok-inode.inode < 2 ^ 64 = omega arith in
     let t : Truncation = record { edit = c.in_ok-edit.edit; length = c.in_ok-reached.reached; next_write = c.next_write-next_write.result } in
@@ -231,14 +208,11 @@ returns-clause-fixed g c =
     let there = ap Some c.as_mut-found.ensures.value ∙ c.in-Some.ensures.value in
     let new : File = c.end_truncate-now.new.self in
     let spares = λ (at : ℕ). at < c.args.length in
-    let still : KeepsOpen one.store c.set_config.new.self = still_twice one.store c.record_truncation.new.self c.set_config.new.self c.record_truncation.ensures.still c.set_config.ensures.still in
+    let still : KeepsOpen one.store c.set_config.new.self = still_twice one.store c.record_truncation.new.self c.set_config.new.self c.record_truncation.ensures.names.still c.set_config.ensures.contents.still in
     let sets = sets_through one.files (c.get_mut.follows.lender new) c.in_ok-inode.inode was new there (c.get_mut.follows.holds new) in
-    let resized : ChangesOpen spares c.set_config.new.self c.reserve_shown.new.self.blob c.cut_page.new.store c.cut_page.new.blob =
-    changes_less (λ at. at < c.in_ok-reached.reached) spares c.set_config.new.self c.cut_page.new.store c.reserve_shown.new.self.blob c.cut_page.new.blob
-    (λ at low. omega (arith, low, c.in_ok-reached.ensures.reached)) c.cut_page.ensures.still in
     let changes : ChangesOpen spares one.store was.blob c.cut_page.new.store new.blob =
-    changes_again spares one.store c.cut_page.new.store c.reserve_shown.new.self.blob c.cut_page.new.blob was.blob new.blob c.reserve_shown.ensures.content.blob c.end_truncate-now.ensures.content.blob
-    (changes_after spares one.store c.set_config.new.self c.cut_page.new.store c.reserve_shown.new.self.blob c.cut_page.new.blob still resized) in
+    changes_cut one.store c.set_config.new.self c.cut_page.new.store c.args.length c.in_ok-reached.reached c.reserve_shown.new.self.blob c.cut_page.new.blob was.blob new.blob
+    c.in_ok-reached.ensures.reached still c.reserve_shown.ensures.content.blob c.end_truncate-now.ensures.content.blob c.cut_page.ensures.still in
     let opens = ap (λ (m : BTreeMap ℕ ℕ). get nat_cmp m (descriptor_number c.args.file)) (sym c.begin_call.ensures.files.opens) ∙ c.in_ok-inode.ensures in
     let small : c.in_ok-inode.inode < 2 ^ 64 = omega arith in
     let t : Truncation = record { edit = c.in_ok-edit.edit; length = c.in_ok-reached.reached; next_write = c.next_write-next_write.result } in
@@ -291,7 +265,7 @@ returns-clause-noted g c =
         long = c.in_ok-reached.ensures.whole c.if-is_failed.false;
         edit = record {
           last = added.last;
-          is = ap (λ j. unsettled_of j) c.count.ensures.store ∙ c.in_ok-cut_page.ensures.unsettled ∙ c.set_config.ensures.journal.unsettled ∙ added.is
+          is = ap (λ j. unsettled_of j) c.count.ensures.store ∙ c.cut_page.ensures.keeps.unsettled ∙ c.set_config.ensures.contents.journal.unsettled ∙ added.is
               ∙ ap (λ (us : List Unsettled). us ++ added.last ∷ []) (drawn.unsettled ∙ c.in_ok-begin_call.ensures.journal.unsettled);
           edit = added.edit;
           about = added.about;
@@ -327,7 +301,7 @@ returns-clause-size g c =
     let drawn = c.draw_truncation.ensures.drawn.files in
     let small : inode < 2 ^ 64 = omega arith in
     let sets = sets_through one.files (c.get_mut.follows.lender new) inode was new there (c.get_mut.follows.holds new) in
-    let still : KeepsOpen one.store c.set_config.new.self = still_twice one.store c.record_truncation.new.self c.set_config.new.self c.record_truncation.ensures.still c.set_config.ensures.still in
+    let still : KeepsOpen one.store c.set_config.new.self = still_twice one.store c.record_truncation.new.self c.set_config.new.self c.record_truncation.ensures.names.still c.set_config.ensures.contents.still in
     let sized : size_of c.cut_page.new.blob.blob ≡ reached =
     resized_size one.store c.set_config.new.self one.files inode reached was c.cut_page.new.blob small (sym there) still
     (subst (λ (b : FileBlob). ResizesOpen reached c.set_config.new.self b c.cut_page.new.blob) c.reserve_shown.ensures.content.blob c.in_ok-cut_page.ensures.sized) one.opened in
@@ -345,22 +319,22 @@ pub returns-in_err-cut_page-clause-told : goal.returns-in_err-cut_page-clause-to
 returns-in_err-cut_page-clause-told g c =
     let inode = c.in_ok-inode.inode in
     let opens = ap (λ (m : BTreeMap ℕ ℕ). get nat_cmp m (descriptor_number c.args.file)) (sym c.begin_call.ensures.files.opens) ∙ c.in_ok-inode.ensures in
-    let recorded = c.in_ok-edit.ensures.told ∙ ap (λ (l : List Found). l ++ Some (resizes inode, false) ∷ []) (c.draw_truncation.ensures.drawn.told ∙ c.begin_call.ensures.keeps.told) in
-    inr (inode, opens, c.cut_page.ensures.keeps.told ∙ c.set_config.ensures.journal.told ∙ recorded)
+    let recorded = c.in_ok-edit.ensures.tells.told ∙ ap (λ (l : List Found). l ++ Some (resizes inode, false) ∷ []) (c.draw_truncation.ensures.drawn.told ∙ c.begin_call.ensures.keeps.told) in
+    inr (inode, opens, c.cut_page.ensures.keeps.told ∙ c.set_config.ensures.contents.journal.told ∙ recorded)
 
 pub returns-then-is_failed-clause-told : goal.returns-then-is_failed-clause-told
 returns-then-is_failed-clause-told g c =
     let inode = c.in_ok-inode.inode in
     let opens = ap (λ (m : BTreeMap ℕ ℕ). get nat_cmp m (descriptor_number c.args.file)) (sym c.begin_call.ensures.files.opens) ∙ c.in_ok-inode.ensures in
-    let recorded = c.in_ok-edit.ensures.told ∙ ap (λ (l : List Found). l ++ Some (resizes inode, false) ∷ []) (c.draw_truncation.ensures.drawn.told ∙ c.begin_call.ensures.keeps.told) in
-    inr (inode, opens, c.count.ensures.keeps.told ∙ c.cut_page.ensures.keeps.told ∙ c.set_config.ensures.journal.told ∙ recorded)
+    let recorded = c.in_ok-edit.ensures.tells.told ∙ ap (λ (l : List Found). l ++ Some (resizes inode, false) ∷ []) (c.draw_truncation.ensures.drawn.told ∙ c.begin_call.ensures.keeps.told) in
+    inr (inode, opens, c.count.ensures.keeps.told ∙ c.cut_page.ensures.keeps.told ∙ c.set_config.ensures.contents.journal.told ∙ recorded)
 
 pub returns-clause-told : goal.returns-clause-told
 returns-clause-told g c =
     let inode = c.in_ok-inode.inode in
     let opens = ap (λ (m : BTreeMap ℕ ℕ). get nat_cmp m (descriptor_number c.args.file)) (sym c.begin_call.ensures.files.opens) ∙ c.in_ok-inode.ensures in
-    let recorded = c.in_ok-edit.ensures.told ∙ ap (λ (l : List Found). l ++ Some (resizes inode, false) ∷ []) (c.draw_truncation.ensures.drawn.told ∙ c.begin_call.ensures.keeps.told) in
-    inr (inode, opens, c.count.ensures.keeps.told ∙ c.cut_page.ensures.keeps.told ∙ c.set_config.ensures.journal.told ∙ recorded)
+    let recorded = c.in_ok-edit.ensures.tells.told ∙ ap (λ (l : List Found). l ++ Some (resizes inode, false) ∷ []) (c.draw_truncation.ensures.drawn.told ∙ c.begin_call.ensures.keeps.told) in
+    inr (inode, opens, c.count.ensures.keeps.told ∙ c.cut_page.ensures.keeps.told ∙ c.set_config.ensures.contents.journal.told ∙ recorded)
 
 pub returns-in_err-zeros-clause-fixed : goal.returns-in_err-zeros-clause-fixed
 returns-in_err-zeros-clause-fixed g c = λ inode at byte below spared f. c.draw_truncation.ensures.drawn.fixed inode at byte below (c.begin_call.ensures.keeps.fixed inode at byte below f)

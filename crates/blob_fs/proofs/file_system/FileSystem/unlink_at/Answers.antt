@@ -1,21 +1,17 @@
-use Rattle.std.proofs.Common.{Option, ap₂}
+use Rattle.std.proofs.Common.{Option, ap₂, ◌≡◌, ◌∷◌, [], ℕ, None, Some, ap, pred, subst, sym, ◌∙◌, List}
 use Rattle.std.specs.Prelude.{option_map, unwrap_or}
 use Rattle.blob_directory.specs.declared.edit.Binding.{Binding}
 use Rattle.blob_directory.specs.declared.table.Table.{Table}
 use Rattle.blob_directory.specs.Tables.{bound}
-use Rattle.blob_directory.specs.Names.{entry}
-use Rattle.blob_fs.specs.Files.{about_name}
-use Rattle.std.proofs.Common.{◌≡◌, ◌∷◌, [], ℕ, None, Some, ap, pred, subst, sym, ◌∙◌}
+use Rattle.blob_directory.specs.Names.{entry, Same, edited, file}
+use Rattle.blob_fs.specs.Files.{about_name, names_of}
 use Rattle.std.specs.BTreeMap.{BTreeMap, get}
 use Rattle.std.specs.Ordering.{nat_cmp}
 use Rattle.blob_directory.specs.Counts.{NamedAtMost}
-use Rattle.blob_directory.specs.Names.{Same, edited, file}
 use Rattle.blob_fs.specs.declared.file_system.File as fs_file
 use Rattle.blob_fs.specs.Named.{links_in}
 use Rattle.blob_fs.proofs.Naming.{file_is}
-use Rattle.blob_fs.specs.Files.{names_of}
 use Rattle.blob_fs.proofs.Named.{edit_is, freed, one_freed}
-use Rattle.std.proofs.Common.{◌∷◌, [], List, None, ap, ℕ, ◌∙◌}
 use Rattle.blob_fs.proofs.Noting.{noted_between}
 use Rattle.blob_fs.specs.declared.file_system.Options.{Options}
 use Rattle.blob_fs.proofs.States.{makes_after, rest_after, rest_before}

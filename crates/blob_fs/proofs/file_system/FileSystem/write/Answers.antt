@@ -1,16 +1,16 @@
-use Rattle.std.proofs.Common.{◌<◌, ◌≤◌, ◌^◌, ℕ, ap, length, sym, subst, ◌∙◌, arith, Some}
+use Rattle.std.proofs.Common.{◌<◌, ◌≤◌, ◌^◌, ℕ, ap, length, sym, subst, ◌∙◌, arith, Some, ◌≡◌, ◌+◌, List, Option, ap₂, false, inl, inr, max, true, ⊎_elim}
 use Rattle.std.proofs.Math.Logic.{∥∥₁_elim}
 use Rattle.std.specs.BTreeMap.{BTreeMap, get}
 use Rattle.std.specs.Coded.{Coded-set, coded_list, coded_option, coded_ℕ}
-use Rattle.std.specs.Ordering.{nat_cmp}
+use Rattle.std.specs.Ordering.{nat_cmp, is_eq}
 use Rattle.std.specs.Prelude.{option_map}
 use Rattle.blob_model.specs.Draws.{chosen_by}
-use Rattle.blob_model.specs.Log.{replay_log}
+use Rattle.blob_model.specs.Log.{replay_log, Entry}
 use Rattle.blob_draws.specs.Rows.{table_of}
 use Rattle.blob_journal.specs.declared.journaled.Journaled.{Journaled}
 use Rattle.blob_journal.specs.declared.store.FileBlob.{FileBlob}
-use Rattle.blob_journal.specs.Blobs.{IsCurrent, crashed_file}
-use Rattle.blob_journal.specs.Fixed.{ChangesOpen, IsBeside}
+use Rattle.blob_journal.specs.Blobs.{IsCurrent, crashed_file, bytes_of}
+use Rattle.blob_journal.specs.Fixed.{ChangesOpen, IsBeside, IsOpen}
 use Rattle.blob_fs.specs.declared.file_system.File.{File}
 use Rattle.blob_fs.specs.declared.file_system.Options.{Options}
 use Rattle.blob_fs.specs.Files.{descriptor_number}
@@ -18,16 +18,11 @@ use Rattle.blob_fs.proofs.Calls.{was_ok}
 use Rattle.blob_fs.specs.Open.{KeepsCutsOf}
 use Rattle.blob_fs.proofs.Fixed.{changes_again, contents_same, contents_through, cuts_from, cuts_of, cuts_same, cuts_set, fixed_after, fixed_twice, keeps_spared, sets_through, still_self, synced_kept}
 use Rattle.blob_fs.proofs.Named.{same_at_most}
-use Rattle.std.proofs.Common.{◌≡◌, ◌+◌, List, Option, ap₂, false, inl, inr, max, true, ⊎_elim}
 use Rattle.std.proofs.lemmas.Bool.{cond-true}
-use Rattle.std.specs.Ordering.{is_eq}
 use Rattle.blob_model.specs.Bytes.{write_live}
-use Rattle.blob_journal.specs.Blobs.{bytes_of}
-use Rattle.blob_journal.specs.Fixed.{IsOpen}
 use Rattle.blob_fs.proofs.Reading.{read_blob, shows_grown}
 use Rattle.blob_fs.proofs.Recovering.{key_self}
 use Rattle.blob_model.specs.Files.{all_logged}
-use Rattle.blob_model.specs.Log.{Entry}
 use Rattle.blob_model.specs.Rates.{Rate}
 use Rattle.blob_model.specs.declared.mode.PartialWriteMode.{PartialWriteMode}
 use Rattle.blob_draws.specs.Changes.{loose}
@@ -107,7 +102,7 @@ invariant_of-self-2 g c =
     changes_again spares one.store c.write_grown-written.new.store c.reserve_shown.new.self.blob c.write_grown-written.new.blob was.blob new.blob
     c.reserve_shown.ensures.content.blob c.end_write-now.ensures.content.blob c.write_grown-written.ensures.still in
     standing_changed spares one c.write_grown-written.new.store (c.get_mut.follows.lender new) c.in_ok-inode.inode was new (omega arith) there (c.get_mut.follows.holds new) changes
-    (same_at_most (sym (c.end_write-now.ensures.links ∙ c.reserve_shown.ensures.links))) (c.end_write-now.ensures.gone ∙ c.reserve_shown.ensures.gone) c.write_grown-written.ensures.keeps.names c.write_grown-written.ensures.keeps.told
+    (same_at_most (sym (c.end_write-now.ensures.links ∙ c.reserve_shown.ensures.links))) (c.end_write-now.ensures.gone ∙ c.reserve_shown.ensures.gone) c.write_grown-written.ensures.keeps
 
 pub returns-in-Ok-clause-recorded : goal.returns-in-Ok-clause-recorded
 returns-in-Ok-clause-recorded g c = λ by_mode no_zeros.

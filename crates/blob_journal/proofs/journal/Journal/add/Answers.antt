@@ -1,38 +1,30 @@
-use Rattle.blob_journal.proofs.Draws.{IsLoose}
-use Rattle.std.proofs.Common.{◌≡◌, ◌++◌, ◌∷◌, [], ◌+◌, ℕ, List, Bool, false, None, Some, length, ap, refl, sym, subst, ◌∙◌, rules}
+use Rattle.blob_journal.proofs.Draws.{IsLoose, done_entries, refused_entries, refused_live}
+use Rattle.std.proofs.Common.{◌≡◌, ◌++◌, ◌∷◌, [], ◌+◌, ℕ, List, Bool, false, None, Some, length, ap, refl, sym, subst, ◌∙◌, rules, ◌<◌, ◌≤◌, ◌-◌, ◌^◌, ap₂, arith, vec_len, Option}
 use Rattle.blob_base.specs.Options.{is_sync}
 use Rattle.blob_header.specs.Refusals.{refusal_of}
 use Rattle.blob_model.specs.Places.{Place}
 use Rattle.blob_model.specs.Bytes.{write_live}
-use Rattle.blob_memory.specs.Store.{directory, live, place}
+use Rattle.blob_memory.specs.Store.{directory, live, place, durable}
 use Rattle.blob_draws.specs.Recorded.{live_of_write, recorded_write}
-use Rattle.blob_faulty.specs.Keeps.{OverMemory}
-use Rattle.blob_faulty.specs.Wrapper.{config_of, inner_of, inside, next_write_of, rng_of}
+use Rattle.blob_faulty.specs.Keeps.{OverMemory, IsFor}
+use Rattle.blob_faulty.specs.Wrapper.{config_of, inner_of, inside, next_write_of, rng_of, Stands}
 use Rattle.blob_directory.specs.Names.{edit_of}
 use Rattle.blob_packed.specs.Losses.{may_be_left}
 use Rattle.blob_packed.specs.Records.{packed, record_bytes}
-use Rattle.blob_directory.specs.Records.{edit_bytes}
+use Rattle.blob_directory.specs.Records.{edit_bytes, record_of}
 use Rattle.blob_journal.specs.Currents.{FindsOnly}
-use Rattle.blob_journal.specs.Draws.{DrawsWhole}
-use Rattle.blob_journal.proofs.Draws.{done_entries, refused_entries, refused_live}
+use Rattle.blob_journal.specs.Draws.{DrawsWhole, entries_of_record, kept_whole}
 use Rattle.blob_journal.proofs.Found.{no_more_set, nothing_added, on_err, record_added}
 use Rattle.blob_journal.proofs.Records.{as_short, fit_more, longer}
-use Rattle.std.proofs.Common.{◌<◌, ◌≤◌, ◌-◌, ◌^◌, ap₂, arith, vec_len}
 use Rattle.std.proofs.lemmas.List.{length_push}
 use Rattle.blob_memory.specs.declared.storage.Storage as memory
-use Rattle.std.proofs.Common.{Option}
 use Rattle.blob_model.specs.Directory.{Directory}
 use Rattle.blob_model.specs.Files.{all_logged}
 use Rattle.blob_model.specs.Log.{Entry}
 use Rattle.blob_model.specs.Rates.{Rate}
 use Rattle.blob_model.specs.declared.mode.PartialWriteMode.{PartialWriteMode}
-use Rattle.blob_memory.specs.Store.{durable}
 use Rattle.blob_draws.specs.Changes.{loose}
 use Rattle.blob_draws.specs.Faults.{retention}
-use Rattle.blob_directory.specs.Records.{record_of}
-use Rattle.blob_faulty.specs.Keeps.{IsFor}
-use Rattle.blob_faulty.specs.Wrapper.{Stands}
-use Rattle.blob_journal.specs.Draws.{entries_of_record, kept_whole}
 use Rattle.blob_journal.proofs.Writes.{recorded_loose}
 use Rattle.blob_journal.proofs.journal.Journal.add.Goals as goal
 
@@ -116,30 +108,6 @@ returns-clause-left g c = λ rs h.
       found = subst (λ (o : Place). FindsOnly new o (may_be_left 0 (rs ++ (x, false) ∷ []))) (sym w.place) found;
     }
 
-pub returns-in_err-write_from-clause-beside : goal.returns-in_err-write_from-clause-beside
-returns-in_err-write_from-clause-beside g c = λ given o test other k.
-    let w = c.in_err-write_from.ensures in
-    let store = c.args.store.now in
-    let mid = c.set_config.new.self in
-    let set = c.set_config.ensures.set in
-    let at : Place = place (inside c.args.self.now.blob) in
-    let es = recorded_write (config_of mid) (next_write_of mid) (g.R.Rng.stream (rng_of mid)) (is_sync c.default.result) c.args.self.now.end c.deref.result.now (Some (refusal_of c.in_err-write_from.field-0.0)) in
-    let inner : inner_of mid ≡ inner_of store = ap (λ (s : OverMemory g.row.R.Denot). inner_of s) set in
-    c.other_blobs.ensures.recorded mid c.write_from.new.store at o test es (subst (λ (s : memory.Storage). at.number < (directory s).next) (sym inner) given) other w.directory (w.leaves.recorded refl)
-    (no_more_set store mid c.faults_of.result set o test k)
-
-pub returns-clause-beside : goal.returns-clause-beside
-returns-clause-beside g c = λ given o test other k.
-    let w = c.in_ok-write_from.ensures in
-    let store = c.args.store.now in
-    let mid = c.set_config.new.self in
-    let set = c.set_config.ensures.set in
-    let at : Place = place (inside c.args.self.now.blob) in
-    let es = recorded_write (config_of mid) (next_write_of mid) (g.R.Rng.stream (rng_of mid)) (is_sync c.default.result) c.args.self.now.end c.deref.result.now None in
-    let inner : inner_of mid ≡ inner_of store = ap (λ (s : OverMemory g.row.R.Denot). inner_of s) set in
-    c.other_blobs.ensures.recorded mid c.write_from.new.store at o test es (subst (λ (s : memory.Storage). at.number < (directory s).next) (sym inner) given) other w.directory (w.leaves.recorded refl)
-    (no_more_set store mid c.faults_of.result set o test k)
-
 pub returns-clause-logged : goal.returns-clause-logged
 returns-clause-logged g c = λ given files for.
     let store = c.args.store.now in
@@ -165,3 +133,37 @@ returns-clause-logged g c = λ given files for.
     let more = w.leaves.done refl files (subst (λ (s : memory.Storage). at.number < (directory s).next) (sym inner) given) (c.set_config.ensures.files files for) in
     subst (λ (es : List Entry). IsFor new (all_logged files at es)) is
     (subst (λ (d : Directory). Stands (λ (o : Place). o) d (durable (inner_of new)) new (all_logged files at (recorded_write (config_of mid) (next_write_of mid) stream (is_sync c.default.result) offset bytes None))) (sym w.directory) more)
+
+pub returns-in_err-write_from-clause-writes : goal.returns-in_err-write_from-clause-writes
+returns-in_err-write_from-clause-writes g c =
+    let w = c.in_err-write_from.ensures in
+    let store = c.args.store.now in
+    let mid = c.set_config.new.self in
+    let set = c.set_config.ensures.set in
+    let at : Place = place (inside c.args.self.now.blob) in
+    let es = recorded_write (config_of mid) (next_write_of mid) (g.R.Rng.stream (rng_of mid)) (is_sync c.default.result) c.args.self.now.end c.deref.result.now (Some (refusal_of c.in_err-write_from.field-0.0)) in
+    let inner : inner_of mid ≡ inner_of store = ap (λ (s : OverMemory g.row.R.Denot). inner_of s) set in
+    record {
+      place = w.place;
+      generation = refl;
+      directory = w.directory ∙ ap (λ (s : memory.Storage). directory s) inner;
+      beside = λ given o test other k. c.other_blobs.ensures.recorded mid c.write_from.new.store at o test es (subst (λ (s : memory.Storage). at.number < (directory s).next) (sym inner) given) other w.directory (w.leaves.recorded refl)
+          (no_more_set store mid c.faults_of.result set o test k);
+    }
+
+pub returns-clause-writes : goal.returns-clause-writes
+returns-clause-writes g c =
+    let w = c.in_ok-write_from.ensures in
+    let store = c.args.store.now in
+    let mid = c.set_config.new.self in
+    let set = c.set_config.ensures.set in
+    let at : Place = place (inside c.args.self.now.blob) in
+    let es = recorded_write (config_of mid) (next_write_of mid) (g.R.Rng.stream (rng_of mid)) (is_sync c.default.result) c.args.self.now.end c.deref.result.now None in
+    let inner : inner_of mid ≡ inner_of store = ap (λ (s : OverMemory g.row.R.Denot). inner_of s) set in
+    record {
+      place = w.place;
+      generation = refl;
+      directory = w.directory ∙ ap (λ (s : memory.Storage). directory s) inner;
+      beside = λ given o test other k. c.other_blobs.ensures.recorded mid c.write_from.new.store at o test es (subst (λ (s : memory.Storage). at.number < (directory s).next) (sym inner) given) other w.directory (w.leaves.recorded refl)
+          (no_more_set store mid c.faults_of.result set o test k);
+    }

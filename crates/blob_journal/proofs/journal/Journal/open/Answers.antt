@@ -1,23 +1,14 @@
-use Rattle.std.proofs.Common.{◌≤◌}
-use Rattle.std.proofs.Common.{◌<◌, subst}
-use Rattle.std.proofs.Common.{ℕ, List, Some, ap, sym, ◌∙◌}
+use Rattle.std.proofs.Common.{◌<◌, subst, ℕ, List, Some, ap, sym, ◌∙◌, arith, refl, rules, ◌≡◌}
 use Rattle.std.specs.Prelude.{codes}
 use Rattle.blob_model.specs.Directory.{current, is_current}
 use Rattle.blob_memory.specs.Store.{directory, durable, place}
 use Rattle.blob_memory.specs.declared.storage.Storage as memory
 use Rattle.blob_faulty.specs.Wrapper.{inner_of, inside}
 use Rattle.blob_journal.proofs.Blobs.{blob_same, blob_twice, partition_beside}
-use Rattle.blob_journal.proofs.Limits.{still_accepted}
-use Rattle.std.proofs.Common.{arith, refl}
-use Rattle.std.proofs.Common.{rules}
 use Rattle.blob_journal.specs.Limits.{IsLimit}
 use Rattle.blob_header.specs.Refusals.{error_of}
-use Rattle.std.proofs.Common.{◌≡◌}
-use Rattle.blob_journal.proofs.Fixed.{incarnations_same}
+use Rattle.blob_journal.proofs.Stores.{store_twice}
 use Rattle.blob_journal.proofs.journal.Journal.open.Goals as goal
-
-pub returns-in_err-bytes-clause-kept : goal.returns-in_err-bytes-clause-kept
-returns-in_err-bytes-clause-kept g c = λ o h. ap (λ (s : memory.Storage). is_current (directory s) o) c.read_all.ensures.inner ∙ c.open.ensures.kept o h
 
 pub returns-clause-current : goal.returns-clause-current
 returns-clause-current g c =
@@ -27,20 +18,11 @@ pub returns-clause-found : goal.returns-clause-found
 returns-clause-found g c = λ o is. c.in_ok-blob.ensures.found o (ap (λ (n : List ℕ). current (directory (inner_of c.args.store.now)) (codes "j") n) c.to_be_bytes.ensures ∙ is)
     ∙ ap Some (sym (c.in_ok-bytes.ensures.bytes c.in_ok-blob.ensures.size))
 
-pub returns-clause-kept : goal.returns-clause-kept
-returns-clause-kept g c = λ o h. ap (λ (s : memory.Storage). is_current (directory s) o) c.read_all.ensures.inner ∙ c.open.ensures.kept o h
-
 pub returns-clause-durable : goal.returns-clause-durable
 returns-clause-durable g c =
     ap (λ (s : memory.Storage). durable s (place (inside c.in_ok-blob.blob))) c.read_all.ensures.inner
     ∙ c.in_ok-blob.ensures.durable
     ∙ ap Some (sym (c.in_ok-bytes.ensures.bytes c.in_ok-blob.ensures.size))
-
-pub returns-in_err-bytes-clause-left : goal.returns-in_err-bytes-clause-left
-returns-in_err-bytes-clause-left g c = λ o test k. c.read_all.ensures.left o test (c.open.ensures.left o test k)
-
-pub returns-clause-left : goal.returns-clause-left
-returns-clause-left g c = λ o test k. c.read_all.ensures.left o test (c.open.ensures.left o test k)
 
 pub returns-clause-begun : goal.returns-clause-begun
 returns-clause-begun g c = λ none. c.in_ok-bytes.ensures.bytes c.in_ok-blob.ensures.size
@@ -52,23 +34,11 @@ returns-clause-numbered g c = λ none. c.in_ok-blob.ensures.numbered (ap (λ (n 
 pub returns-clause-given : goal.returns-clause-given
 returns-clause-given g c = subst (λ (s : memory.Storage). (place (inside c.in_ok-blob.blob)).number < (directory s).next) (sym c.read_all.ensures.inner) c.in_ok-blob.ensures.given
 
-pub returns-in_err-bytes-clause-next : goal.returns-in_err-bytes-clause-next
-returns-in_err-bytes-clause-next g c = subst (λ (s : memory.Storage). (directory (inner_of c.args.store.now)).next ≤ (directory s).next) (sym c.read_all.ensures.inner) c.open.ensures.next
-
-pub returns-clause-next : goal.returns-clause-next
-returns-clause-next g c = subst (λ (s : memory.Storage). (directory (inner_of c.args.store.now)).next ≤ (directory s).next) (sym c.read_all.ensures.inner) c.open.ensures.next
-
 pub returns-clause-blobs : goal.returns-clause-blobs
 returns-clause-blobs g c = λ m.
     let inner = c.read_all.ensures.inner in
     blob_twice (codes "f") m c.args.store.now c.open.new.store c.read_all.new.store (partition_beside c.args.store.now c.open.new.store c.to_be_bytes.result c.open.ensures.others m)
     (blob_same (codes "f") m c.open.new.store c.read_all.new.store (ap (λ (s : memory.Storage). directory s) inner) (ap (λ (s : memory.Storage). durable s) inner))
-
-pub returns-in_err-bytes-clause-accepted : goal.returns-in_err-bytes-clause-accepted
-returns-in_err-bytes-clause-accepted g c = λ all. still_accepted c.open.new.store c.read_all.new.store (ap (λ (s : memory.Storage). directory s) c.read_all.ensures.inner) (c.open.ensures.accepted all)
-
-pub returns-clause-accepted : goal.returns-clause-accepted
-returns-clause-accepted g c = λ all. still_accepted c.open.new.store c.read_all.new.store (ap (λ (s : memory.Storage). directory s) c.read_all.ensures.inner) (c.open.ensures.accepted all)
 
 pub returns-in_err-blob-clause-errors : goal.returns-in_err-blob-clause-errors
 returns-in_err-blob-clause-errors g c = λ q.
@@ -78,10 +48,10 @@ returns-in_err-blob-clause-errors g c = λ q.
 pub returns-in_err-bytes-clause-errors : goal.returns-in_err-bytes-clause-errors
 returns-in_err-bytes-clause-errors g c = λ q.
     let said : error_of c.from_residual-in_err-bytes.result ≡ error_of c.read_all.result = search rules in
-    subst (IsLimit _) (sym said) (c.read_all.ensures.errors (c.open.ensures.faults ∙ q.0) (omega (arith, c.in_ok-blob.ensures.size)))
+    subst (IsLimit _) (sym said) (c.read_all.ensures.errors (c.open.ensures.keeps.faults ∙ q.0) (omega (arith, c.in_ok-blob.ensures.size)))
 
-pub returns-in_err-bytes-clause-incarnations : goal.returns-in_err-bytes-clause-incarnations
-returns-in_err-bytes-clause-incarnations g c = λ p n o is. incarnations_same c.open.new.store c.read_all.new.store (ap (λ (s : memory.Storage). directory s) c.read_all.ensures.inner) p n o (c.open.ensures.incarnations p n o is)
+pub returns-in_err-bytes-clause-keeps : goal.returns-in_err-bytes-clause-keeps
+returns-in_err-bytes-clause-keeps g c = store_twice _ _ _ c.open.ensures.keeps c.read_all.ensures.keeps
 
-pub returns-clause-incarnations : goal.returns-clause-incarnations
-returns-clause-incarnations g c = λ p n o is. incarnations_same c.open.new.store c.read_all.new.store (ap (λ (s : memory.Storage). directory s) c.read_all.ensures.inner) p n o (c.open.ensures.incarnations p n o is)
+pub returns-clause-keeps : goal.returns-clause-keeps
+returns-clause-keeps g c = store_twice _ _ _ c.open.ensures.keeps c.read_all.ensures.keeps

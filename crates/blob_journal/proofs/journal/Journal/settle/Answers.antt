@@ -6,30 +6,25 @@ use Rattle.blob_journal.proofs.Currents.{named_current}
 use Rattle.blob_packed.specs.Losses.{may_be_left}
 use Rattle.blob_packed.specs.Records.{FitFrom, Record, packed, record_bytes}
 use Rattle.blob_directory.specs.declared.unsettled.Unsettled.{Unsettled}
-use Rattle.blob_journal.specs.Currents.{FindsOnly}
+use Rattle.blob_journal.specs.Currents.{FindsOnly, left_at}
 use Rattle.blob_faulty.specs.Outcomes.{IsNotMissing}
-use Rattle.blob_draws.specs.Recorded.{kept_entries}
-use Rattle.blob_memory.specs.Store.{live}
+use Rattle.blob_draws.specs.Recorded.{kept_entries, recorded_write}
+use Rattle.blob_memory.specs.Store.{live, directory, durable, place}
 use Rattle.blob_model.specs.Live.{live_written}
-use Rattle.blob_model.specs.Bytes.{write_live}
+use Rattle.blob_model.specs.Bytes.{write_live, overlay}
 use Rattle.blob_header.specs.Refusals.{refusal_of}
-use Rattle.std.proofs.Common.{◌∷◌, ◌++◌, ◌<◌, suc, [], Some, length, rules, subst, sym}
-use Rattle.std.proofs.Common.{◌≡◌, ℕ, List, None, true, option_map, ap, ap₂, refl, ◌∙◌}
+use Rattle.std.proofs.Common.{◌∷◌, ◌++◌, ◌<◌, suc, [], Some, length, rules, subst, sym, ◌≡◌, ℕ, List, None, true, option_map, ap, ap₂, refl, ◌∙◌}
 use Rattle.std.proofs.lemmas.Bool.{cond-true}
-use Rattle.blob_model.specs.Bytes.{overlay}
 use Rattle.blob_model.specs.Directory.{is_current}
 use Rattle.blob_model.specs.Durable.{Durable}
 use Rattle.blob_model.specs.Files.{all_logged}
 use Rattle.blob_model.specs.Places.{Place, same_place}
 use Rattle.blob_model.specs.SamePlace.{same_self}
-use Rattle.blob_memory.specs.Store.{directory, durable, place}
 use Rattle.blob_memory.specs.declared.storage.Storage as memory
-use Rattle.blob_draws.specs.Recorded.{recorded_write}
 use Rattle.blob_faulty.specs.Keeps.{OverMemory}
 use Rattle.blob_faulty.specs.Wrapper.{config_of, inner_of, inside, next_write_of, rng_of}
 use Rattle.blob_directory.specs.Names.{edit_of}
 use Rattle.blob_directory.specs.Records.{edit_bytes, record_of}
-use Rattle.blob_journal.specs.Currents.{left_at}
 use Rattle.blob_journal.proofs.Settling.{settled_left}
 use Rattle.blob_journal.proofs.journal.Journal.settle.Goals as goal
 
@@ -142,8 +137,8 @@ returns-clause-left g c = λ rs e h.
     same_count [] after r r' = refl
     same_count (x ∷ before) after r r' = ap suc (same_count before after r r')
 
-pub returns-in_err-write_from-clause-beside : goal.returns-in_err-write_from-clause-beside
-returns-in_err-write_from-clause-beside g c = λ given o test other k.
+pub returns-in_err-write_from-clause-writes : goal.returns-in_err-write_from-clause-writes
+returns-in_err-write_from-clause-writes g c =
     let w = c.in_err-write_from.ensures in
     let store = c.args.store.now in
     let mid = c.set_config.new.self in
@@ -151,11 +146,16 @@ returns-in_err-write_from-clause-beside g c = λ given o test other k.
     let at : Place = place (inside c.args.self.now.blob) in
     let es = recorded_write (config_of mid) (next_write_of mid) (g.R.Rng.stream (rng_of mid)) true c.args.edit.now.offset c.deref.result.now (Some (refusal_of c.in_err-write_from.field-0.0)) in
     let inner : inner_of mid ≡ inner_of store = ap (λ (s : OverMemory g.row.R.Denot). inner_of s) set in
-    c.other_blobs.ensures.recorded mid c.write_from.new.store at o test es (subst (λ (s : memory.Storage). at.number < (directory s).next) (sym inner) given) other w.directory (w.leaves.recorded refl)
-    (no_more_set store mid c.default.result set o test k)
+    record {
+      place = w.place;
+      generation = refl;
+      directory = w.directory ∙ ap (λ (s : memory.Storage). directory s) inner;
+      beside = λ given o test other k. c.other_blobs.ensures.recorded mid c.write_from.new.store at o test es (subst (λ (s : memory.Storage). at.number < (directory s).next) (sym inner) given) other w.directory (w.leaves.recorded refl)
+          (no_more_set store mid c.default.result set o test k);
+    }
 
-pub returns-clause-beside : goal.returns-clause-beside
-returns-clause-beside g c = λ given o test other k.
+pub returns-clause-writes : goal.returns-clause-writes
+returns-clause-writes g c =
     let w = c.in_ok-write_from.ensures in
     let store = c.args.store.now in
     let mid = c.set_config.new.self in
@@ -163,5 +163,10 @@ returns-clause-beside g c = λ given o test other k.
     let at : Place = place (inside c.args.self.now.blob) in
     let es = recorded_write (config_of mid) (next_write_of mid) (g.R.Rng.stream (rng_of mid)) true c.args.edit.now.offset c.deref.result.now None in
     let inner : inner_of mid ≡ inner_of store = ap (λ (s : OverMemory g.row.R.Denot). inner_of s) set in
-    c.other_blobs.ensures.recorded mid c.write_from.new.store at o test es (subst (λ (s : memory.Storage). at.number < (directory s).next) (sym inner) given) other w.directory (w.leaves.recorded refl)
-    (no_more_set store mid c.default.result set o test k)
+    record {
+      place = w.place;
+      generation = refl;
+      directory = w.directory ∙ ap (λ (s : memory.Storage). directory s) inner;
+      beside = λ given o test other k. c.other_blobs.ensures.recorded mid c.write_from.new.store at o test es (subst (λ (s : memory.Storage). at.number < (directory s).next) (sym inner) given) other w.directory (w.leaves.recorded refl)
+          (no_more_set store mid c.default.result set o test k);
+    }

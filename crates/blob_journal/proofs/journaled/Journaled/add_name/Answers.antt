@@ -35,7 +35,7 @@ returns-clause-told g c =
     let self = c.args.self.now in
     let seen : names_in self c.in-Some.entry.items ≡ Some c.in-Some.to =
     ap (λ (e : List ℕ). names_in self e) (sym c.deref.ensures.value) ∙ sym c.get.ensures ∙ c.in-Some-get.is ∙ ap Some c.if-not-is_same.ensures in
-    tells_by c.add_edit.result self c.add_edit.new.self _ (view_name (c.in-Some.entry, c.in-Some.to)) c.one.ensures seen c.add_edit.ensures.told c.add_edit.ensures.untold
+    tells_by c.add_edit.result self c.add_edit.new.self _ c.args.rate (view_name (c.in-Some.entry, c.in-Some.to)) c.one.ensures seen c.add_edit.ensures.tells c.add_edit.ensures.refused
 
 pub returns-clause-added : goal.returns-clause-added
 returns-clause-added g c =

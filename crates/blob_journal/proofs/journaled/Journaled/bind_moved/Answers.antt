@@ -4,16 +4,13 @@ use Rattle.std.proofs.lemmas.List.{get_or_append_left, length-append, length-map
 use Rattle.blob_directory.specs.declared.unsettled.Unsettled.{Unsettled}
 use Rattle.blob_directory.specs.Syncs.{unbound}
 use Rattle.blob_journal.specs.Settling.{unsettled_of}
-use Rattle.blob_journal.proofs.Again.{adds_twice, bound_more, map_parts, open_twice, tells_twice, unbound_kept}
+use Rattle.blob_journal.proofs.Again.{adds_twice, bound_more, map_parts, tells_twice, unbound_kept, names_twice}
 use Rattle.blob_journal.proofs.Fixed.{keeps_between}
 use Rattle.blob_journal.proofs.Listed.{whole}
 use Rattle.blob_journal.proofs.journaled.Journaled.bind_moved.Goals as goal
 
 pub returns-in_err-bind_one-clause-told : goal.returns-in_err-bind_one-clause-told
-returns-in_err-bind_one-clause-told g c = let i = c.loop-at.invariant in tells_twice _ _ _ i.names i.told c.bind_one.ensures.told
-
-pub returns-in_err-bind_one-clause-still : goal.returns-in_err-bind_one-clause-still
-returns-in_err-bind_one-clause-still g c = open_twice _ _ _ c.loop-at.invariant.still c.bind_one.ensures.still
+returns-in_err-bind_one-clause-told g c = let i = c.loop-at.invariant in tells_twice _ _ _ i.names.table i.told c.bind_one.ensures.told
 
 pub loop-at-preserved : goal.loop-at-preserved
 loop-at-preserved g c =
@@ -24,13 +21,11 @@ loop-at-preserved g c =
     let long : length (unsettled_of mid) ≡ length (unsettled_of self ++ i.more) = ap (λ (l : List Unsettled). length l) i.adds.is in
     let both = length-append (unsettled_of self) i.more in
     record {
-      names = c.bind_one.ensures.names ∙ i.names;
-      told = tells_twice _ _ _ i.names i.told c.bind_one.ensures.told;
-      log = c.bind_one.ensures.log ∙ i.log;
-      still = open_twice _ _ _ i.still c.bind_one.ensures.still;
+      names = names_twice _ _ _ i.names c.bind_one.ensures.names;
+      told = tells_twice _ _ _ i.names.table i.told c.bind_one.ensures.told;
       more = i.more ++ b.more;
       adds = adds_twice _ _ _ i.more b.more i.adds b.adds;
-      bound = λ k e low under is. bound_more self mid c.args.directory c.loop-at.at k e i.more b.more i.names
+      bound = λ k e low under is. bound_more self mid c.args.directory c.loop-at.at k e i.more b.more i.names.table
           (λ before. i.bound k e before under is)
           (λ now. b.bound e (omega (arith, now, under, long, both))
           (is ∙ sym (get_or_append_left (unsettled_of self) i.more e k under) ∙ ap (λ (l : List Unsettled). get_or l k e) (sym i.adds.is) ∙ ap (λ n. get_or (unsettled_of mid) n e) now))
@@ -68,5 +63,8 @@ returns-clause-bound g c =
       bound = λ e there. i.bound there.0 e (omega (arith, there.1, c.loop-at-test.false, c.len-at-end.ensures)) there.1 (sym there.2);
     }
 
-pub returns-clause-still : goal.returns-clause-still
-returns-clause-still g c = keeps_between _ c.args.self.now c.loop-at.self _ refl refl c.loop-at.invariant.still
+pub returns-in_err-bind_one-clause-names : goal.returns-in_err-bind_one-clause-names
+returns-in_err-bind_one-clause-names g c = names_twice _ _ _ c.loop-at.invariant.names c.bind_one.ensures.names
+
+pub returns-clause-names : goal.returns-clause-names
+returns-clause-names g c = let i = c.loop-at.invariant.names in record { table = i.table; log = i.log; still = keeps_between _ c.args.self.now c.loop-at.self _ refl refl i.still }

@@ -1,31 +1,21 @@
-use Rattle.std.specs.Prelude.{Err, IfOk, Ok, OnErr, Result}
+use Rattle.std.specs.Prelude.{Err, IfOk, Ok, OnErr, Result, codes, option_and_then}
 use Rattle.blob_header.specs.declared.error.Error.{Error}
 use Rattle.blob_draws.specs.declared.selections.Selections.{Selections}
-use Rattle.blob_memory.specs.Store.{directory}
-use Rattle.blob_faulty.specs.Wrapper.{inner_of}
-use Rattle.blob_journal.proofs.Limits.{still_accepted}
-use Rattle.blob_journal.proofs.Found.{same_next, still_given, still_kept}
-use Rattle.std.proofs.Common.{List, ℕ, [], ap, sym, ◌∙◌, ◌≡◌}
-use Rattle.std.specs.Prelude.{codes}
+use Rattle.blob_memory.specs.Store.{directory, place, durable}
+use Rattle.blob_faulty.specs.Wrapper.{inner_of, inside, pending_of}
+use Rattle.std.proofs.Common.{List, ℕ, [], ap, sym, ◌∙◌, ◌≡◌, Option, refl}
 use Rattle.std.specs.Int.{w64, to_be_bytes}
-use Rattle.blob_model.specs.Directory.{current}
+use Rattle.blob_model.specs.Directory.{current, Directory}
 use Rattle.blob_model.specs.Draws.{chosen_by}
 use Rattle.blob_model.specs.Pending.{Pending}
 use Rattle.blob_model.specs.Places.{Place}
 use Rattle.blob_draws.specs.Rows.{table_of}
 use Rattle.blob_journal.specs.Currents.{pending_at}
 use Rattle.blob_journal.proofs.Standing.{fixed_by, nothing_pending}
-use Rattle.blob_model.specs.Directory.{Directory, is_current}
-use Rattle.blob_memory.specs.Store.{place}
-use Rattle.blob_faulty.specs.Wrapper.{inside}
-use Rattle.std.proofs.Common.{Option}
-use Rattle.std.specs.Prelude.{option_and_then}
 use Rattle.blob_model.specs.Stands.{replayed_at}
-use Rattle.blob_memory.specs.Store.{durable}
-use Rattle.blob_faulty.specs.Wrapper.{pending_of}
 use Rattle.blob_journal.specs.Blobs.{file_name}
 use Rattle.blob_journal.proofs.Blobs.{each_current}
-use Rattle.blob_journal.proofs.Fixed.{incarnations_same, keeps_open}
+use Rattle.blob_journal.proofs.Stores.{holds_same, open_same}
 use Rattle.blob_journal.proofs.journaled.Journaled.crash.Goals as goal
 
 by_result : {A B : Selections → Type 0} {S Q : Type 0} (r : Result Selections Error) → IfOk r A → IfOk r B → OnErr r S → ((rows : Selections) → A rows → B rows → Q) → (S → Q) → Q
@@ -38,17 +28,9 @@ invariant_of-self g c =
     let new = c.crash.new.self in
     let same = c.crash.ensures.directory in
     let at : Place = place (inside self.journal.blob) in
-    record {
-      partition = self.partition;
-      name = self.name;
-      current = ap (λ (d : Directory). is_current d at) same ∙ self.current;
-      given = still_given self.store new self.opened (same_next (directory (inner_of self.store)) (directory (inner_of new)) same) self.given;
-      numbered = self.numbered;
-      accepted = still_accepted self.store new same self.accepted;
-      kept = still_kept self.store new self.journal self.unsettled.items (λ test k. by_result c.crash.result c.crash.ensures.rows c.crash.ensures.stands c.crash.ensures.same_files
-          (λ rows drawn left. c.crashed.ensures self.store new at test rows same drawn left k)
-          (λ steps. c.same_bytes.ensures.same self.store new at test same steps k)) self.kept;
-    }
+    holds_same self new same (λ test k. by_result c.crash.result c.crash.ensures.rows c.crash.ensures.stands c.crash.ensures.same_files
+    (λ rows drawn left. c.crashed.ensures self.store new at test rows same drawn left k)
+    (λ steps. c.same_bytes.ensures.same self.store new at test same steps k))
 
 pub returns-clause-files : goal.returns-clause-files
 returns-clause-files g c = nothing_pending c.crash.new.self (λ o. ap (λ (f : Place → List Pending). f o) (c.in_ok-rows.ensures.emptied))
@@ -81,14 +63,14 @@ returns-in_err-rows-clause-still g c =
     let old = c.args.self.now.store in
     let new = c.crash.new.self in
     let same = c.crash.ensures.directory in
-    keeps_open _ _ (incarnations_same old new same (codes "f")) (λ o test f k. c.same_bytes.ensures.same old new o test same c.in_err-rows.ensures.same_files k)
+    open_same _ _ same (λ o test k. c.same_bytes.ensures.same old new o test same c.in_err-rows.ensures.same_files k)
 
 pub returns-clause-still : goal.returns-clause-still
 returns-clause-still g c =
     let old = c.args.self.now.store in
     let new = c.crash.new.self in
     let same = c.crash.ensures.directory in
-    keeps_open _ _ (incarnations_same old new same (codes "f")) (λ o test f k. c.crashed.ensures old new o test c.in_ok-rows.rows same c.in_ok-rows.ensures.rows c.in_ok-rows.ensures.stands k)
+    open_same _ _ same (λ o test k. c.crashed.ensures old new o test c.in_ok-rows.rows same c.in_ok-rows.ensures.rows c.in_ok-rows.ensures.stands k)
 
 pub returns-clause-edits : goal.returns-clause-edits
 returns-clause-edits g c = λ keeps edits f.
@@ -102,3 +84,9 @@ returns-clause-edits g c = λ keeps edits f.
       };
       found = f.found;
     }
+
+pub returns-in_err-rows-clause-keeps : goal.returns-in_err-rows-clause-keeps
+returns-in_err-rows-clause-keeps g c = record { names = refl; told = refl; unsettled = refl; log = refl }
+
+pub returns-clause-keeps : goal.returns-clause-keeps
+returns-clause-keeps g c = record { names = refl; told = refl; unsettled = refl; log = refl }

@@ -1,17 +1,11 @@
-use Rattle.std.proofs.Common.{Bool, None}
+use Rattle.std.proofs.Common.{Bool, None, ◌≡◌, List, ℕ, Some, ap, ap₂, refl, sym, ◌∙◌}
 use Rattle.blob_directory.specs.Records.{found_in}
-use Rattle.blob_directory.specs.Names.{all_edited}
-use Rattle.blob_journal.specs.Keeping.{told_in}
+use Rattle.blob_directory.specs.Names.{all_edited, Same}
+use Rattle.blob_journal.specs.Keeping.{told_in, names_in}
 use Rattle.blob_journal.specs.Settling.{counted}
 use Rattle.blob_journal.specs.Told.{names_kept}
-use Rattle.blob_journal.proofs.Limits.{still_accepted}
 use Rattle.blob_journal.proofs.Telling.{found_now}
 use Rattle.blob_journal.proofs.Told.{chosen_of}
-use Rattle.std.proofs.Common.{◌≤◌, subst}
-use Rattle.blob_model.specs.Directory.{is_current}
-use Rattle.blob_journal.specs.Currents.{KeepsNext}
-use Rattle.blob_journal.proofs.Found.{no_more_set, still_given, still_kept}
-use Rattle.std.proofs.Common.{◌≡◌, List, ℕ, Some, ap, ap₂, refl, sym, ◌∙◌}
 use Rattle.std.specs.Prelude.{codes}
 use Rattle.std.specs.Int.{w64, to_be_bytes}
 use Rattle.blob_model.specs.Directory.{current}
@@ -20,15 +14,13 @@ use Rattle.blob_memory.specs.Store.{directory, durable, place}
 use Rattle.blob_memory.specs.declared.storage.Storage as memory
 use Rattle.blob_faulty.specs.Keeps.{OverMemory}
 use Rattle.blob_faulty.specs.Wrapper.{inner_of, inside}
-use Rattle.blob_directory.specs.Names.{Same}
 use Rattle.blob_directory.specs.Profiles.{Rule, counts_in, names_told}
 use Rattle.blob_directory.specs.Rules.{rule_of}
 use Rattle.blob_directory.specs.Tables.{bound}
-use Rattle.blob_journal.specs.Keeping.{names_in}
 use Rattle.blob_journal.proofs.Currents.{current_of_name}
 use Rattle.blob_journal.specs.Blobs.{file_name}
 use Rattle.blob_journal.proofs.Blobs.{blob_same, blob_twice}
-use Rattle.blob_journal.proofs.Fixed.{incarnations_same, incarnations_twice, keeps_open}
+use Rattle.blob_journal.proofs.Stores.{holds_set, open_set}
 use Rattle.blob_journal.proofs.journaled.Journaled.find_names.Goals as goal
 
 some_same : {T : Type 0} {a b : T} → Some a ≡ Some b → a ≡ b
@@ -105,25 +97,10 @@ returns-clause-again g c = λ gives.
     c.in_ok-tree.ensures.finds (names_in self) same
 
 pub returns-clause-files : goal.returns-clause-files
-returns-clause-files g c = λ r. c.open.ensures.files (r.0, c.set_config.ensures.files r.0 r.1)
+returns-clause-files g c = λ r. c.open.ensures.keeps.files (r.0, c.set_config.ensures.files r.0 r.1)
 
 pub invariant_of-self : goal.invariant_of-self
-invariant_of-self g c =
-    let self = c.args.self.now in
-    let mid = c.set_config.new.self in
-    let new = c.open.new.store in
-    let at : Place = place (inside self.journal.blob) in
-    let inner : inner_of mid ≡ inner_of self.store = ap (λ (s : OverMemory g.row.R.Denot). inner_of s) c.set_config.ensures.set in
-    let next : KeepsNext self.store new = subst (λ (s : memory.Storage). (directory s).next ≤ (directory (inner_of new)).next) inner c.open.ensures.next in
-    record {
-      partition = self.partition;
-      name = self.name;
-      current = c.open.ensures.kept at (ap (λ (s : memory.Storage). is_current (directory s) at) inner ∙ self.current);
-      given = still_given self.store new self.opened next self.given;
-      numbered = self.numbered;
-      accepted = c.open.ensures.accepted (still_accepted self.store mid (ap (λ (s : memory.Storage). directory s) inner) self.accepted);
-      kept = still_kept self.store new self.journal self.unsettled.items (λ test k. c.open.ensures.left at test (no_more_set self.store mid c.default.result c.set_config.ensures.set at test k)) self.kept;
-    }
+invariant_of-self g c = holds_set c.args.self.now c.set_config.new.self c.open.new.store c.default.result c.set_config.ensures.set c.open.ensures.keeps
 
 pub returns-clause-kept : goal.returns-clause-kept
 returns-clause-kept g c =
@@ -157,46 +134,31 @@ returns-clause-same g c = λ inode.
     (c.in_ok-bytes.ensures.blobs (file_name inode))
 
 pub returns-in_err-bytes-clause-still : goal.returns-in_err-bytes-clause-still
-returns-in_err-bytes-clause-still g c =
-    let self = c.args.self.now in
-    let mid = c.set_config.new.self in
-    let new = c.open.new.store in
-    let inner : inner_of mid ≡ inner_of self.store = ap (λ (s : OverMemory g.row.R.Denot). inner_of s) c.set_config.ensures.set in
-    let names = incarnations_twice self.store mid new (incarnations_same self.store mid (ap (λ (s : memory.Storage). directory s) inner)) c.open.ensures.incarnations in
-    keeps_open _ _ (names (codes "f")) (λ o test f k. c.open.ensures.left o test (no_more_set self.store mid c.default.result c.set_config.ensures.set o test k))
+returns-in_err-bytes-clause-still g c = open_set _ _ c.set_config.new.self c.default.result c.set_config.ensures.set c.open.ensures.keeps
 
 pub returns-in_err-names-clause-still : goal.returns-in_err-names-clause-still
-returns-in_err-names-clause-still g c =
-    let self = c.args.self.now in
-    let mid = c.set_config.new.self in
-    let new = c.open.new.store in
-    let inner : inner_of mid ≡ inner_of self.store = ap (λ (s : OverMemory g.row.R.Denot). inner_of s) c.set_config.ensures.set in
-    let names = incarnations_twice self.store mid new (incarnations_same self.store mid (ap (λ (s : memory.Storage). directory s) inner)) c.open.ensures.incarnations in
-    keeps_open _ _ (names (codes "f")) (λ o test f k. c.open.ensures.left o test (no_more_set self.store mid c.default.result c.set_config.ensures.set o test k))
+returns-in_err-names-clause-still g c = open_set _ _ c.set_config.new.self c.default.result c.set_config.ensures.set c.open.ensures.keeps
 
 pub returns-in_err-edits-clause-still : goal.returns-in_err-edits-clause-still
-returns-in_err-edits-clause-still g c =
-    let self = c.args.self.now in
-    let mid = c.set_config.new.self in
-    let new = c.open.new.store in
-    let inner : inner_of mid ≡ inner_of self.store = ap (λ (s : OverMemory g.row.R.Denot). inner_of s) c.set_config.ensures.set in
-    let names = incarnations_twice self.store mid new (incarnations_same self.store mid (ap (λ (s : memory.Storage). directory s) inner)) c.open.ensures.incarnations in
-    keeps_open _ _ (names (codes "f")) (λ o test f k. c.open.ensures.left o test (no_more_set self.store mid c.default.result c.set_config.ensures.set o test k))
+returns-in_err-edits-clause-still g c = open_set _ _ c.set_config.new.self c.default.result c.set_config.ensures.set c.open.ensures.keeps
 
 pub returns-in_err-tree-clause-still : goal.returns-in_err-tree-clause-still
-returns-in_err-tree-clause-still g c =
-    let self = c.args.self.now in
-    let mid = c.set_config.new.self in
-    let new = c.open.new.store in
-    let inner : inner_of mid ≡ inner_of self.store = ap (λ (s : OverMemory g.row.R.Denot). inner_of s) c.set_config.ensures.set in
-    let names = incarnations_twice self.store mid new (incarnations_same self.store mid (ap (λ (s : memory.Storage). directory s) inner)) c.open.ensures.incarnations in
-    keeps_open _ _ (names (codes "f")) (λ o test f k. c.open.ensures.left o test (no_more_set self.store mid c.default.result c.set_config.ensures.set o test k))
+returns-in_err-tree-clause-still g c = open_set _ _ c.set_config.new.self c.default.result c.set_config.ensures.set c.open.ensures.keeps
 
 pub returns-clause-still : goal.returns-clause-still
-returns-clause-still g c =
-    let self = c.args.self.now in
-    let mid = c.set_config.new.self in
-    let new = c.open.new.store in
-    let inner : inner_of mid ≡ inner_of self.store = ap (λ (s : OverMemory g.row.R.Denot). inner_of s) c.set_config.ensures.set in
-    let names = incarnations_twice self.store mid new (incarnations_same self.store mid (ap (λ (s : memory.Storage). directory s) inner)) c.open.ensures.incarnations in
-    keeps_open _ _ (names (codes "f")) (λ o test f k. c.open.ensures.left o test (no_more_set self.store mid c.default.result c.set_config.ensures.set o test k))
+returns-clause-still g c = open_set _ _ c.set_config.new.self c.default.result c.set_config.ensures.set c.open.ensures.keeps
+
+pub returns-in_err-bytes-clause-keeps : goal.returns-in_err-bytes-clause-keeps
+returns-in_err-bytes-clause-keeps g c = record { names = refl; told = refl; unsettled = refl; log = refl }
+
+pub returns-in_err-names-clause-keeps : goal.returns-in_err-names-clause-keeps
+returns-in_err-names-clause-keeps g c = record { names = refl; told = refl; unsettled = refl; log = refl }
+
+pub returns-in_err-edits-clause-keeps : goal.returns-in_err-edits-clause-keeps
+returns-in_err-edits-clause-keeps g c = record { names = refl; told = refl; unsettled = refl; log = refl }
+
+pub returns-in_err-tree-clause-keeps : goal.returns-in_err-tree-clause-keeps
+returns-in_err-tree-clause-keeps g c = record { names = refl; told = refl; unsettled = refl; log = refl }
+
+pub returns-clause-keeps : goal.returns-clause-keeps
+returns-clause-keeps g c = record { names = refl; told = refl; unsettled = refl; log = refl }

@@ -19,7 +19,7 @@ returns-clause-made g c =
     let room = c.prepare.new.self in
     let noted = c.in_ok-add_edit.ensures.noted in
     let added : Unsettled = c.in-Some.added.now in
-    let names : c.add_edit.new.self.names ≡ room = c.add_edit.ensures.names in
+    let names : c.add_edit.new.self.names ≡ room = c.add_edit.ensures.names.table in
     let is : edit_of added.edit ≡ edit =
     ap (λ (u : Unsettled). edit_of u.edit) (last_is c.deref.result.now _ noted.last added (c.deref.ensures.value ∙ noted.is) c.in-Some.ensures.value) ∙ noted.edit in
     let has : HasRoomFor room (edit_of added.edit) = subst (HasRoomFor room) (sym is) c.in_ok-prepare.ensures.room in
@@ -30,7 +30,7 @@ returns-clause-made g c =
     ∙ sym (same_edited (bound before) (bound room) edit c.prepare.ensures.same e)
 
 pub returns-clause-still : goal.returns-clause-still
-returns-clause-still g c = keeps_between _ _ _ _ refl refl c.add_edit.ensures.still
+returns-clause-still g c = keeps_between _ _ _ _ refl refl c.add_edit.ensures.names.still
 
 pub returns-clause-noted : goal.returns-clause-noted
 returns-clause-noted g c =
@@ -50,7 +50,7 @@ returns-clause-followed g c =
     let edit : Edit = edit_of c.args.edit in
     let before : Log = c.args.self.now.log in
     let room : Log = c.prepare-2.new.self in
-    let log : c.add_edit.new.self.log ≡ room = c.add_edit.ensures.log in
+    let log : c.add_edit.new.self.log ≡ room = c.add_edit.ensures.names.log in
     let follows : Bool = c.in_ok-is_followed.is_followed in
     let noted = c.in_ok-add_edit.ensures.noted in
     let marked = c.in_ok-add_edit.ensures.marked in
@@ -67,3 +67,6 @@ returns-clause-followed g c =
           ∙ sym (followed_same follows (logged before) (logged room) edit c.prepare-2.ensures.same e)
           ∙ ap (λ (f : Bool). (if f then edited (logged before) edit else logged before) e) c.in_ok-is_followed.ensures.follows;
     }
+
+pub returns-clause-tells : goal.returns-clause-tells
+returns-clause-tells g c = let t = c.in_ok-add_edit.ensures.tells in record { written = t.written; logged = t.logged; told = t.told }

@@ -1,5 +1,4 @@
-use Rattle.blob_journal.proofs.Found.{still_given, still_kept}
-use Rattle.std.proofs.Common.{◌≡◌, ◌&&◌, List, ℕ, true, false, ap, ap₂, refl, sym, ◌∙◌}
+use Rattle.std.proofs.Common.{◌≡◌, ◌&&◌, List, ℕ, true, false, ap, ap₂, refl, sym, ◌∙◌, arith, subst}
 use Rattle.std.specs.Prelude.{codes}
 use Rattle.std.specs.Int.{w64, to_be_bytes}
 use Rattle.std.specs.Str.{bytes_eq}
@@ -9,12 +8,12 @@ use Rattle.blob_memory.specs.Store.{directory, place}
 use Rattle.blob_faulty.specs.Wrapper.{inner_of, inside}
 use Rattle.blob_journal.proofs.Currents.{current_named, current_of_name, named_current}
 use Rattle.blob_journal.proofs.Standing.{fixed_same}
-use Rattle.std.proofs.Common.{arith, subst}
 use Rattle.blob_journal.specs.Blobs.{file_name}
 use Rattle.blob_journal.specs.Incarnations.{KeepsOtherBlobs}
 use Rattle.blob_journal.proofs.Blobs.{file_beside}
 use Rattle.blob_journal.specs.Currents.{FindsNoMoreBeside}
 use Rattle.blob_journal.proofs.Fixed.{keeps_beside}
+use Rattle.blob_journal.proofs.Stores.{holds_after}
 use Rattle.blob_journal.proofs.journaled.Journaled.remove_file.Goals as goal
 
 pub returns-clause-gives : goal.returns-clause-gives
@@ -26,7 +25,7 @@ returns-clause-gives g c =
     let is = current_named (directory (inner_of self.store)) (codes "j") name at before.is.current in
     let other : (bytes_eq (codes "f") at.partition && bytes_eq c.to_be_bytes.result at.name) ≡ false =
     ap (λ (q : List ℕ). bytes_eq (codes "f") q && bytes_eq c.to_be_bytes.result at.name) is.0 in
-    let there : is_current (directory (inner_of c.remove.new.store)) at ≡ true = c.remove.ensures.current at other
+    let there : is_current (directory (inner_of c.remove.new.store)) at ≡ true = c.remove.ensures.keeps.current at other
     (named_current (directory (inner_of self.store)) (codes "j") name at before.is.current) in
     record {
       journal = before.journal;
@@ -48,7 +47,7 @@ returns-clause-journal g c =
       place = refl;
       durable = c.remove.ensures.bytes at other;
       pending = c.remove.ensures.pending at other;
-      files = c.remove.ensures.files;
+      files = c.remove.ensures.keeps.files;
       unsettled = refl;
       told = refl;
     }
@@ -60,15 +59,8 @@ invariant_of-self g c =
     let at : Place = place (inside self.journal.blob) in
     let other : (bytes_eq (codes "f") at.partition && bytes_eq c.to_be_bytes.result at.name) ≡ false =
     ap (λ (q : List ℕ). bytes_eq (codes "f") q && bytes_eq c.to_be_bytes.result at.name) self.partition in
-    record {
-      partition = self.partition;
-      name = self.name;
-      current = c.remove.ensures.current at other self.current;
-      given = still_given self.store new self.opened c.remove.ensures.next self.given;
-      numbered = self.numbered;
-      accepted = c.remove.ensures.accepted self.accepted;
-      kept = still_kept self.store new self.journal self.unsettled.items (λ test k. c.remove.ensures.left at test other k) self.kept;
-    }
+    let keeps = c.remove.ensures.keeps in
+    holds_after self new (keeps.current at other self.current) keeps.next keeps.accepted (λ test k. keeps.left at test other k)
 
 pub returns-clause-others : goal.returns-clause-others
 returns-clause-others g c = λ other below apart.
@@ -82,5 +74,8 @@ returns-clause-still g c =
     let before = c.args.self.now.store in
     let after = c.remove.new.store in
     let keeps : KeepsOtherBlobs (codes "f") (file_name c.args.inode) before after = subst (λ (n : List ℕ). KeepsOtherBlobs (codes "f") n before after) c.to_be_bytes.ensures c.remove.ensures.others in
-    let finds : FindsNoMoreBeside (codes "f") (file_name c.args.inode) before after = subst (λ (n : List ℕ). FindsNoMoreBeside (codes "f") n before after) c.to_be_bytes.ensures c.remove.ensures.left in
+    let finds : FindsNoMoreBeside (codes "f") (file_name c.args.inode) before after = subst (λ (n : List ℕ). FindsNoMoreBeside (codes "f") n before after) c.to_be_bytes.ensures c.remove.ensures.keeps.left in
     keeps_beside _ _ c.args.inode (omega arith) keeps finds
+
+pub returns-clause-keeps : goal.returns-clause-keeps
+returns-clause-keeps g c = record { names = refl; told = refl; unsettled = refl; log = refl }

@@ -1,30 +1,24 @@
-use Rattle.std.proofs.Common.{◌≡◌, false, ap, refl, ◌∙◌}
+use Rattle.std.proofs.Common.{◌≡◌, false, ap, refl, ◌∙◌, List, ℕ, sym, ◌<◌, ap₂, arith, length, min, nat_le, take}
 use Rattle.blob_header.specs.Refusals.{error_of}
-use Rattle.blob_model.specs.Directory.{Directory, is_current}
 use Rattle.blob_model.specs.Places.{Place, same_place}
-use Rattle.blob_memory.specs.Store.{directory, place}
+use Rattle.blob_memory.specs.Store.{directory, place, durable, live}
 use Rattle.blob_draws.specs.Faults.{resize_fate}
-use Rattle.blob_draws.specs.Recorded.{recorded_resize}
+use Rattle.blob_draws.specs.Recorded.{recorded_resize, live_of_resize, size_of_resize}
 use Rattle.blob_faulty.specs.Wrapper.{config_of, inner_of, inside, rng_of, size_of}
-use Rattle.blob_journal.proofs.Limits.{still_accepted}
-use Rattle.blob_journal.proofs.Found.{other_blob, same_next, still_given, still_kept}
-use Rattle.std.proofs.Common.{List, ℕ, sym}
+use Rattle.blob_journal.proofs.Found.{other_blob}
 use Rattle.std.specs.Prelude.{codes}
 use Rattle.blob_model.specs.Bytes.{resize}
 use Rattle.blob_model.specs.Durable.{Durable}
 use Rattle.blob_model.proofs.Bytes.{length-resized}
-use Rattle.blob_memory.specs.Store.{durable}
 use Rattle.blob_journal.specs.Blobs.{file_name}
 use Rattle.blob_journal.proofs.Blobs.{blob_same, by_ok, on_ok}
-use Rattle.std.proofs.Common.{◌<◌, ap₂, arith, length, min, nat_le, take}
 use Rattle.std.proofs.lemmas.Bool.{lt-leb}
-use Rattle.blob_memory.specs.Store.{live}
-use Rattle.blob_draws.specs.Recorded.{live_of_resize, size_of_resize}
 use Rattle.blob_draws.proofs.Unreached.{reached_above, resize_counts, resize_has}
 use Rattle.blob_journal.specs.Fixed.{has_byte}
 use Rattle.blob_journal.proofs.Fixed.{changes_open, reached_past, resized_has, same_change, same_handles, seen_from, seen_parts}
 use Rattle.blob_journal.proofs.Limits.{resize_answers}
 use Rattle.blob_journal.proofs.Ready.{ready_after}
+use Rattle.blob_journal.proofs.Stores.{current_over, files_added, given_over, holds_same, uses_none}
 use Rattle.blob_journal.proofs.journaled.Journaled.resize_file.Goals as goal
 
 pub invariant_of-self : goal.invariant_of-self
@@ -37,16 +31,7 @@ invariant_of-self g c =
     let other : same_place file at ≡ false = other_blob file at c.args.file.now.partition self.partition in
     let fate = resize_fate (config_of self.store).resize_rate (size_of c.args.file.now.blob) c.args.length (g.R.Rng.stream (rng_of self.store)) in
     let es = recorded_resize fate.0 c.args.length (error_of c.resize.result) in
-    record {
-      partition = self.partition;
-      name = self.name;
-      current = ap (λ (d : Directory). is_current d at) w.directory ∙ self.current;
-      given = still_given self.store new self.opened (same_next (directory (inner_of self.store)) (directory (inner_of new)) w.directory) self.given;
-      numbered = self.numbered;
-      accepted = still_accepted self.store new w.directory self.accepted;
-      kept = still_kept self.store new self.journal self.unsettled.items
-          (λ test k. c.other_blobs.ensures.recorded self.store new file at test es c.in_ok-check.ensures.given other w.directory (w.leaves.recorded_after refl) k) self.kept;
-    }
+    holds_same self new w.directory (λ test k. c.other_blobs.ensures.recorded self.store new file at test es c.in_ok-check.ensures.given other w.directory (w.leaves.recorded_after refl) k)
 
 pub returns-clause-resized : goal.returns-clause-resized
 returns-clause-resized g c =
@@ -57,12 +42,7 @@ returns-clause-resized g c =
     by_ok c.resize.result w.live w.leaves.size
     (λ resized size inode bytes is. (
       record {
-        current = record {
-          number = is.current.number;
-          layout = is.current.layout;
-          file = ap (λ (d : Directory). d.file (codes "f") (file_name inode)) w.directory ∙ is.current.file;
-          is = w.place ∙ is.current.is;
-        };
+        current = current_over _ _ _ _ _ _ w.directory w.place is.current;
         durable = ap (λ (o : Place). durable (inner_of new) o) w.place ∙ ap (λ (d : Durable). d at) w.durable ∙ is.durable;
       },
       λ seen s. record { live = resized ∙ ap (λ (l : List ℕ). resize l length) s.live; size = size ∙ sym (length-resized seen length) },
@@ -109,12 +89,6 @@ returns-clause-still g c =
     resized_has at byte m y (reached_past at m n len counts low reach) passes) k)
     (λ o test other k. c.other_blobs.ensures.recorded old new at_file o test es c.in_ok-check.ensures.given other w.directory (w.leaves.recorded_after refl) k)
 
-pub returns-in_err-check-clause-handles : goal.returns-in_err-check-clause-handles
-returns-in_err-check-clause-handles g c = same_handles c.args.self.now c.args.self.now refl
-
-pub returns-clause-handles : goal.returns-clause-handles
-returns-clause-handles g c = same_handles c.args.self.now _ c.resize.ensures.directory
-
 pub returns-in_err-check-clause-errors : goal.returns-in_err-check-clause-errors
 returns-in_err-check-clause-errors g c = λ r. absurd (omega (arith, r.known, c.in_err-check.ensures.refused))
 
@@ -123,11 +97,20 @@ returns-clause-errors g c = λ r.
     let old = c.args.self.now.store in
     resize_answers _ (config_of old) (g.R.Rng.stream (rng_of old)) (place (inside c.args.file.now.blob)) (size_of c.args.file.now.blob) c.args.length (error_of c.resize.result) r.faultless c.resize.ensures.allowed
 
-pub returns-clause-ready : goal.returns-clause-ready
-returns-clause-ready g c =
+pub returns-clause-uses : goal.returns-clause-uses
+returns-clause-uses g c =
     let old = c.args.self.now.store in
     let w = c.resize.ensures in
     let file = c.args.file.now in
     let fate = resize_fate (config_of old).resize_rate (size_of file.blob) c.args.length (g.R.Rng.stream (rng_of old)) in
-    ready_after _ file _ _ w.directory w.leaves.numbers.config refl w.place
-    (λ now tracked. w.leaves.size_after refl ∙ c.sizes.ensures.resizes fate.0 (size_of file.blob) (live (inside file.blob)) c.args.length (error_of c.resize.result) tracked ∙ ap (λ (l : List ℕ). length l) (sym (w.leaves.live_after refl)))
+    record {
+      edits = record { names = refl; told = refl; unsettled = refl; log = refl };
+      files = λ has. files_added old c.resize.new.store (place (inside file.blob)) (recorded_resize fate.0 c.args.length (error_of c.resize.result)) w.directory (w.leaves.recorded_after refl) has;
+      given = given_over c.args.self.now.store c.resize.new.store _ _ w.directory w.place;
+      handles = same_handles c.args.self.now _ c.resize.ensures.directory;
+      ready = ready_after _ file _ _ w.directory w.leaves.numbers.config refl w.place
+          (λ now tracked. w.leaves.size_after refl ∙ c.sizes.ensures.resizes fate.0 (size_of file.blob) (live (inside file.blob)) c.args.length (error_of c.resize.result) tracked ∙ ap (λ (l : List ℕ). length l) (sym (w.leaves.live_after refl)));
+    }
+
+pub returns-in_err-check-clause-uses : goal.returns-in_err-check-clause-uses
+returns-in_err-check-clause-uses g c = uses_none _ _

@@ -1,22 +1,13 @@
-use Rattle.std.proofs.Common.{rules}
+use Rattle.std.proofs.Common.{rules, ap, refl, sym, ◌∙◌, List, length, map, subst, ◌≡◌}
 use Rattle.std.proofs.Math.Logic.{∥∥₁_elim, ∥∥₁_map}
 use Rattle.std.proofs.lemmas.Fn.{filter_same}
-use Rattle.blob_memory.specs.Store.{directory}
-use Rattle.blob_faulty.specs.Wrapper.{inner_of}
 use Rattle.blob_journal.specs.Found.{IsKept}
 use Rattle.blob_journal.specs.Keeping.{told_by}
 use Rattle.blob_journal.specs.Told.{is_marked_in, settled_in}
 use Rattle.blob_journal.proofs.Unsettled.{unwanted}
-use Rattle.blob_journal.proofs.Limits.{still_accepted}
 use Rattle.blob_journal.proofs.Growing.{grows_prop, grows_same, told_prop}
 use Rattle.blob_journal.proofs.Telling.{same_length}
-use Rattle.blob_journal.proofs.Found.{filtered_kept, marked_kept, same_next, still_given}
-use Rattle.std.proofs.Common.{ap, ap₂, refl, sym, ◌∙◌, ℕ}
-use Rattle.std.specs.Int.{w64, to_be_bytes}
-use Rattle.blob_model.specs.Directory.{Directory, is_current}
-use Rattle.blob_model.specs.Places.{Place}
-use Rattle.std.proofs.Common.{List, length, map, subst, ◌≡◌}
-use Rattle.std.proofs.lemmas.List.{length-map}
+use Rattle.blob_journal.proofs.Found.{filtered_kept, marked_kept}
 use Rattle.blob_directory.specs.declared.unsettled.Unsettled.{Unsettled}
 use Rattle.blob_directory.specs.Syncs.{Wants, marked}
 use Rattle.blob_memory.specs.Store.{place}
@@ -24,11 +15,9 @@ use Rattle.blob_faulty.specs.Wrapper.{inside}
 use Rattle.blob_directory.specs.Logs.{logged_after}
 use Rattle.blob_journal.specs.Logs.{logged_in}
 use Rattle.blob_journal.specs.Settling.{Changes, all_settled}
-use Rattle.std.specs.Prelude.{codes, filter}
-use Rattle.blob_journal.proofs.Blobs.{journal_apart}
-use Rattle.blob_journal.proofs.Fixed.{current_given, incarnations_same, keeps_open}
-use Rattle.blob_journal.proofs.Numbers.{still_numbered}
-use Rattle.blob_journal.proofs.Listed.{whole}
+use Rattle.std.specs.Prelude.{filter}
+use Rattle.blob_journal.proofs.Listed.{whole, whole_marked}
+use Rattle.blob_journal.proofs.Stores.{holds_written, open_written}
 use Rattle.blob_journal.proofs.journaled.Journaled.settle.Goals as goal
 
 pub invariant_of-self : goal.invariant_of-self
@@ -53,11 +42,8 @@ invariant_of-self-in-Break-branch-2 g c =
     let self = c.args.self.now in
     let edits : List Unsettled = self.unsettled.items in
     let m = c.in_ok-want.ensures.marks in
-    let value : c.deref_mut.result.now ≡ edits = c.deref_mut.ensures.value in
     let same : c.deref.result.now ≡ map (marked m.wants) edits =
-    c.deref.ensures.value
-    ∙ whole c.want.new.edits edits self.unsettled.len (ap (λ (l : List Unsettled). length l) m.is ∙ length-map c.deref_mut.result.now (marked m.wants) ∙ ap (λ (l : List Unsettled). length l) value) self.unsettled.ok.0
-    ∙ m.is ∙ ap (map (marked m.wants)) value in
+    c.deref.ensures.value ∙ whole_marked c.want.new.edits c.deref_mut.result.now edits self.unsettled.len m.wants m.is c.deref_mut.ensures.value self.unsettled.ok.0 in
     record {
       partition = self.partition;
       name = self.name;
@@ -74,64 +60,39 @@ invariant_of-self-in-Break-branch-3 g c =
     let self = c.args.self.now in
     let edits : List Unsettled = self.unsettled.items in
     let m = c.in_ok-want.ensures.marks in
-    let value : c.deref_mut.result.now ≡ edits = c.deref_mut.ensures.value in
     let same : c.deref-2.result.now ≡ map (marked m.wants) edits =
-    c.deref-2.ensures.value
-    ∙ whole c.want.new.edits edits self.unsettled.len (ap (λ (l : List Unsettled). length l) m.is ∙ length-map c.deref_mut.result.now (marked m.wants) ∙ ap (λ (l : List Unsettled). length l) value) self.unsettled.ok.0
-    ∙ m.is ∙ ap (map (marked m.wants)) value in
+    c.deref-2.ensures.value ∙ whole_marked c.want.new.edits c.deref_mut.result.now edits self.unsettled.len m.wants m.is c.deref_mut.ensures.value self.unsettled.ok.0 in
     let new = c.settle_marked.new.store in
     let s = c.settle_marked.ensures in
-    record {
-      partition = ap (λ (o : Place). o.partition) s.place ∙ self.partition;
-      name = ap (λ (o : Place). o.name) s.place ∙ self.name ∙ ap (λ (n : ℕ). to_be_bytes w64 n) (sym s.generation);
-      current = ap₂ (λ (d : Directory) (o : Place). is_current d o) s.directory s.place ∙ self.current;
-      given = still_given self.store new self.opened (same_next (directory (inner_of self.store)) (directory (inner_of new)) s.directory) self.given;
-      numbered = still_numbered self.journal c.settle_marked.new.journal s.place s.generation self.numbered;
-      accepted = still_accepted self.store new s.directory self.accepted;
-      kept = ∥∥₁_map self.kept (λ k. subst (λ (es : List Unsettled). IsKept new c.settle_marked.new.journal es) c.deref-2.ensures.value
-          (s.kept (marked_kept self.store self.journal edits c.deref-2.result.now m.wants same k)));
-    }
+    holds_written self new c.settle_marked.new.journal _ s.writes (∥∥₁_map self.kept (λ k. subst (λ (es : List Unsettled). IsKept new c.settle_marked.new.journal es) c.deref-2.ensures.value
+    (s.kept (marked_kept self.store self.journal edits c.deref-2.result.now m.wants same k))))
 
 pub invariant_of-self-2 : goal.invariant_of-self-2
 invariant_of-self-2 g c =
     let self = c.args.self.now in
     let edits : List Unsettled = self.unsettled.items in
     let m = c.in_ok-want.ensures.marks in
-    let value : c.deref_mut.result.now ≡ edits = c.deref_mut.ensures.value in
     let same : c.deref-2.result.now ≡ map (marked m.wants) edits =
-    c.deref-2.ensures.value
-    ∙ whole c.want.new.edits edits self.unsettled.len (ap (λ (l : List Unsettled). length l) m.is ∙ length-map c.deref_mut.result.now (marked m.wants) ∙ ap (λ (l : List Unsettled). length l) value) self.unsettled.ok.0
-    ∙ m.is ∙ ap (map (marked m.wants)) value in
+    c.deref-2.ensures.value ∙ whole_marked c.want.new.edits c.deref_mut.result.now edits self.unsettled.len m.wants m.is c.deref_mut.ensures.value self.unsettled.ok.0 in
     let new = c.settle_marked.new.store in
     let s = c.settle_marked.ensures in
     let left = filter_same _ unwanted _ (λ x b f' h. search rules) _ _ c.retain.ensures.filtered in
-    record {
-      partition = ap (λ (o : Place). o.partition) s.place ∙ self.partition;
-      name = ap (λ (o : Place). o.name) s.place ∙ self.name ∙ ap (λ (n : ℕ). to_be_bytes w64 n) (sym s.generation);
-      current = ap₂ (λ (d : Directory) (o : Place). is_current d o) s.directory s.place ∙ self.current;
-      given = still_given self.store new self.opened (same_next (directory (inner_of self.store)) (directory (inner_of new)) s.directory) self.given;
-      numbered = still_numbered self.journal c.settle_marked.new.journal s.place s.generation self.numbered;
-      accepted = still_accepted self.store new s.directory self.accepted;
-      kept = ∥∥₁_map self.kept (λ k.
-          let was : IsKept self.store self.journal c.deref-2.result.now = marked_kept self.store self.journal edits c.deref-2.result.now m.wants same k in
-          filtered_kept self.store new self.journal c.settle_marked.new.journal c.deref-2.result.now _ (left ∙ ap (filter unwanted) (sym c.deref-2.ensures.value))
-          (c.in_ok-settle_marked.ensures.told was) was (s.kept was));
-    }
+    holds_written self new c.settle_marked.new.journal _ s.writes (∥∥₁_map self.kept (λ k.
+    let was : IsKept self.store self.journal c.deref-2.result.now = marked_kept self.store self.journal edits c.deref-2.result.now m.wants same k in
+    filtered_kept self.store new self.journal c.settle_marked.new.journal c.deref-2.result.now _ (left ∙ ap (filter unwanted) (sym c.deref-2.ensures.value))
+    (c.in_ok-settle_marked.ensures.told was) was (s.kept was)))
 
 pub returns-clause-settled : goal.returns-clause-settled
 returns-clause-settled g c =
     let self = c.args.self.now in
     let edits : List Unsettled = self.unsettled.items in
     let m = c.in_ok-want.ensures.marks in
-    let value : c.deref_mut.result.now ≡ edits = c.deref_mut.ensures.value in
     let same : c.deref-2.result.now ≡ map (marked m.wants) edits =
-    c.deref-2.ensures.value
-    ∙ whole c.want.new.edits edits self.unsettled.len (ap (λ (l : List Unsettled). length l) m.is ∙ length-map c.deref_mut.result.now (marked m.wants) ∙ ap (λ (l : List Unsettled). length l) value) self.unsettled.ok.0
-    ∙ m.is ∙ ap (map (marked m.wants)) value in
+    c.deref-2.ensures.value ∙ whole_marked c.want.new.edits c.deref_mut.result.now edits self.unsettled.len m.wants m.is c.deref_mut.ensures.value self.unsettled.ok.0 in
     record {
-      place = c.settle_marked.ensures.place;
+      place = c.settle_marked.ensures.writes.place;
       wants = m.wants;
-      exactly = subst (λ (l : List Unsettled). Wants c.args.settles c.args.synced l m.wants) value m.exactly;
+      exactly = subst (λ (l : List Unsettled). Wants c.args.settles c.args.synced l m.wants) c.deref_mut.ensures.value m.exactly;
       journal = subst (λ (l : List Unsettled). Changes self.store c.settle_marked.new.store (place (inside self.journal.blob)) (all_settled l)) same c.in_ok-settle_marked.ensures.settled;
       told = ∥∥₁_elim self.kept (told_prop _ _) (λ k. c.in_ok-settle_marked.ensures.told (marked_kept self.store self.journal edits c.deref-2.result.now m.wants same k)
           ∙ ap (λ (es : List Unsettled). settled_in (is_marked_in es) 0 (told_by self.journal)) same);
@@ -148,11 +109,8 @@ returns-in_err-settle_marked-clause-some g c =
     let self = c.args.self.now in
     let edits : List Unsettled = self.unsettled.items in
     let m = c.in_ok-want.ensures.marks in
-    let value : c.deref_mut.result.now ≡ edits = c.deref_mut.ensures.value in
     let same : c.deref-2.result.now ≡ map (marked m.wants) edits =
-    c.deref-2.ensures.value
-    ∙ whole c.want.new.edits edits self.unsettled.len (ap (λ (l : List Unsettled). length l) m.is ∙ length-map c.deref_mut.result.now (marked m.wants) ∙ ap (λ (l : List Unsettled). length l) value) self.unsettled.ok.0
-    ∙ m.is ∙ ap (map (marked m.wants)) value in
+    c.deref-2.ensures.value ∙ whole_marked c.want.new.edits c.deref_mut.result.now edits self.unsettled.len m.wants m.is c.deref_mut.ensures.value self.unsettled.ok.0 in
     record {
       grows = ∥∥₁_elim self.kept (grows_prop _ _) (λ k. c.settle_marked.ensures.grows (marked_kept self.store self.journal edits c.deref-2.result.now m.wants same k));
       length = same_length c.records.ensures.found self.store c.settle_marked.new.store self.journal c.settle_marked.new.journal edits c.deref-2.result.now c.settle_marked.ensures.records self.kept
@@ -164,11 +122,8 @@ returns-clause-some g c =
     let self = c.args.self.now in
     let edits : List Unsettled = self.unsettled.items in
     let m = c.in_ok-want.ensures.marks in
-    let value : c.deref_mut.result.now ≡ edits = c.deref_mut.ensures.value in
     let same : c.deref-2.result.now ≡ map (marked m.wants) edits =
-    c.deref-2.ensures.value
-    ∙ whole c.want.new.edits edits self.unsettled.len (ap (λ (l : List Unsettled). length l) m.is ∙ length-map c.deref_mut.result.now (marked m.wants) ∙ ap (λ (l : List Unsettled). length l) value) self.unsettled.ok.0
-    ∙ m.is ∙ ap (map (marked m.wants)) value in
+    c.deref-2.ensures.value ∙ whole_marked c.want.new.edits c.deref_mut.result.now edits self.unsettled.len m.wants m.is c.deref_mut.ensures.value self.unsettled.ok.0 in
     record {
       grows = ∥∥₁_elim self.kept (grows_prop _ _) (λ k. c.settle_marked.ensures.grows (marked_kept self.store self.journal edits c.deref-2.result.now m.wants same k));
       length = same_length c.records.ensures.found self.store c.settle_marked.new.store self.journal c.settle_marked.new.journal edits c.deref-2.result.now c.settle_marked.ensures.records self.kept
@@ -176,33 +131,20 @@ returns-clause-some g c =
     }
 
 pub returns-in_err-settle_marked-clause-still : goal.returns-in_err-settle_marked-clause-still
-returns-in_err-settle_marked-clause-still g c =
-    let self = c.args.self.now in
-    let at : Place = place (inside self.journal.blob) in
-    let s = c.settle_marked.ensures in
-    keeps_open _ _ (incarnations_same self.store c.settle_marked.new.store s.directory (codes "f"))
-    (λ o test f k. s.beside (current_given self.store at self.current) o test (journal_apart at o self.partition f) k)
+returns-in_err-settle_marked-clause-still g c = open_written _ _ c.settle_marked.ensures.writes
 
 pub returns-clause-still : goal.returns-clause-still
-returns-clause-still g c =
-    let self = c.args.self.now in
-    let at : Place = place (inside self.journal.blob) in
-    let s = c.settle_marked.ensures in
-    keeps_open _ _ (incarnations_same self.store c.settle_marked.new.store s.directory (codes "f"))
-    (λ o test f k. s.beside (current_given self.store at self.current) o test (journal_apart at o self.partition f) k)
+returns-clause-still g c = open_written _ _ c.settle_marked.ensures.writes
 
 pub returns-clause-log : goal.returns-clause-log
 returns-clause-log g c =
     let self = c.args.self.now in
     let edits : List Unsettled = self.unsettled.items in
     let m = c.in_ok-want.ensures.marks in
-    let value : c.deref_mut.result.now ≡ edits = c.deref_mut.ensures.value in
     let same : c.deref.result.now ≡ map (marked m.wants) edits =
-    c.deref.ensures.value
-    ∙ whole c.want.new.edits edits self.unsettled.len (ap (λ (l : List Unsettled). length l) m.is ∙ length-map c.deref_mut.result.now (marked m.wants) ∙ ap (λ (l : List Unsettled). length l) value) self.unsettled.ok.0
-    ∙ m.is ∙ ap (map (marked m.wants)) value in
+    c.deref.ensures.value ∙ whole_marked c.want.new.edits c.deref_mut.result.now edits self.unsettled.len m.wants m.is c.deref_mut.ensures.value self.unsettled.ok.0 in
     record {
       wants = m.wants;
-      exactly = subst (λ (l : List Unsettled). Wants c.args.settles c.args.synced l m.wants) value m.exactly;
+      exactly = subst (λ (l : List Unsettled). Wants c.args.settles c.args.synced l m.wants) c.deref_mut.ensures.value m.exactly;
       log = λ e. c.in_ok-note.ensures e ∙ ap (λ (l : List Unsettled). logged_after c.args.settles l (logged_in self) e) same;
     }

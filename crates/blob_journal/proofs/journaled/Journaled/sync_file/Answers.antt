@@ -1,40 +1,27 @@
-use Rattle.std.proofs.Common.{None, Option, Some, inl}
-use Rattle.std.specs.Prelude.{IsSome}
+use Rattle.std.proofs.Common.{None, Option, Some, inl, ap, ◌∙◌, ◌≡◌, List, ℕ, ap₂, false, refl, subst, sym, [], length, take, true, rules, arith}
+use Rattle.std.specs.Prelude.{IsSome, codes, option_map}
 use Rattle.blob_header.specs.Refusals.{Refusal, error_of}
-use Rattle.blob_memory.specs.Store.{directory}
-use Rattle.blob_journal.proofs.Limits.{still_accepted}
-use Rattle.blob_journal.proofs.Found.{other_blob, same_next, still_given, still_kept}
-use Rattle.std.proofs.Common.{ap, ◌∙◌}
-use Rattle.blob_model.specs.Directory.{Directory, is_current}
-use Rattle.std.proofs.Common.{◌≡◌, List, ℕ, ap₂, false, refl, subst, sym}
-use Rattle.std.specs.Prelude.{codes}
-use Rattle.std.proofs.lemmas.Bool.{cond-false}
+use Rattle.blob_memory.specs.Store.{directory, durable, live, place}
+use Rattle.blob_journal.proofs.Found.{other_blob}
+use Rattle.blob_model.specs.Directory.{Directory}
+use Rattle.std.proofs.lemmas.Bool.{cond-false, cond-true}
 use Rattle.blob_model.specs.Durable.{Durable}
 use Rattle.blob_model.specs.Files.{publish}
 use Rattle.blob_model.specs.Places.{Place, same_place}
 use Rattle.blob_model.specs.Stands.{StandsFor}
-use Rattle.blob_memory.specs.Store.{durable, live, place}
-use Rattle.blob_faulty.specs.Wrapper.{inner_of, inside, next_marker_of, next_write_of, pending_of}
-use Rattle.std.specs.Prelude.{option_map}
-use Rattle.std.proofs.lemmas.Bool.{cond-true}
+use Rattle.blob_faulty.specs.Wrapper.{inner_of, inside, next_marker_of, next_write_of, pending_of, size_of, config_of, rng_of}
 use Rattle.blob_model.specs.SamePlace.{same_self}
 use Rattle.blob_journal.specs.Blobs.{bytes_of, file_name}
-use Rattle.std.proofs.Common.{[]}
 use Rattle.blob_model.specs.Draws.{chosen_by}
 use Rattle.blob_draws.specs.Rows.{table_of}
 use Rattle.blob_journal.proofs.Blobs.{blob_beside, crashed_is, file_names_apart, named_apart}
-use Rattle.std.proofs.Common.{length, take, true}
 use Rattle.std.proofs.Math.Logic.{∥∥₁_map}
-use Rattle.blob_faulty.specs.Wrapper.{size_of}
 use Rattle.blob_journal.specs.Fixed.{has_byte}
 use Rattle.blob_journal.proofs.Fixed.{changes_open, fixes_open, has_from, open_is_seen, same_change, same_handles, seen_parts}
 use Rattle.blob_journal.proofs.Limits.{sync_answers}
 use Rattle.blob_journal.proofs.Ready.{ready_after, ready_here}
-use Rattle.std.proofs.Common.{rules}
 use Rattle.blob_journal.specs.Limits.{IsLimit}
-use Rattle.std.proofs.Common.{arith}
-use Rattle.blob_faulty.specs.Wrapper.{config_of, rng_of}
-use Rattle.std.proofs.Common.{rules}
+use Rattle.blob_journal.proofs.Stores.{current_over, given_over, holds_same, uses_none}
 use Rattle.blob_journal.proofs.journaled.Journaled.sync_file.Goals as goal
 
 pub invariant_of-self : goal.invariant_of-self
@@ -46,33 +33,13 @@ invariant_of-self g c =
     let at : Place = place (inside self.journal.blob) in
     let other : same_place file at ≡ false = other_blob file at c.args.file.now.partition self.partition in
     let given = c.in_ok-check.ensures.given in
-    record {
-      partition = self.partition;
-      name = self.name;
-      current = ap (λ (d : Directory). is_current d at) w.directory ∙ self.current;
-      given = still_given self.store new self.opened (same_next (directory (inner_of self.store)) (directory (inner_of new)) w.directory) self.given;
-      numbered = self.numbered;
-      accepted = still_accepted self.store new w.directory self.accepted;
-      kept = still_kept self.store new self.journal self.unsettled.items (λ test k. by_answer (error_of c.sync.result)
-          (λ ok. c.other_blobs.ensures.synced self.store new file at test (live (inside c.args.file.now.blob)) given other w.directory (inl (w.leaves.published ok)) k)
-          (λ err. c.same_bytes.ensures.same self.store new at test w.directory (w.leaves.same_files err) k)) self.kept;
-    }
+    holds_same self new w.directory (λ test k. by_answer (error_of c.sync.result)
+    (λ ok. c.other_blobs.ensures.synced self.store new file at test (live (inside c.args.file.now.blob)) given other w.directory (inl (w.leaves.published ok)) k)
+    (λ err. c.same_bytes.ensures.same self.store new at test w.directory (w.leaves.same_files err) k))
   where
     by_answer : {Q : Type 0} (a : Option Refusal) → (a ≡ None → Q) → (IsSome a → Q) → Q
     by_answer None ok err = ok refl
     by_answer (Some r) ok err = err refl
-
-pub returns-in_err-sync-clause-files : goal.returns-in_err-sync-clause-files
-returns-in_err-sync-clause-files g c = λ r. (r.0, c.in_err-sync.ensures.leaves.same_files refl r.0 r.1)
-
-pub returns-clause-files : goal.returns-clause-files
-returns-clause-files g c = λ r.
-    let new = c.sync.new.store in
-    let files = publish r.0 (place (inside c.args.file.now.blob)) (live (inside c.args.file.now.blob)) in (
-      files,
-      subst (λ (d : Directory). StandsFor d (durable (inner_of new)) (pending_of (λ (o : Place). o) new) (next_write_of new) (next_marker_of new) files) (sym c.sync.ensures.directory)
-          (c.in_ok-sync.ensures.leaves.published refl r.0 r.1),
-    )
 
 pub returns-in_err-sync-clause-journal : goal.returns-in_err-sync-clause-journal
 returns-in_err-sync-clause-journal g c =
@@ -117,12 +84,7 @@ returns-clause-synced g c = λ inode opened.
     let was : Option (List ℕ) = durable (inner_of old) at in
     record {
       is = record {
-        current = record {
-          number = is.current.number;
-          layout = is.current.layout;
-          file = ap (λ (d : Directory). d.file (codes "f") (file_name inode)) w.directory ∙ is.current.file;
-          is = w.place ∙ is.current.is;
-        };
+        current = current_over _ _ _ _ _ _ w.directory w.place is.current;
         durable = ap (λ (o : Place). durable (inner_of new) o) w.place
             ∙ ap (λ (d : Durable). d at) c.in_ok-sync.ensures.synced
             ∙ cond-true (same_place at at) (option_map (λ _. bytes') was) was (same_self at)
@@ -202,15 +164,6 @@ returns-clause-fixes g c =
     fixes_open _ file _ _ (∥∥₁_map c.args.self.now.kept (λ k. (k.has.found.files, k.has.found.stands))) w.place w.live w.leaves.size
     (λ next passes k. c.synced.ensures old new (place (inside file.blob)) (λ _. true) next (live (inside file.blob)) w.directory (inl (w.leaves.published refl)) passes k)
 
-pub returns-in_err-check-clause-handles : goal.returns-in_err-check-clause-handles
-returns-in_err-check-clause-handles g c = same_handles c.args.self.now c.args.self.now refl
-
-pub returns-in_err-sync-clause-handles : goal.returns-in_err-sync-clause-handles
-returns-in_err-sync-clause-handles g c = same_handles c.args.self.now _ c.sync.ensures.directory
-
-pub returns-clause-handles : goal.returns-clause-handles
-returns-clause-handles g c = same_handles c.args.self.now _ c.sync.ensures.directory
-
 pub returns-in_err-check-clause-errors : goal.returns-in_err-check-clause-errors
 returns-in_err-check-clause-errors g c = λ r. absurd (omega (arith, r.known, c.in_err-check.ensures.refused))
 
@@ -221,12 +174,33 @@ returns-in_err-sync-clause-errors g c = λ r.
     let said : error_of c.from_residual-in_err-sync.result ≡ error_of c.sync.result = search rules in
     subst (IsLimit _) (sym said) (sync_answers _ (config_of old) (g.R.Rng.stream (rng_of old)) (directory (inner_of old)) (place (inside file.blob)) (error_of c.sync.result) r.faultless (ready_here c.args.self.now file r) c.sync.ensures.allowed)
 
-pub returns-in_err-sync-clause-ready : goal.returns-in_err-sync-clause-ready
-returns-in_err-sync-clause-ready g c =
+pub returns-in_err-sync-clause-uses : goal.returns-in_err-sync-clause-uses
+returns-in_err-sync-clause-uses g c =
     let w = c.in_err-sync.ensures in
-    ready_after _ c.args.file.now _ _ w.directory w.leaves.numbers.config refl w.place (λ now tracked. w.leaves.size ∙ tracked ∙ ap (λ (l : List ℕ). length l) (sym w.live))
+    record {
+      edits = record { names = refl; told = refl; unsettled = refl; log = refl };
+      files = λ has r. (r.0, c.in_err-sync.ensures.leaves.same_files refl r.0 r.1);
+      given = given_over c.args.self.now.store c.sync.new.store _ _ w.directory w.place;
+      handles = same_handles c.args.self.now _ c.sync.ensures.directory;
+      ready = ready_after _ c.args.file.now _ _ w.directory w.leaves.numbers.config refl w.place (λ now tracked. w.leaves.size ∙ tracked ∙ ap (λ (l : List ℕ). length l) (sym w.live));
+    }
 
-pub returns-clause-ready : goal.returns-clause-ready
-returns-clause-ready g c =
+pub returns-clause-uses : goal.returns-clause-uses
+returns-clause-uses g c =
     let w = c.in_ok-sync.ensures in
-    ready_after _ c.args.file.now _ _ w.directory w.leaves.numbers.config refl w.place (λ now tracked. w.leaves.size ∙ tracked ∙ ap (λ (l : List ℕ). length l) (sym w.live))
+    record {
+      edits = record { names = refl; told = refl; unsettled = refl; log = refl };
+      files = λ has r.
+          let new = c.sync.new.store in
+          let files = publish r.0 (place (inside c.args.file.now.blob)) (live (inside c.args.file.now.blob)) in (
+            files,
+            subst (λ (d : Directory). StandsFor d (durable (inner_of new)) (pending_of (λ (o : Place). o) new) (next_write_of new) (next_marker_of new) files) (sym c.sync.ensures.directory)
+                (c.in_ok-sync.ensures.leaves.published refl r.0 r.1),
+          );
+      given = given_over c.args.self.now.store c.sync.new.store _ _ w.directory w.place;
+      handles = same_handles c.args.self.now _ c.sync.ensures.directory;
+      ready = ready_after _ c.args.file.now _ _ w.directory w.leaves.numbers.config refl w.place (λ now tracked. w.leaves.size ∙ tracked ∙ ap (λ (l : List ℕ). length l) (sym w.live));
+    }
+
+pub returns-in_err-check-clause-uses : goal.returns-in_err-check-clause-uses
+returns-in_err-check-clause-uses g c = uses_none _ _

@@ -1,42 +1,34 @@
-use Rattle.std.proofs.Common.{◌≡◌, Bool, None, false, ap, refl, rules, subst, sym, ◌∙◌}
-use Rattle.std.specs.Prelude.{codes}
+use Rattle.std.proofs.Common.{◌≡◌, Bool, None, false, ap, refl, rules, subst, sym, ◌∙◌, ◌<◌, List, ℕ, ap₂, arith, length, take}
+use Rattle.std.specs.Prelude.{codes, option_map}
 use Rattle.blob_base.specs.Options.{is_sync}
 use Rattle.blob_header.specs.Refusals.{error_of}
-use Rattle.blob_model.specs.Directory.{Directory, is_current}
+use Rattle.blob_model.specs.Directory.{Directory}
 use Rattle.blob_model.specs.Places.{Place, same_place}
-use Rattle.blob_memory.specs.Store.{directory, place}
-use Rattle.blob_draws.specs.Recorded.{recorded_write}
-use Rattle.blob_faulty.specs.Wrapper.{config_of, inner_of, inside, next_write_of, rng_of}
+use Rattle.blob_memory.specs.Store.{directory, place, durable, live}
+use Rattle.blob_draws.specs.Recorded.{recorded_write, live_of_write, size_of_write}
+use Rattle.blob_faulty.specs.Wrapper.{config_of, inner_of, inside, next_write_of, rng_of, Adds, Stands, size_of}
 use Rattle.blob_model.specs.Draws.{chosen_by}
 use Rattle.blob_model.specs.Durable.{Durable}
-use Rattle.blob_model.specs.Log.{replay_log}
+use Rattle.blob_model.specs.Log.{replay_log, Entry}
 use Rattle.blob_model.specs.Files.{all_logged}
-use Rattle.blob_faulty.specs.Wrapper.{Adds, Stands}
-use Rattle.blob_memory.specs.Store.{durable}
 use Rattle.blob_draws.specs.Rows.{table_of}
 use Rattle.blob_journal.specs.Blobs.{file_name}
 use Rattle.blob_journal.specs.Writes.{entries_of_write}
 use Rattle.blob_draws.specs.Answers.{allows_write}
-use Rattle.blob_model.specs.Log.{Entry}
-use Rattle.blob_journal.proofs.Limits.{still_accepted}
 use Rattle.blob_journal.proofs.Blobs.{blob_same, by_ok}
 use Rattle.blob_model.specs.Live.{live_written}
 use Rattle.blob_draws.proofs.Sizes.{length-written}
 use Rattle.blob_faulty.specs.HandleLeaves.{size_written}
 use Rattle.blob_journal.proofs.Writes.{by_answer, by_oks, crashed_by, crashed_in, recorded_loose}
-use Rattle.blob_journal.proofs.Found.{other_blob, same_next, still_given, still_kept}
-use Rattle.std.proofs.Common.{◌<◌, List, ℕ, ap₂, arith, length, take}
-use Rattle.blob_memory.specs.Store.{live}
-use Rattle.blob_draws.specs.Recorded.{live_of_write, size_of_write}
+use Rattle.blob_journal.proofs.Found.{other_blob}
 use Rattle.blob_draws.proofs.Unreached.{write_grows, write_has}
-use Rattle.blob_faulty.specs.Wrapper.{size_of}
 use Rattle.blob_journal.specs.Fixed.{IsBeside, has_byte}
 use Rattle.std.proofs.Math.Logic.{∥∥₁_elim}
 use Rattle.std.specs.Coded.{Coded-set, coded_list, coded_option, coded_ℕ}
-use Rattle.std.specs.Prelude.{option_map}
 use Rattle.blob_journal.proofs.Fixed.{beside_lies, changes_open, current_of, incarnation_here, overlaid_has, same_change, same_handles, seen_from, seen_parts}
 use Rattle.blob_journal.proofs.Limits.{write_allowed}
 use Rattle.blob_journal.proofs.Ready.{ready_after, ready_here}
+use Rattle.blob_journal.proofs.Stores.{current_over, files_added, given_over, holds_same, uses_none}
 use Rattle.blob_journal.proofs.journaled.Journaled.write_file.Goals as goal
 
 pub invariant_of-self : goal.invariant_of-self
@@ -48,16 +40,7 @@ invariant_of-self g c =
     let at : Place = place (inside self.journal.blob) in
     let other : same_place file at ≡ false = other_blob file at c.args.file.now.partition self.partition in
     let es = recorded_write (config_of self.store) (next_write_of self.store) (g.R.Rng.stream (rng_of self.store)) (is_sync c.default-options.result) c.args.offset c.args.bytes.now (error_of c.write_from.result) in
-    record {
-      partition = self.partition;
-      name = self.name;
-      current = ap (λ (d : Directory). is_current d at) w.directory ∙ self.current;
-      given = still_given self.store new self.opened (same_next (directory (inner_of self.store)) (directory (inner_of new)) w.directory) self.given;
-      numbered = self.numbered;
-      accepted = still_accepted self.store new w.directory self.accepted;
-      kept = still_kept self.store new self.journal self.unsettled.items
-          (λ test k. c.other_blobs.ensures.recorded self.store new file at test es c.in_ok-check.ensures.given other w.directory (w.leaves.recorded refl) k) self.kept;
-    }
+    holds_same self new w.directory (λ test k. c.other_blobs.ensures.recorded self.store new file at test es c.in_ok-check.ensures.given other w.directory (w.leaves.recorded refl) k)
 
 pub returns-clause-recorded : goal.returns-clause-recorded
 returns-clause-recorded g c =
@@ -76,12 +59,7 @@ returns-clause-recorded g c =
     record {
       logged = λ files for. subst (λ (d : Directory). Stands (λ (o : Place). o) d (durable (inner_of new)) new (all_logged files at es)) (sym w.directory) (adds files c.in_ok-check.ensures.given for);
       same = λ inode bytes is. record {
-        current = record {
-          number = is.current.number;
-          layout = is.current.layout;
-          file = ap (λ (d : Directory). d.file (codes "f") (file_name inode)) w.directory ∙ is.current.file;
-          is = w.place ∙ is.current.is;
-        };
+        current = current_over _ _ _ _ _ _ w.directory w.place is.current;
         durable = ap (λ (o : Place). durable (inner_of new) o) w.place ∙ ap (λ (d : Durable). d at) (durable_same plain) ∙ is.durable;
       };
       left = λ inode kept is.
@@ -123,21 +101,6 @@ returns-clause-still g c =
     (λ y z passes lays. ap (has_byte at byte) lays.2 ∙ overlaid_has at byte offset bytes y lays.0 beside passes) k)
     (λ o test other k. c.other_blobs.ensures.recorded old new at_file o test es c.in_ok-check.ensures.given other w.directory (w.leaves.recorded refl) k)
 
-pub returns-in_err-check-clause-handles : goal.returns-in_err-check-clause-handles
-returns-in_err-check-clause-handles g c = same_handles c.args.self.now c.args.self.now refl
-
-pub returns-clause-handles : goal.returns-clause-handles
-returns-clause-handles g c = same_handles c.args.self.now _ c.write_from.ensures.directory
-
-pub returns-clause-files : goal.returns-clause-files
-returns-clause-files g c = λ has r.
-    let old = c.args.self.now.store in
-    let new = c.write_from.new.store in
-    let w = c.write_from.ensures in
-    let at : Place = place (inside c.args.file.now.blob) in
-    let es = recorded_write (config_of old) (next_write_of old) (g.R.Rng.stream (rng_of old)) (is_sync c.default-options.result) c.args.offset c.args.bytes.now (error_of c.write_from.result) in
-    (all_logged r.0 at es, subst (λ (d : Directory). Stands (λ (o : Place). o) d (durable (inner_of new)) new (all_logged r.0 at es)) (sym w.directory) (w.leaves.recorded refl r.0 has r.1))
-
 pub returns-clause-same : goal.returns-clause-same
 returns-clause-same g c =
     let plain : is_sync c.default-options.result ≡ false = first_of (search rules, cc) in
@@ -156,12 +119,7 @@ returns-clause-written g c =
     by_oks c.write_from.result w.plain w.live w.leaves.done_size
     (λ durable_same alive sized inode known is. (
       record {
-        current = record {
-          number = is.current.number;
-          layout = is.current.layout;
-          file = ap (λ (d : Directory). d.file (codes "f") (file_name inode)) w.directory ∙ is.current.file;
-          is = w.place ∙ is.current.is;
-        };
+        current = current_over _ _ _ _ _ _ w.directory w.place is.current;
         durable = ap (λ (o : Place). durable (inner_of new) o) w.place ∙ ap (λ (d : Durable). d at) (durable_same plain) ∙ is.durable;
       },
       λ seen s. record {
@@ -180,8 +138,8 @@ returns-clause-errors g c = λ r.
     write_allowed _ (config_of old) _ _ (next_write_of old) (g.R.Rng.stream (rng_of old)) (directory (inner_of old)) (place (inside file.blob)) _ c.args.offset c.args.bytes.now (is_sync c.default-options.result) (error_of c.write_from.result)
     r.faultless (λ s. ready_here c.args.self.now file r) c.write_from.ensures.allowed
 
-pub returns-clause-ready : goal.returns-clause-ready
-returns-clause-ready g c =
+pub returns-clause-uses : goal.returns-clause-uses
+returns-clause-uses g c =
     let old = c.args.self.now.store in
     let w = c.write_from.ensures in
     let file = c.args.file.now in
@@ -191,7 +149,16 @@ returns-clause-ready g c =
     let offset = c.args.offset in
     let bytes = c.args.bytes.now in
     let answer = error_of c.write_from.result in
-    ready_after _ file _ _ w.directory w.leaves.config refl w.place
-    (λ now tracked. w.leaves.size refl
-    ∙ c.sizes.ensures.writes config stream sync (size_of file.blob) (live (inside file.blob)) offset bytes answer (c.found.ensures file.blob old offset bytes sync answer now w.allowed) tracked
-    ∙ ap (λ (l : List ℕ). length l) (sym (w.leaves.live_after refl)))
+    record {
+      edits = record { names = refl; told = refl; unsettled = refl; log = refl };
+      files = λ has. files_added old c.write_from.new.store (place (inside file.blob)) (recorded_write config (next_write_of old) stream sync offset bytes answer) w.directory (w.leaves.recorded refl) has;
+      given = given_over c.args.self.now.store c.write_from.new.store _ _ w.directory w.place;
+      handles = same_handles c.args.self.now _ c.write_from.ensures.directory;
+      ready = ready_after _ file _ _ w.directory w.leaves.config refl w.place
+          (λ now tracked. w.leaves.size refl
+          ∙ c.sizes.ensures.writes config stream sync (size_of file.blob) (live (inside file.blob)) offset bytes answer (c.found.ensures file.blob old offset bytes sync answer now w.allowed) tracked
+          ∙ ap (λ (l : List ℕ). length l) (sym (w.leaves.live_after refl)));
+    }
+
+pub returns-in_err-check-clause-uses : goal.returns-in_err-check-clause-uses
+returns-in_err-check-clause-uses g c = uses_none _ _
