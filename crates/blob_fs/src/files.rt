@@ -80,6 +80,11 @@ impl File {
             Some(bytes) => bytes.len() as u64,
         }
     }
+
+    /// Returns whether no name and no descriptor refers to the file.
+    fn is_unused(&self) -> bool {
+        self.links == 0 && self.opens == 0
+    }
 }
 
 impl<R: Rng + Drop> FileSystem<R> {
@@ -100,6 +105,20 @@ impl<R: Rng + Drop> FileSystem<R> {
         if self.file(inode).is_none() {
             return Err(FsError::NotFound);
         }
+        self.add_descriptor(inode)
+    }
+
+    /// Adds a descriptor of a file.
+    ///
+    /// # Errors
+    ///
+    /// `NoSpace` if no number of a descriptor is left, `Memory`.
+    pub(crate) fn add_descriptor(&mut self, inode: u64) -> Result<Descriptor, FsError>
+        ensures opened { IfOk result (λ file. inode_opened self.new file ≡ Some inode) }
+        ensures links { SameLinks self.old self.new }
+        ensures keeps { KeepsState self.old self.new }
+        ensures store { journaled_of self.new ≡ journaled_of self.old }
+    {
         let number = self.next_open;
         let Some(next) = number.checked_add(1) else {
             return Err(FsError::NoSpace);
@@ -107,31 +126,37 @@ impl<R: Rng + Drop> FileSystem<R> {
         self.opens.insert(number, inode)?;
         self.next_open = next;
         self.add_open(inode);
-        self.show_blob(inode);
         Ok(Descriptor { number })
     }
 
-    /// Counts one more descriptor of a file.
+    /// Counts one more descriptor of a file, and lets reads return the blob's bytes again.
     fn add_open(&mut self, inode: u64)
         ensures opens { SameOpens self.old self.new }
         ensures links { SameLinks self.old self.new }
         ensures keeps { KeepsState self.old self.new }
         ensures store { journaled_of self.new ≡ journaled_of self.old }
     {
-        if let Some(file) = self.files.get_mut(&inode) {
-            let file = file.as_mut();
-            file.opens = file.opens.saturating_add(1);
-        }
+        let Some(file) = self.files.get_mut(&inode) else {
+            return;
+        };
+        let file = file.as_mut();
+        file.opens = file.opens.saturating_add(1);
+        let size = file.size();
+        file.shown = None;
+        let now = file.size();
+        self.count(size, now);
     }
 
-    /// Counts one descriptor of a file less.
-    fn drop_open(&mut self, inode: u64)
+    /// Counts one descriptor of a file less. Returns whether no name and no descriptor refers to it any more.
+    fn drop_open(&mut self, inode: u64) -> bool
         ensures { KeepsState self.old self.new }
     {
-        if let Some(file) = self.files.get_mut(&inode) {
-            let file = file.as_mut();
-            file.opens = file.opens.saturating_sub(1);
-        }
+        let Some(file) = self.files.get_mut(&inode) else {
+            return false;
+        };
+        let file = file.as_mut();
+        file.opens = file.opens.saturating_sub(1);
+        file.is_unused()
     }
 
     /// Opens a file by its number and makes it empty. If that fails, the file isn't open. The errors are those of `open_inode` and
@@ -179,8 +204,9 @@ impl<R: Rng + Drop> FileSystem<R> {
         let inode = self.inode_of(file)?;
         self.gone.reserve(1)?;
         self.opens.remove(&file.number);
-        self.drop_open(inode);
-        self.let_go(inode);
+        if self.drop_open(inode) {
+            self.let_go(inode);
+        }
         self.remove_gone();
         Ok(())
     }

@@ -1,5 +1,5 @@
 //! Names by directory: files are created, linked and unlinked, directories are made, removed and listed.
-ghost use Rattle.std.specs.Prelude.{◌≡◌, ◌∷◌, [], None, Some, OnOk, OnErr, IfOk, IsSome, pred};
+ghost use Rattle.std.specs.Prelude.{◌≡◌, ◌∷◌, [], false, None, Some, OnOk, OnErr, IfOk, IsSome, pred};
 ghost use Rattle.blob_fs.specs.Files.{NotesBinding, NotesFreeing, about_name, file_of, fresh_inode, inode_opened, journaled_of, names_of, told_of};
 ghost use Rattle.blob_fs.specs.Bytes.{file_in};
 ghost use Rattle.blob_fs.specs.Named.{links_in};
@@ -37,6 +37,16 @@ impl<R: Rng + Drop> FileSystem<R> {
         Ok(())
     }
 
+    /// Returns whether a file has a number. If the number is above all of them, it is compared with one alone.
+    fn is_taken(&self, inode: u64) -> bool
+        ensures { result ≡ false → file_in self.now inode ≡ None }
+    {
+        match self.files.last_key_value() {
+            Some((last, _)) if *last < inode => false,
+            _ => self.files.contains_key(&inode),
+        }
+    }
+
     /// Returns the next number of an inode, and the one after it.
     fn fresh_inode(&self) -> Result<(u64, u64), FsError>
         ensures number { IfOk result (λ r. r.0 ≡ fresh_inode self.now) }
@@ -44,7 +54,7 @@ impl<R: Rng + Drop> FileSystem<R> {
     {
         let inode = self.next_inode;
         // Never true: numbers rise. But no contract says so, and a file that took the number of another would replace it.
-        if self.files.contains_key(&inode) {
+        if self.is_taken(inode) {
             return Err(FsError::NoSpace);
         }
         let next = inode.checked_add(1).ok_or(FsError::NoSpace)?;
@@ -114,7 +124,7 @@ impl<R: Rng + Drop> FileSystem<R> {
         ensures store { OnOk result (journaled_of self.new ≡ journaled_of self.old) }
     {
         self.add_file(inode, blob)?;
-        match self.open_inode(inode) {
+        match self.add_descriptor(inode) {
             Ok(descriptor) => Ok(descriptor),
             Err(error) => {
                 self.remove_file(inode);

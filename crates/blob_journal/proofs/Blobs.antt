@@ -1,12 +1,12 @@
 -- The blobs of names through the calls of a store.
 use Rattle.std.proofs.Common.{◌≡◌, ◌≢◌, ◌&&◌, ◌==◌, ◌<◌, ◌^◌, ◌++◌, ℕ, List, [], Bool, true, false, cond, ⊎_elim, ext_get_or, length, take, unwrap_or, Option, Some, None, Result, Ok, Err, refl, sym, ap, ap₂, ◌∙◌, arith, if◌then◌else◌}
 use Rattle.std.specs.Prelude.{OnOk, codes, option_and_then}
-use Rattle.std.specs.Int.{w64, from_be_bytes}
+use Rattle.std.specs.Int.{w64, from_le_bytes}
 use Rattle.std.specs.Str.{bytes_eq}
 use Rattle.std.specs.Cmp.Lexicographic.{bytes_decides}
 use Rattle.std.proofs.lemmas.Bool.{cases_Bool, cond-false, cond-true, false≢true}
 use Rattle.std.proofs.lemmas.List.{get_or-take, length-take-le, take_all}
-use Rattle.std.proofs.lemmas.Nat.{from_be_bytes-to_be_bytes_8}
+use Rattle.std.proofs.lemmas.Nat.{from_le_bytes-to_le_bytes_8}
 use Rattle.blob_header.specs.declared.layout.Layout.{Layout}
 use Rattle.blob_header.specs.declared.version.BlobVersion.{BlobVersion}
 use Rattle.blob_header.specs.Header.{region}
@@ -128,7 +128,7 @@ opened_incarnation before after p n o live (Begun layout found is made unchanged
 -- the names of two numbers differ
 pub file_names_apart : (a b : ℕ) → a < 2 ^ 64 → b < 2 ^ 64 → b ≢ a → bytes_eq (file_name a) (file_name b) ≡ false
 file_names_apart a b s t apart = ⊎_elim
-    (λ y. absurd (apart (sym (sym (from_be_bytes-to_be_bytes_8 a s) ∙ ap (λ l. from_be_bytes w64 l) ((bytes_decides (file_name a) (file_name b)).0 y) ∙ from_be_bytes-to_be_bytes_8 b t))))
+    (λ y. absurd (apart (sym (sym (from_le_bytes-to_le_bytes_8 a s) ∙ ap (λ l. from_le_bytes w64 l) ((bytes_decides (file_name a) (file_name b)).0 y) ∙ from_le_bytes-to_le_bytes_8 b t))))
     (λ n. n)
     (cases_Bool (bytes_eq (file_name a) (file_name b)))
 

@@ -1,6 +1,6 @@
 -- The blobs of files: their bytes, and what calls leave of them.
 use Rattle.std.specs.Prelude.{◌≡◌, ◌≢◌, ◌+◌, ◌<◌, ◌≤◌, ◌^◌, ℕ, List, length, take, drop, codes, Option, Some, option_and_then}
-use Rattle.std.specs.Int.{w64, to_be_bytes}
+use Rattle.std.specs.Int.{w64, to_le_bytes}
 use Rattle.blob_model.specs.Bytes.{resize, write_live}
 use Rattle.blob_model.specs.Directory.{current}
 use Rattle.blob_model.specs.Draws.{chosen_by}
@@ -17,7 +17,7 @@ use Rattle.blob_journal.specs.Journals.{durable_file, store_of}
 -- The blob of a file's number.
 
 abbrev pub file_name : ℕ → List ℕ
-file_name inode = to_be_bytes w64 inode
+file_name inode = to_le_bytes w64 inode
 
 -- its durable bytes
 abbrev pub current_file : {R : Type 0} → Journaled R → ℕ → Option (List ℕ)

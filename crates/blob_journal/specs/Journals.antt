@@ -1,6 +1,6 @@
 -- The journal of some names, and the names that a recovery finds.
 use Rattle.std.specs.Prelude.{◌≡◌, ℕ, List, Option, Some, codes}
-use Rattle.std.specs.Int.{w64, to_be_bytes}
+use Rattle.std.specs.Int.{w64, to_be_bytes, to_le_bytes}
 use Rattle.blob_model.specs.Directory.{current}
 use Rattle.blob_model.specs.Draws.{chosen_by}
 use Rattle.blob_model.specs.Places.{Place}
@@ -41,7 +41,7 @@ generation_of j = j.journal.generation
 
 -- the durable bytes of a file's number; none if it has no blob
 abbrev pub durable_file : {R : Type 0} → Journaled R → ℕ → Option (List ℕ)
-durable_file j inode = logical_blob (inner_of (store_of j)) (codes "f") (to_be_bytes w64 inode)
+durable_file j inode = logical_blob (inner_of (store_of j)) (codes "f") (to_le_bytes w64 inode)
 
 -- the journal has these bytes, and the names are those that a recovery finds by them
 pub record FindsNames {R : Type 0} (j : Journaled R) (keeps : Keeps) (names : Names) : Type 0 where

@@ -57,7 +57,7 @@ impl<R: Rng + Drop> Journaled<R> {
         ensures ready { IsFaultless self.old → IfOk result (IsReady self.new) }
         ensures errors { IsFaultless self.old → FailsAtLimits (store_of self.new) result }
     {
-        let (blob, _) = open(&mut self.store, FILES, &inode.to_be_bytes())?;
+        let (blob, _) = open(&mut self.store, FILES, &inode.to_le_bytes())?;
         self.note(&blob);
         Ok(FileBlob { blob })
     }
@@ -72,7 +72,7 @@ impl<R: Rng + Drop> Journaled<R> {
         ensures still { KeepsOpen self.old self.new }
         ensures reopened { IfOk result (λ file. ReopensFile self.old inode self.new file) }
     {
-        let blob = reopen(&mut self.store, FILES, &inode.to_be_bytes())?;
+        let blob = reopen(&mut self.store, FILES, &inode.to_le_bytes())?;
         self.note(&blob);
         Ok(FileBlob { blob })
     }
@@ -116,7 +116,7 @@ impl<R: Rng + Drop> Journaled<R> {
         ensures others { SameFilesBut inode self.old self.new }
         ensures still { KeepsOpenBut inode self.old self.new }
     {
-        remove(&mut self.store, FILES, &inode.to_be_bytes())
+        remove(&mut self.store, FILES, &inode.to_le_bytes())
     }
 
     /// Returns all bytes of a file, as calls see them.
@@ -146,7 +146,7 @@ impl<R: Rng + Drop> Journaled<R> {
     pub fn durable_file(&self, inode: u64) -> Result<Option<Vec<u8>>, Error>
         ensures { IfOk result (λ bytes. items_of bytes ≡ durable_file self.now inode) }
     {
-        self.store.inner().logical_blob(FILES, &inode.to_be_bytes())
+        self.store.inner().logical_blob(FILES, &inode.to_le_bytes())
     }
 
     /// Reads the bytes of a file from an offset on, as many as the buffer takes.

@@ -29,7 +29,7 @@ returns-clause-opened g c =
     let at = place (inside c.in_ok-blob.blob) in
     let bytes : List ℕ = live (inside c.in_ok-blob.blob) in
     let same = sym c.note.ensures.noted.0 in
-    let there : IsIncarnation store (codes "f") (file_name c.args.inode) at = subst (λ (n : List ℕ). IsIncarnation store (codes "f") n at) c.to_be_bytes.ensures o.incarnation in
+    let there : IsIncarnation store (codes "f") (file_name c.args.inode) at = subst (λ (n : List ℕ). IsIncarnation store (codes "f") n at) c.to_le_bytes.ensures o.incarnation in
     record {
       bytes = bytes;
       has = record {
@@ -40,14 +40,14 @@ returns-clause-opened g c =
         seen = record { live = refl; size = o.tracked };
       };
       found = λ x e. current_is before (codes "f") (file_name c.args.inode) bytes x
-          (λ a is. o.found a (ap (λ (n : List ℕ). current (directory (inner_of before)) (codes "f") n) c.to_be_bytes.ensures ∙ is)) e;
+          (λ a is. o.found a (ap (λ (n : List ℕ). current (directory (inner_of before)) (codes "f") n) c.to_le_bytes.ensures ∙ is)) e;
     }
 
 pub returns-clause-others : goal.returns-clause-others
 returns-clause-others g c = λ other below apart.
     let before = c.args.self.now.store in
     let store = c.open.new.store in
-    let keeps : KeepsOtherBlobs (codes "f") (file_name c.args.inode) before store = subst (λ (n : List ℕ). KeepsOtherBlobs (codes "f") n before store) c.to_be_bytes.ensures c.open.ensures.others in
+    let keeps : KeepsOtherBlobs (codes "f") (file_name c.args.inode) before store = subst (λ (n : List ℕ). KeepsOtherBlobs (codes "f") n before store) c.to_le_bytes.ensures c.open.ensures.others in
     subst (λ (s : OverMemory g.row.R.Denot). SameBlob (codes "f") (file_name other) before s) (sym c.note.ensures.noted.0)
     (file_beside before store c.args.inode other (omega arith) below apart keeps)
 
@@ -67,7 +67,7 @@ returns-clause-reopened g c =
     let at = place (inside c.in_ok-blob.blob) in
     let bytes : List ℕ = live (inside c.in_ok-blob.blob) in
     let same = sym c.note.ensures.noted.0 in
-    let there : IsIncarnation c.open.new.store (codes "f") (file_name c.args.inode) at = subst (λ (n : List ℕ). IsIncarnation c.open.new.store (codes "f") n at) c.to_be_bytes.ensures o.incarnation in
+    let there : IsIncarnation c.open.new.store (codes "f") (file_name c.args.inode) at = subst (λ (n : List ℕ). IsIncarnation c.open.new.store (codes "f") n at) c.to_le_bytes.ensures o.incarnation in
     reopens _ c.args.inode _ _
     (subst (λ (s : OverMemory g.row.R.Denot). KeepsIncarnations before s) same c.open.ensures.keeps.incarnations)
     (subst (λ (s : OverMemory g.row.R.Denot). FindsNoMore before s) same c.open.ensures.keeps.left)
@@ -86,7 +86,7 @@ returns-clause-ready g c = λ quiet.
     let o = c.in_ok-blob.ensures in
     let at = place (inside c.in_ok-blob.blob) in
     let same = sym c.note.ensures.noted.0 in
-    let there : IsIncarnation store (codes "f") (file_name c.args.inode) at = subst (λ (n : List ℕ). IsIncarnation store (codes "f") n at) c.to_be_bytes.ensures o.incarnation in
+    let there : IsIncarnation store (codes "f") (file_name c.args.inode) at = subst (λ (n : List ℕ). IsIncarnation store (codes "f") n at) c.to_le_bytes.ensures o.incarnation in
     record {
       faultless = ap (λ (s : OverMemory g.row.R.Denot). config_of s) c.note.ensures.noted.0 ∙ c.open.ensures.keeps.faults ∙ quiet;
       inode = c.args.inode;

@@ -1,6 +1,6 @@
 use Rattle.std.proofs.Common.{◌≡◌, ◌&&◌, List, ℕ, true, false, ap, ap₂, refl, sym, ◌∙◌, arith, subst}
 use Rattle.std.specs.Prelude.{codes}
-use Rattle.std.specs.Int.{w64, to_be_bytes}
+use Rattle.std.specs.Int.{w64, to_be_bytes, to_le_bytes}
 use Rattle.std.specs.Str.{bytes_eq}
 use Rattle.blob_model.specs.Directory.{current, is_current}
 use Rattle.blob_model.specs.Places.{Place}
@@ -23,8 +23,8 @@ returns-clause-gives g c =
     λ before.
     let at : Place = before.is.place in
     let is = current_named (directory (inner_of self.store)) (codes "j") name at before.is.current in
-    let other : (bytes_eq (codes "f") at.partition && bytes_eq c.to_be_bytes.result at.name) ≡ false =
-    ap (λ (q : List ℕ). bytes_eq (codes "f") q && bytes_eq c.to_be_bytes.result at.name) is.0 in
+    let other : (bytes_eq (codes "f") at.partition && bytes_eq c.to_le_bytes.result at.name) ≡ false =
+    ap (λ (q : List ℕ). bytes_eq (codes "f") q && bytes_eq c.to_le_bytes.result at.name) is.0 in
     let there : is_current (directory (inner_of c.remove.new.store)) at ≡ true = c.remove.ensures.keeps.current at other
     (named_current (directory (inner_of self.store)) (codes "j") name at before.is.current) in
     record {
@@ -41,8 +41,8 @@ pub returns-clause-journal : goal.returns-clause-journal
 returns-clause-journal g c =
     let self = c.args.self.now in
     let at : Place = place (inside self.journal.blob) in
-    let other : (bytes_eq (codes "f") at.partition && bytes_eq c.to_be_bytes.result at.name) ≡ false =
-    ap (λ (q : List ℕ). bytes_eq (codes "f") q && bytes_eq c.to_be_bytes.result at.name) self.partition in
+    let other : (bytes_eq (codes "f") at.partition && bytes_eq c.to_le_bytes.result at.name) ≡ false =
+    ap (λ (q : List ℕ). bytes_eq (codes "f") q && bytes_eq c.to_le_bytes.result at.name) self.partition in
     record {
       place = refl;
       durable = c.remove.ensures.bytes at other;
@@ -57,8 +57,8 @@ invariant_of-self g c =
     let self = c.args.self.now in
     let new = c.remove.new.store in
     let at : Place = place (inside self.journal.blob) in
-    let other : (bytes_eq (codes "f") at.partition && bytes_eq c.to_be_bytes.result at.name) ≡ false =
-    ap (λ (q : List ℕ). bytes_eq (codes "f") q && bytes_eq c.to_be_bytes.result at.name) self.partition in
+    let other : (bytes_eq (codes "f") at.partition && bytes_eq c.to_le_bytes.result at.name) ≡ false =
+    ap (λ (q : List ℕ). bytes_eq (codes "f") q && bytes_eq c.to_le_bytes.result at.name) self.partition in
     let keeps = c.remove.ensures.keeps in
     holds_after self new (keeps.current at other self.current) keeps.next keeps.accepted (λ test k. keeps.left at test other k)
 
@@ -66,15 +66,15 @@ pub returns-clause-others : goal.returns-clause-others
 returns-clause-others g c = λ other below apart.
     let before = c.args.self.now.store in
     let after = c.remove.new.store in
-    let keeps : KeepsOtherBlobs (codes "f") (file_name c.args.inode) before after = subst (λ (n : List ℕ). KeepsOtherBlobs (codes "f") n before after) c.to_be_bytes.ensures c.remove.ensures.others in
+    let keeps : KeepsOtherBlobs (codes "f") (file_name c.args.inode) before after = subst (λ (n : List ℕ). KeepsOtherBlobs (codes "f") n before after) c.to_le_bytes.ensures c.remove.ensures.others in
     file_beside before after c.args.inode other (omega arith) below apart keeps
 
 pub returns-clause-still : goal.returns-clause-still
 returns-clause-still g c =
     let before = c.args.self.now.store in
     let after = c.remove.new.store in
-    let keeps : KeepsOtherBlobs (codes "f") (file_name c.args.inode) before after = subst (λ (n : List ℕ). KeepsOtherBlobs (codes "f") n before after) c.to_be_bytes.ensures c.remove.ensures.others in
-    let finds : FindsNoMoreBeside (codes "f") (file_name c.args.inode) before after = subst (λ (n : List ℕ). FindsNoMoreBeside (codes "f") n before after) c.to_be_bytes.ensures c.remove.ensures.keeps.left in
+    let keeps : KeepsOtherBlobs (codes "f") (file_name c.args.inode) before after = subst (λ (n : List ℕ). KeepsOtherBlobs (codes "f") n before after) c.to_le_bytes.ensures c.remove.ensures.others in
+    let finds : FindsNoMoreBeside (codes "f") (file_name c.args.inode) before after = subst (λ (n : List ℕ). FindsNoMoreBeside (codes "f") n before after) c.to_le_bytes.ensures c.remove.ensures.keeps.left in
     keeps_beside _ _ c.args.inode (omega arith) keeps finds
 
 pub returns-clause-keeps : goal.returns-clause-keeps

@@ -27,7 +27,7 @@ returns-clause-reopened g c =
     let at = place (inside c.in_ok-blob.blob) in
     let bytes : List ℕ = live (inside c.in_ok-blob.blob) in
     let same = sym c.note.ensures.noted.0 in
-    let there : IsIncarnation c.reopen.new.store (codes "f") (file_name c.args.inode) at = subst (λ (n : List ℕ). IsIncarnation c.reopen.new.store (codes "f") n at) c.to_be_bytes.ensures o.incarnation in
+    let there : IsIncarnation c.reopen.new.store (codes "f") (file_name c.args.inode) at = subst (λ (n : List ℕ). IsIncarnation c.reopen.new.store (codes "f") n at) c.to_le_bytes.ensures o.incarnation in
     reopens _ c.args.inode _ _
     (subst (λ (s : OverMemory g.row.R.Denot). KeepsIncarnations before s) same c.reopen.ensures.keeps.incarnations)
     (subst (λ (s : OverMemory g.row.R.Denot). FindsNoMore before s) same c.reopen.ensures.keeps.left)
