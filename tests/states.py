@@ -438,8 +438,11 @@ def test_limits_of_states_and_of_seconds():
         assert [state.content for state in states] == every[:most] and states.states == min(most, len(every)), most
         # The last state is that of an outcome after which others leave the same.
         assert states.complete == (most > len(every)), (most, str(states))
+    # However short the time is, one state is found: no search ends that looked at nothing.
     states = CrashStates(script, seconds=1e-9)
-    assert list(states) == [] and states.crashes == 1 and not states.complete, str(states)
+    assert [state.content for state in states] == every[:1] and not states.complete, str(states)
+    for bad in ({"most": 0}, {"seconds": 0}, {"seconds": -1.0}, {"seconds": float("nan")}):
+        raises(ValueError, CrashStates, script, **bad)
     states = CrashStates(script, seconds=3600)
     assert len(list(states)) == len(every) and states.complete
     with tempfile.TemporaryDirectory() as work:
@@ -450,8 +453,10 @@ def test_limits_of_states_and_of_seconds():
         assert ran.stdout.endswith("2 states, not all of them: a limit was reached; 0 fail\n"), ran.stdout
         assert ran.stderr.endswith("states: not all crashes were tried. To go on: --since 3\n"), ran.stderr
         assert command("--seconds", "3600", path, "--", "true").stdout.endswith(f"{len(every)} states, all of them; 0 fail\n")
+        ran = command("--seconds", "0.000000001", "--out", os.path.join(work, "out"), path, "--", "false")
+        assert ran.returncode == 1 and ran.stdout.endswith("1 states, not all of them: a limit was reached; 1 fail\n"), ran.stdout
         for bad in ("--states", "--seconds"):
-            assert command(bad, "0", path, "--", "true").returncode == 2, bad
+            assert command(bad, "0", "--out", work, path, "--", "true").returncode == 2, bad
 
 
 def test_a_crash_in_the_record_keeps_what_it_kept():

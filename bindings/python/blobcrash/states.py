@@ -91,7 +91,7 @@ class CrashStates:
     Iterating yields each `CrashState`. Meanwhile `crashes` counts the places of a crash, `outcomes` the outcomes of their draws that were
     tried, or leave what one that was tried leaves, and `states` the states. `complete` is whether no limit was reached, `places` how many
     places there are, and `line` the last one's. Raises `BadLine` for a line that is no call, and `ValueError` for `proved` with `files` or
-    `limit`, and if there is no crash after the line `at`.
+    `limit`, for a `most` below 1, for no `seconds`, and if there is no crash after the line `at`.
     """
 
     def __init__(
@@ -109,6 +109,8 @@ class CrashStates:
     ) -> None:
         if proved and (files or limit is not None):
             raise ValueError("the program finds the states of a store, and all of them")
+        if (most is not None and most < 1) or (seconds is not None and not seconds > 0):
+            raise ValueError("`most` is at least 1, and `seconds` are more than 0")
         self._is_proved = proved
         self._parts = split_script(script)
         self._way: Any = ReplayedFiles if files else ReplayedStore
@@ -137,7 +139,7 @@ class CrashStates:
         try:
             for self.line in places:
                 line = self.line
-                if self.crashes and self._is_at_limit():
+                if self._is_at_limit():
                     return
                 self.crashes += 1
                 run.go_to(line)
@@ -158,9 +160,9 @@ class CrashStates:
             run.close()
 
     def _is_at_limit(self) -> bool:
-        """Whether no more may be tried, which is noted."""
+        """Whether no more may be tried, which is noted. At least one state is found."""
         is_late = self._seconds is not None and time.monotonic() - self._began >= self._seconds
-        is_over = is_late or (self._most is not None and self.states >= self._most)
+        is_over = self.states > 0 and (is_late or (self._most is not None and self.states >= self._most))
         self.complete = self.complete and not is_over
         return is_over
 
