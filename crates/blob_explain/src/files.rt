@@ -278,7 +278,7 @@ fn item_of(alloc: Global, entry: &Entry) -> Result<Option<Item>, Error> {
             Item::Write(Write {
                 number: Some(write.number),
                 offset: write.offset,
-                bytes: Vec::from_slice(alloc, &write.bytes)?,
+                bytes: write.bytes.to_vec(alloc)?,
                 holes,
                 kept: Vec::new(alloc),
             })

@@ -1,5 +1,5 @@
 -- The replays of a crash, entry by entry and list by list.
-use Rattle.std.proofs.Common.{◌≡◌, ⊎_elim, ℕ, zero, suc, ◌+◌, ◌-◌, ◌<◌, ◌≤◌, min, Bool, true, false, not, ◌&&◌, List, [], ◌∷◌, length, get_or, drop, replicate, Option, Some, None, refl, sym, ◌∙◌, ap, ap₂, subst, arith, true≢false, nat_lt, take, ◌++◌}
+use Rattle.std.proofs.Common.{◌≡◌, ⊎_elim, ℕ, zero, suc, ◌+◌, ◌-◌, ◌<◌, ◌≤◌, max, min, Bool, true, false, not, ◌&&◌, List, [], ◌∷◌, length, get_or, drop, replicate, Option, Some, None, refl, sym, ◌∙◌, ap, ap₂, subst, arith, true≢false, nat_lt, take, ◌++◌}
 use Rattle.std.specs.Prelude.{option_map, is_some, nat_le, Result, Ok, OnOk, IfSome}
 use Rattle.std.proofs.lemmas.Bool.{cases_Bool, cases_eq, cond_both, cond-true, cond-false, and_parts, leb-true, ltb-true, le-leb, lt-ltb, cases_lt}
 use Rattle.std.proofs.lemmas.List.{get_or-replicate, get_or_default, at_drop_more, length-append, length-take, length-drop, length-replicate, get_or-drop, take_all, get_or_append_left, get_or-take, get_or-append_right, get_or_past}
@@ -9,7 +9,7 @@ use Rattle.blob_model.specs.Durable.{Durable, with_changed}
 use Rattle.blob_model.specs.Holes.{Holes, AreApart, in_holes, need_in}
 use Rattle.blob_model.specs.Log.{Choices, Write}
 use Rattle.blob_model.specs.Order.{ListAt, held_at, has_list}
-use Rattle.blob_model.specs.Pending.{Pending, replay, bare_choices, end_of, ends}
+use Rattle.blob_model.specs.Pending.{Pending, replay, bare_choices, ends}
 use Rattle.blob_model.specs.Places.{Place, same_place}
 use Rattle.blob_model.specs.Runs.{is_chosen}
 use Rattle.blob_model.specs.SamePlace.{same_place_exact}
@@ -24,7 +24,7 @@ use Rattle.blob_pending.specs.declared.incarnation.Incarnation.{Incarnation}
 use Rattle.blob_pending.specs.declared.write.PendingWrite.{PendingWrite}
 use Rattle.blob_pending.specs.Ranges.{ranges}
 use Rattle.blob_pending.specs.Lists.{lists_of, held_by}
-use Rattle.blob_pending.specs.Replays.{width, widest, widest_of_all, unmarked}
+use Rattle.blob_pending.specs.Replays.{unmarked}
 use Rattle.blob_faulty.specs.Ready.{IsReady}
 use Rattle.blob_pending.specs.Views.{view, is_left, left_in}
 
@@ -40,20 +40,14 @@ if_some {T} r x P e h = subst (λ (q : Option T). IfSome q P) e h
 pub reach_within : (o n : ℕ) (c : ℕ → Bool) → reach o n c ≤ o + n
 reach_within o n c = reach_below o n c (o + n) (λ i h _. omega arith)
 
--- each entry of which something is left asks for no more than the list does
-pub end_in : (q : List Entry) (i : ℕ) (d : Entry) → i < length q → is_left (view (get_or q i d)) ≡ true → end_of (view (get_or q i d)) ≤ ends (left_in q)
-end_in [] i d h y = absurd (omega arith)
-end_in (x ∷ q) zero d h y = let is = ap ends (cond-true (is_left (view x)) (view x ∷ left_in q) (left_in q) y) in omega (arith, is)
-end_in (x ∷ q) (suc i) d h y =
-    let rest = end_in q i d (omega arith) y in
-    cond_both (is_left (view x)) (view x ∷ left_in q) (left_in q) (λ r. end_of (view (get_or q i d)) ≤ ends r) (λ _. omega (arith, rest)) (λ _. rest)
-
-pub width_in : (q : List Entry) (i : ℕ) (d : Entry) → i < length q → is_left (view (get_or q i d)) ≡ true → width (view (get_or q i d)) ≤ widest (left_in q)
-width_in [] i d h y = absurd (omega arith)
-width_in (x ∷ q) zero d h y = let is = ap widest (cond-true (is_left (view x)) (view x ∷ left_in q) (left_in q) y) in omega (arith, is)
-width_in (x ∷ q) (suc i) d h y =
-    let rest = width_in q i d (omega arith) y in
-    cond_both (is_left (view x)) (view x ∷ left_in q) (left_in q) (λ r. width (view (get_or q i d)) ≤ widest r) (λ _. omega (arith, rest)) (λ _. rest)
+-- each entry of which something is left needs no more of what f counts than the list, whose greatest need is g
+pub most_in : (f : Pending → ℕ) (g : List Pending → ℕ) → ((e : Pending) (r : List Pending) → g (e ∷ r) ≡ max (f e) (g r)) → (q : List Entry) (i : ℕ) (d : Entry) → i < length q → is_left (view (get_or q i d)) ≡ true →
+    f (view (get_or q i d)) ≤ g (left_in q)
+most_in f g step [] i d h y = absurd (omega arith)
+most_in f g step (x ∷ q) zero d h y = let is = ap g (cond-true (is_left (view x)) (view x ∷ left_in q) (left_in q) y) in omega (arith, is, step (view x) (left_in q))
+most_in f g step (x ∷ q) (suc i) d h y =
+    let rest = most_in f g step q i d (omega arith) y in
+    cond_both (is_left (view x)) (view x ∷ left_in q) (left_in q) (λ r. f (view (get_or q i d)) ≤ g r) (λ _. omega (arith, rest, step (view x) (left_in q))) (λ _. rest)
 
 -- as an index of the write
 same_test : (a b : Bool) → (a ≡ true → b ≡ true) → (b ≡ true → a ≡ true) → a ≡ b
@@ -135,11 +129,12 @@ replay_first t h hs f f' a alone told = ap (replayed_at t (held_at hs a)) told �
     go None = refl
     go (Some x) = refl
 
--- no list needs more choices than the widest
-pub widest_in : {O : Type 0} (place : O → Place) (is : List (Incarnation O)) (i : ℕ) (x : Incarnation O) → i < length is → x ≡ get_or is i x → widest (unmarked (left_in x.entries.items)) ≤ widest_of_all (lists_of place is)
-widest_in place [] i x h e = absurd (omega arith)
-widest_in {O} place (y ∷ is) zero x h e = omega (arith, ap (λ (z : Incarnation O). widest (unmarked (left_in z.entries.items))) e)
-widest_in place (y ∷ is) (suc i) x h e = omega (arith, widest_in place is i x (omega arith) e)
+-- no list needs more than all lists, whose greatest need is `all`
+pub most_of_all : {O : Type 0} (place : O → Place) (g : List Pending → ℕ) (all : List ListAt → ℕ) → ((h : ListAt) (hs : List ListAt) → all (h ∷ hs) ≡ max (g (unmarked h.1)) (all hs)) → (is : List (Incarnation O)) (i : ℕ) (x : Incarnation O) →
+    i < length is → x ≡ get_or is i x → g (unmarked (left_in x.entries.items)) ≤ all (lists_of place is)
+most_of_all place g all step [] i x h e = absurd (omega arith)
+most_of_all {O} place g all step (y ∷ is) zero x h e = omega (arith, ap (λ (z : Incarnation O). g (unmarked (left_in z.entries.items))) e, step (held_by place y) (lists_of place is))
+most_of_all place g all step (y ∷ is) (suc i) x h e = omega (arith, most_of_all place g all step is i x (omega arith) e, step (held_by place y) (lists_of place is))
 
 -- a store that keeps its directory and lowers no capacity stays ready
 pub still_ready : (s s' : Storage) (h : ListAt) → directory s' ≡ directory s → ((o : Place) (n : ℕ) → HasCrashRoom s o n → HasCrashRoom s' o n) → IsReady s h → IsReady s' h
@@ -161,7 +156,7 @@ held_more is i x h e = at_drop_more (λ (l : List (Incarnation Place)). lists_of
 pub record LiesIn (w : PendingWrite) (h : Extent) : Type 0 where
   pub low : w.offset ≤ h.start
   pub some : h.start < h.end
-  pub high : h.end ≤ w.offset + length w.bytes.items
+  pub high : h.end ≤ w.offset + length w.bytes
 
 hole_at : (from : ℕ) (hs : List Extent) (end j : ℕ) (d : Extent) → AreApart from (ranges hs) end → j < length hs → (from ≤ (get_or hs j d).start) × ((get_or hs j d).start < (get_or hs j d).end) × ((get_or hs j d).end ≤ end)
 hole_at from [] end j d a l = absurd (omega arith)
@@ -170,7 +165,7 @@ hole_at from (h ∷ hs) end (suc j) d a l = let r = hole_at (suc h.end) hs end j
 
 pub hole_in : (w : PendingWrite) (hs : List Extent) (j : ℕ) (d : Extent) → hs ≡ w.holes.items → j < length hs → LiesIn w (get_or hs j d)
 hole_in w hs j d same l =
-    let r = hole_at w.offset hs (w.offset + length w.bytes.items) j d (subst (λ (l : List Extent). AreApart w.offset (ranges l) (w.offset + length w.bytes.items)) (sym same) w.apart) l in
+    let r = hole_at w.offset hs (w.offset + length w.bytes) j d (subst (λ (l : List Extent). AreApart w.offset (ranges l) (w.offset + length w.bytes)) (sym same) w.apart) l in
     record { low = r.0; some = r.1; high = r.2 }
 
 -- a prefix of a row, and false after it

@@ -42,5 +42,5 @@ ReplaysLists lists rows before after = ArePlacesApart (lists_of (λ o. o) lists)
 
 -- for each byte of a write the row's choice, except those that a later durable range covers
 abbrev pub ChoosesUncovered : List Bool → PendingWrite → List Bool → Type 0
-ChoosesUncovered chosen write row = (i : ℕ) → i < length write.bytes.items
+ChoosesUncovered chosen write row = (i : ℕ) → i < length write.bytes
     → slice_index_or chosen i false ≡ (not (in_holes (ranges write.holes.items) (write.offset + i)) && slice_index_or row i false)

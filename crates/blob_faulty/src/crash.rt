@@ -5,13 +5,14 @@ ghost use Rattle.blob_header.specs.Refusals.{IsMemory};
 ghost use Rattle.blob_faulty.specs.Crashes.{CrashDraws, CrashLeaves, ReplaysPending};
 ghost use Rattle.blob_faulty.specs.Keeps.{Keeps};
 ghost use Rattle.blob_faulty.specs.Names.{Steps};
+ghost use Rattle.blob_pending.specs.Contents.{HasZeros};
 ghost use Rattle.blob_pending.specs.Lists.{lists_of, held_by};
-ghost use Rattle.blob_pending.specs.Replays.{widest_of_all};
+ghost use Rattle.blob_pending.specs.Replays.{most_zeros_of_all, widest_of_all};
 ghost use Rattle.blob_faulty.specs.Ready.{IsReady};
 ghost use Rattle.blob_faulty.specs.Wrapper.{KeepsNumbers, KeepsRecords, inner_of, pending_of};
 ghost use Rattle.blob_memory.specs.Store.{directory, durable};
 
-use crate::replay::replay_all;
+use crate::replay::{Buffers, replay_all};
 use crate::storage::Storage;
 use blob_base::Error;
 use blob_draws::rows::draw_rows;
@@ -23,27 +24,32 @@ use blob_pending::incarnation::Incarnation;
 use rand_core::Rng;
 use std::alloc::{AllocError, Global};
 
-/// Reserves capacity for the result of replaying each list of a current incarnation. Returns an empty list of choices with capacity
-/// for the longest write. An overflowing length is reported as an allocation failure.
+/// Reserves capacity for the result of replaying each list of a current incarnation. Returns the buffers for the longest writes. An
+/// overflowing length is reported as an allocation failure.
 pub(crate) fn reserve_all(
     inner: &mut blob_memory::Storage,
     alloc: Global,
     lists: &[Incarnation<Origin>],
-) -> Result<Vec<bool>, AllocError>
+) -> Result<Buffers, AllocError>
     ensures ready { OnOk result (All (λ list. IsReady inner.new (held_by (λ o. o) list)) lists.now) }
-    ensures wide { IfOk result (λ chosen. widest_of_all (lists_of (λ o. o) lists.now) ≤ vec_capacity chosen) }
+    ensures wide { IfOk result (λ made. widest_of_all (lists_of (λ o. o) lists.now) ≤ vec_capacity made.chosen) }
+    ensures zeros { IfOk result (λ made. HasZeros (most_zeros_of_all (lists_of (λ o. o) lists.now)) made.zeros.items) }
     ensures durable { durable inner.new ≡ durable inner.old }
     ensures directory { directory inner.new ≡ directory inner.old }
 {
-    let mut most = 0;
+    let mut choices = 0;
+    let mut zeros = 0;
     for list in lists {
-        let (end, widest) = replay_room(unmarked(&list.entries));
-        if inner.reserve_crash(&list.origin, end).is_err() {
+        let room = replay_room(unmarked(&list.entries));
+        if inner.reserve_crash(&list.origin, room.end).is_err() {
             return Err(AllocError);
         }
-        most = most.max(widest);
+        choices = choices.max(room.choices);
+        zeros = zeros.max(room.zeros);
     }
-    Vec::with_capacity(alloc, most)
+    let chosen = Vec::with_capacity(alloc, choices)?;
+    let zeros = vec![in alloc; 0; zeros]?;
+    Ok(Buffers { zeros, chosen })
 }
 
 impl<R: Rng> Storage<blob_memory::Storage, R> {
@@ -74,8 +80,8 @@ impl<R: Rng> Storage<blob_memory::Storage, R> {
         let alloc = self.alloc;
         let draws = gather(alloc, self.lists.as_slice())?;
         let rows = draw_rows(alloc, &draws, &mut self.rng)?;
-        let mut chosen = reserve_all(&mut self.inner, alloc, self.lists.as_slice())?;
-        replay_all(&mut self.inner, self.lists.as_slice(), &rows, &mut chosen);
+        let buffers = reserve_all(&mut self.inner, alloc, self.lists.as_slice())?;
+        replay_all(&mut self.inner, self.lists.as_slice(), &rows, buffers);
         self.lists.clear();
         Ok(Selections::new(rows))
     }

@@ -48,8 +48,8 @@ impl<R: Rng> Storage<blob_memory::Storage, R> {
         let draws = gather(alloc, self.lists.as_slice())?;
         let rows = draw_rows(alloc, &draws, &mut rng)?;
         let mut inner = self.inner.fork()?;
-        let mut chosen = reserve_all(&mut inner, alloc, self.lists.as_slice())?;
-        replay_all(&mut inner, self.lists.as_slice(), &rows, &mut chosen);
+        let buffers = reserve_all(&mut inner, alloc, self.lists.as_slice())?;
+        replay_all(&mut inner, self.lists.as_slice(), &rows, buffers);
         let left = Storage {
             inner,
             rng,

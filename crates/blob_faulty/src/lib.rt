@@ -23,6 +23,6 @@ pub use blob_draws::{
     Config, PartialWriteMode, ResizeConfig, Selections, WriteConfig, cells, config, draw, faults,
     mode, runs, selection, selections, write_config_from_cell,
 };
-pub use blob_pending::{entries, entry, extent, holes, incarnation, lists, write};
+pub use blob_pending::{content, entries, entry, extent, holes, incarnation, lists, write};
 pub use retired::Retired;
 pub use storage::Storage;

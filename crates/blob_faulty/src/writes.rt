@@ -15,6 +15,7 @@ use crate::storage::Storage;
 use blob_base::{Error, WriteOptions};
 use blob_draws::config::WriteConfig;
 use blob_draws::faults::{WriteFate, retained};
+use blob_pending::content::Content;
 use blob_pending::room::Room;
 use blob_pending::write::PendingWrite;
 
@@ -70,7 +71,7 @@ impl<B> Blob<B> {
         if store.next_write == u64::MAX {
             return Err(Error::GenerationsExhausted);
         }
-        let copy = Vec::from_slice(store.alloc, bytes)?;
+        let copy = Content::from_slice(store.alloc, bytes)?;
         let list = store.lists.room_for(&self.inner, self.list, Room::Entry)?;
         self.write_unrecorded(store, offset, end, bytes)?;
         let number = store.next_write;

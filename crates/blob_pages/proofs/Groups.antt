@@ -9,7 +9,8 @@ use Rattle.blob_pages.specs.declared.page.Page.{Page}
 use Rattle.blob_pages.specs.declared.group.Group.{Group}
 use Rattle.blob_pages.specs.Paged.{page_size, page_bytes, is_owned, owned_at, splice, Keeps, Puts, Pushes, Adds}
 use Rattle.blob_pages.specs.Groups.{group_size, group_pages, group_bytes, all_pages, NoneOwned, IsSound, IsPacked, IsFirst}
-use Rattle.blob_pages.proofs.Paged.{table_length, table_at, owner_there, keeps_same, keeps_through, keeps_more, shared_more, adds_none, adds_page}
+use Rattle.blob_pages.proofs.Paged.{table_length, table_at, owner_there, keeps_same, keeps_through, keeps_more, shared_more}
+use Rattle.blob_pages.proofs.Appending.{adds_none, adds_page}
 
 -- the pages before and after those of group k
 pub record Around (gs : List Group) (k : ℕ) (g : Group) : Type 0 where
@@ -175,8 +176,8 @@ module _ (gs : List Group) (p : IsPacked gs) (k : ℕ) (g h : Group) (page : Pag
       pushed (Ok x) u = omega (arith, ap length u.ok.2, length-append u.ok.0 (page ∷ []), table_length (group_pages g) u.ok.0 u.ok.1.bytes)
       pushed (Err e) u = omega (arith, table_length (group_pages g) (group_pages h) u.err.bytes)
 
-  pub adds_push : {T E : Type 0} (result : Result T E) → Pushes result (group_pages g) (group_pages h) page → length (page_bytes page) ≡ page_size → is_owned page ≡ true → Adds result (all_pages gs) (all_pages (set gs k h))
-  adds_push (Err e) u size own = adds_none (Err e) (all_pages gs) (all_pages (set gs k h)) (keeps_in gs p k g h there is u.err) tt
+  pub adds_push : {T E : Type 0} (result : Result T E) → Pushes result (group_pages g) (group_pages h) page → length (page_bytes page) ≡ page_size → is_owned page ≡ true → Adds result (all_pages gs) (all_pages (set gs k h)) (page_bytes page)
+  adds_push (Err e) u size own = adds_none (Err e) (all_pages gs) (all_pages (set gs k h)) (keeps_in gs p k g h there is u.err) (page_bytes page) tt tt
   adds_push (Ok x) u size own =
       let a = around_of gs p k g there in
       let none : a.behind ≡ [] = nil_from_length a.behind (a.last last) in

@@ -1,3 +1,4 @@
+pub mod Appending
 pub mod Mixed
 pub mod Pieces
 pub mod Paged

@@ -1,6 +1,5 @@
 -- Changes of a list of pages.
 use Rattle.std.proofs.Common.{[], ◌∷◌, ◌≡◌, ◌≢◌, ◌⊎◌, inl, inr, ⊎_elim, ℕ, ◌+◌, ◌-◌, ◌*◌, ◌/◌, ◌%◌, ◌<◌, ◌≤◌, max, true, false, true≢false, List, ◌++◌, length, get_or, take, drop, set, map, replicate, refl, sym, ◌∙◌, ap, arith, append_assoc, length-append, length-take, length-drop, length-set, get_or-set_same, get_or-set_other}
-use Rattle.std.proofs.Common.{Result, Ok, Err, OnOk}
 use Rattle.std.proofs.lemmas.Bool.{cases_lt, cases_eq}
 use Rattle.std.proofs.lemmas.List.{drop-drop, length-map, map-set, map-append, length-replicate, get_or-replicate, get_or_append_left, get_or-append_right, get_or-take, get_or-drop, get_or-map, get_or_past, set-get_or}
 use Rattle.std.proofs.Math.Seq.{take-add}
@@ -8,7 +7,7 @@ use Rattle.blob_pages.specs.declared.page.Page.{Page}
 use Rattle.std.proofs.lemmas.List.FromFn.{length-map-range_with_len, get_or-map-range_with_len}
 use Rattle.blob_model.specs.Bytes.{overlay, resize, reach}
 use Rattle.blob_model.proofs.Bytes.{same_bytes, length-resized, at_resized, past_resized, length-overlay_by, reach_below, reach_all, at_chosen, at_other}
-use Rattle.blob_pages.specs.Paged.{page_size, bytes_in, page_bytes, is_owned, byte_at, owned_at, AreFull, AreOwned, Keeps, KeepsOwned, Extends, Lays, Puts, Adds, splice}
+use Rattle.blob_pages.specs.Paged.{page_size, bytes_in, page_bytes, is_owned, byte_at, owned_at, AreFull, AreOwned, Keeps, KeepsOwned, Extends, Lays, Puts, splice}
 
 module _ (x : List ℕ) (n : ℕ) (y : List ℕ) (h : n + length y ≤ length x) where
   pub length-spliced : length (splice x n y) ≡ length x
@@ -66,7 +65,7 @@ pub byte_in : (ps : List Page) (p : ℕ) (page : Page) → p / page_size < lengt
 unfolding byte_at
 byte_in ps p page h is = ap (λ l. get_or l (p % page_size) 0) (table_at ps (p / page_size) page h is)
 
-at_page : (ps : List Page) (i p : ℕ) → p / page_size ≡ i → byte_at ps p ≡ get_or (get_or (map page_bytes ps) i []) (p % page_size) 0
+pub at_page : (ps : List Page) (i p : ℕ) → p / page_size ≡ i → byte_at ps p ≡ get_or (get_or (map page_bytes ps) i []) (p % page_size) 0
 unfolding byte_at
 at_page ps i p same = ap (λ j. get_or (get_or (map page_bytes ps) j []) (p % page_size) 0) same
 
@@ -146,7 +145,7 @@ module _ (b : List Page) (q : Page) where
   table_kept : (i : ℕ) → i < length b → get_or (map page_bytes (b ++ q ∷ [])) i [] ≡ get_or (map page_bytes b) i []
   table_kept i h = ap (λ t. get_or t i []) (map-append page_bytes b (q ∷ [])) ∙ get_or_append_left (map page_bytes b) _ [] i (omega (arith, h, length-map b page_bytes))
 
-  table_new : get_or (map page_bytes (b ++ q ∷ [])) (length b) [] ≡ page_bytes q
+  pub table_new : get_or (map page_bytes (b ++ q ∷ [])) (length b) [] ≡ page_bytes q
   table_new = ap (λ t. get_or t (length b) []) (map-append page_bytes b (q ∷ [])) ∙ get_or-append_right (map page_bytes b) (page_bytes q ∷ []) (length b) (length b) [] (length-map b page_bytes) (omega arith) ∙ ap (λ k. get_or (page_bytes q ∷ []) k []) zero_left
     where
       zero_left : length b - length b ≡ 0
@@ -250,29 +249,6 @@ keeps_through a b c x y = record { bytes = y.bytes ∙ x.bytes; owned = owned_th
 -- the same pages, some of them copied
 pub keeps_from : (a b : List Page) → map page_bytes b ≡ map page_bytes a → map is_owned b ≡ map is_owned a → Keeps a b
 keeps_from a b e o = record { bytes = e; owned = record { each = λ i h. ap (λ t. get_or t i false) o ∙ h } }
-
--- nothing is appended
-pub adds_none : {T E : Type 0} (result : Result T E) (a b : List Page) → Keeps a b → OnOk result (length b ≡ length a + 1) → Adds result a b
-adds_none result a b k one = record {
-  extends = extends_kept a a b (extends_same a) k;
-  one = one;
-  owned = record { each = λ i l m. absurd (omega (arith, l, m, table_length a b k.bytes)) };
-}
-
--- a page that only this value has is appended
-pub adds_page : {T E : Type 0} (result : Result T E) (a b : List Page) (q : Page) → Keeps a b → length (page_bytes q) ≡ page_size → is_owned q ≡ true → Adds result a (b ++ q ∷ [])
-adds_page result a b q k size own = record {
-  extends = extends_more a b q (extends_kept a a b (extends_same a) k) size;
-  one = on_ok result (omega (arith, len, table_length a b k.bytes));
-  owned = record { each = λ i l m. (all_owned_more b (length b) q (record { each = λ j u v. absurd (omega (arith, u, v)) }) own).each i (omega (arith, l, table_length a b k.bytes)) m };
-}
-  where
-    len : length (b ++ q ∷ []) ≡ length b + 1
-    len = length-append b (q ∷ [])
-
-    on_ok : {T E : Type 0} (r : Result T E) {P : Type 0} → P → OnOk r P
-    on_ok (Ok x) p = p
-    on_ok (Err e) p = tt
 
 -- a range of pages that only this value has, and one more
 pub owned_next : (b c : List Page) (from i : ℕ) → AreOwned b from i → KeepsOwned b c → owned_at c i ≡ true → AreOwned c from (i + 1)

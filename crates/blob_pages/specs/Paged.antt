@@ -39,6 +39,10 @@ pub record AreFull (ps : List Page) : Type 0 where
 pub record AreOwned (ps : List Page) (from to : ℕ) : Type 0 where
   pub each : (i : ℕ) → from ≤ i → i < to → owned_at ps i ≡ true
 
+-- only this value has the pages of the bytes of a range
+abbrev pub OwnsBytes : List Page → ℕ → ℕ → Type 0
+OwnsBytes ps from to = (p : ℕ) → from ≤ p → p < to → owned_at ps (p / page_size) ≡ true
+
 -- each page that only this value has stays so
 pub record KeepsOwned (old new : List Page) : Type 0 where
   pub each : (i : ℕ) → owned_at old i ≡ true → owned_at new i ≡ true
@@ -55,10 +59,11 @@ pub record Extends (old new : List Page) : Type 0 where
   pub full : AreFull old → AreFull new
   pub owned : KeepsOwned old new
 
--- the result of an append of a page that only this value has
-pub record Adds {T E : Type 0} (result : Result T E) (old new : List Page) : Type 0 where
+-- the result of an append of a page with these bytes that only this value has
+pub record Adds {T E : Type 0} (result : Result T E) (old new : List Page) (run : List ℕ) : Type 0 where
   pub extends : Extends old new
   pub one : OnOk result (length new ≡ length old + 1)
+  pub bytes : OnOk result (slice_index_or (map page_bytes new) (length old) [] ≡ run)
   pub owned : AreOwned new (length old) (length new)
 
 -- a run written to existing pages
@@ -68,6 +73,13 @@ pub record Lays (old new : List Page) (offset : ℕ) (run : List ℕ) : Type 0 w
   pub outside : (p : ℕ) → (p < offset) ⊎ (offset + length run ≤ p) → byte_at new p ≡ byte_at old p
   pub full : AreFull new
   pub owned : KeepsOwned old new
+
+-- the pages have the bytes of a run at an offset from index `start` up to `end`
+pub record HavePart (ps : List Page) (offset : ℕ) (run : List ℕ) (start end : ℕ) : Type 0 where
+  pub order : start ≤ end
+  pub within : end ≤ length run
+  pub there : offset + end ≤ page_size * length ps
+  pub bytes : (p : ℕ) → offset + start ≤ p → p < offset + end → byte_at ps p ≡ slice_index run (p - offset)
 
 -- x with y written over it at n
 abbrev pub splice : List ℕ → ℕ → List ℕ → List ℕ

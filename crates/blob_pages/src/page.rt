@@ -67,6 +67,14 @@ pub fn zeros(alloc: Global) -> Result<Page, AllocError>
     Ok(Page::Owned(Vec::from_elem(alloc, 0u8, PAGE)?))
 }
 
+/// Makes a page of these bytes. The only error is out of memory.
+pub fn page_of(alloc: Global, bytes: &[u8]) -> Result<Page, AllocError>
+    ensures owned { IfOk result (λ page. is_owned page ≡ true) }
+    ensures bytes { IfOk result (λ page. page_bytes page ≡ bytes.now) }
+{
+    Ok(Page::Owned(Vec::from_slice(alloc, bytes)?))
+}
+
 /// Writes a run to a page that only this value has.
 pub fn put(page: &mut Page, at: usize, run: &[u8])
     requires owned { is_owned page.old ≡ true }

@@ -1,6 +1,6 @@
 // Changes of the pages of a value. All pages are full. The bytes after the length are arbitrary.
 ghost use Rattle.std.specs.Prelude.{◌≡◌, ◌≤◌, ◌<◌, ◌+◌, ◌-◌, ◌*◌, ◌/◌, ◌^◌, ◌++◌, ℕ, true, length, take, drop, max, min, replicate, OnOk, IfOk, vec_capacity};
-ghost use Rattle.blob_pages.specs.Paged.{page_size, owned_at, AreFull, AreOwned, Keeps, Extends, Lays, bytes_in, Changes, Blanks, WritesRun};
+ghost use Rattle.blob_pages.specs.Paged.{page_size, byte_at, owned_at, AreFull, AreOwned, HavePart, Keeps, Extends, Lays, OwnsBytes, bytes_in, Changes, Blanks, WritesRun};
 ghost use Rattle.blob_model.specs.Bytes.{overlay, resize};
 
 use crate::page::{PAGE, count, on_page};
@@ -49,6 +49,54 @@ pub fn take_room(
     Ok(())
 }
 
+/// Appends pages made of the bytes of a run at `offset`, as long as the run covers the next page whole. The pages before
+/// `offset` are there. Returns which part of the run the pages have then, by its first index and the one after its last.
+/// The only error is out of memory. Some pages may be added then.
+fn append_whole(
+    alloc: Global,
+    pages: &mut Table,
+    offset: usize,
+    run: &[u8],
+) -> Result<(usize, usize), AllocError>
+    requires there { offset ≤ page_size * length pages.old }
+    requires counted { offset + length run.now < 2 ^ 64 }
+    ensures extends { Extends pages.old pages.new }
+    ensures part { IfOk result (λ part. HavePart pages.new offset run.now part.0 part.1) }
+{
+    let have = pages.len();
+    let count = (offset + run.len()) / PAGE;
+    if count <= have {
+        return Ok((0, 0));
+    }
+    for i in have..count {
+        let at = i * PAGE - offset;
+        pages.add_run(alloc, &run[at..at + PAGE])?;
+    }
+    Ok((have * PAGE - offset, count * PAGE - offset))
+}
+
+/// Prepares the pages as `take_room` does for a change from `from` to the end of a run at `offset`. Missing pages that the
+/// run covers whole are made of its bytes, since zeros in them would be overwritten. Returns which part of the run the
+/// pages have then. The only error is out of memory. The bytes are unchanged then.
+fn take_room_for(
+    alloc: Global,
+    pages: &mut Table,
+    from: usize,
+    offset: usize,
+    run: &[u8],
+) -> Result<(usize, usize), AllocError>
+    requires { offset + length run.now < 2 ^ 64 }
+    ensures extends { Extends pages.old pages.new }
+    ensures there { OnOk result (offset + length run.now ≤ page_size * length pages.new) }
+    ensures owned { OnOk result (OwnsBytes pages.new from (offset + length run.now)) }
+    ensures part { IfOk result (λ part. HavePart pages.new offset run.now part.0 part.1) }
+{
+    extend(alloc, pages, count(offset))?;
+    let part = append_whole(alloc, pages, offset, run)?;
+    take_room(alloc, pages, from, offset + run.len())?;
+    Ok(part)
+}
+
 /// Writes a run to existing pages that only this value has.
 pub fn lay(pages: &mut Table, offset: usize, run: &[u8])
     requires full { AreFull pages.old }
@@ -65,6 +113,20 @@ pub fn lay(pages: &mut Table, offset: usize, run: &[u8])
         pages.put(at / PAGE, at % PAGE, &run[done..done + n]);
         done += n;
     }
+}
+
+/// Writes a run to existing pages that only this value has, except a part that they have.
+fn lay_around(pages: &mut Table, offset: usize, run: &[u8], part: (usize, usize))
+    requires full { AreFull pages.old }
+    requires fits { offset + length run.now ≤ page_size * length pages.old }
+    requires counted { offset + length run.now < 2 ^ 64 }
+    requires owned { OwnsBytes pages.old offset (offset + length run.now) }
+    requires part { HavePart pages.old offset run.now part.0 part.1 }
+    ensures { Lays pages.old pages.new offset run.now }
+{
+    let (start, end) = part;
+    lay(pages, offset, &run[..start]);
+    lay(pages, offset + end, &run[end..]);
 }
 
 /// Writes zeros to existing pages that only this value has.
@@ -90,6 +152,7 @@ pub fn blank_to(pages: &mut Table, len: usize, end: usize) -> usize
     requires owned { (p : ℕ) → len ≤ p → p < end → owned_at pages.old (p / page_size) ≡ true }
     ensures len { result ≡ max len end }
     ensures blanks { Blanks pages.old pages.new len result (resize (bytes_in pages.old len) result) }
+    ensures later { (p : ℕ) → end ≤ p → byte_at pages.new p ≡ byte_at pages.old p }
 {
     if len < end {
         blank(pages, len, end);
@@ -112,19 +175,20 @@ pub fn set_len(alloc: Global, pages: &mut Table, old: usize, len: usize) -> Resu
     Ok(())
 }
 
-/// Writes a run to existing pages that only this value has, after zeros if it starts past the length `old`. Returns the
-/// new length.
-fn lay_on(pages: &mut Table, old: usize, offset: usize, run: &[u8]) -> usize
+/// Writes a run to existing pages that only this value has, after zeros if it starts past the length `old`. The pages have
+/// a part of the run, which isn't written again. Returns the new length.
+fn lay_on(pages: &mut Table, old: usize, offset: usize, run: &[u8], part: (usize, usize)) -> usize
     requires full { AreFull pages.old }
     requires some { 0 < length run.now }
     requires fits { max old (offset + length run.now) ≤ page_size * length pages.old }
     requires counted { offset + length run.now < 2 ^ 64 }
     requires owned { (p : ℕ) → min offset old ≤ p → p < offset + length run.now → owned_at pages.old (p / page_size) ≡ true }
+    requires part { HavePart pages.old offset run.now part.0 part.1 }
     ensures len { result ≡ max old (offset + length run.now) }
     ensures laid { Blanks pages.old pages.new old result (overlay (bytes_in pages.old old) offset run.now) }
 {
     let len = blank_to(pages, old, offset);
-    lay(pages, offset, run);
+    lay_around(pages, offset, run, part);
     len.max(offset + run.len())
 }
 
@@ -152,11 +216,11 @@ pub fn lay_over(
             return Ok(old.max(end));
         }
         if old / PAGE == offset / PAGE {
-            return Ok(lay_on(pages, old, offset, run));
+            return Ok(lay_on(pages, old, offset, run, (0, 0)));
         }
     }
-    take_room(alloc, pages, std::cmp::min(offset, old), end)?;
-    Ok(lay_on(pages, old, offset, run))
+    let part = take_room_for(alloc, pages, offset.min(old), offset, run)?;
+    Ok(lay_on(pages, old, offset, run, part))
 }
 
 /// Returns the bytes from `at` on that are on one page, at most `len`.

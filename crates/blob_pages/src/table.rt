@@ -4,7 +4,7 @@ ghost use Rattle.blob_pages.specs.Paged.{page_size, page_bytes, is_owned, owned_
 ghost use Rattle.blob_pages.specs.Groups.{group_size, all_pages, NoneOwned, IsPacked, IsFirst};
 
 use crate::group::{GROUP, Group, clear_in, copy_group, own_in, push_in, put_in, share_group};
-use crate::page::{Page, zeros};
+use crate::page::{Page, page_of, zeros};
 use std::alloc::{AllocError, Global};
 use std::marker::Model;
 
@@ -65,7 +65,19 @@ impl Table {
         ensures one { OnOk result (length self.new ≡ length self.old + 1) }
         ensures owned { AreOwned self.new (length self.old) (length self.new) }
     {
-        add_to(alloc, &mut self.groups)
+        let page = zeros(alloc)?;
+        add_to(alloc, &mut self.groups, page)
+    }
+
+    /// Appends a page of these bytes. The only error is out of memory. The bytes are unchanged then.
+    pub fn add_run(&mut self, alloc: Global, run: &[u8]) -> Result<(), AllocError>
+        requires { length run.now ≡ page_size }
+        ensures extends { Extends self.old self.new }
+        ensures one { OnOk result (length self.new ≡ length self.old + 1) }
+        ensures bytes { OnOk result (slice_index_or (map page_bytes self.new) (length self.old) [] ≡ run.now) }
+    {
+        let page = page_of(alloc, run)?;
+        add_to(alloc, &mut self.groups, page)
     }
 
     /// Replaces a shared page by a copy that only this value has. The only error is out of memory. The bytes are
@@ -168,7 +180,7 @@ fn add_last(alloc: Global, groups: &mut Vec<Group>, page: Page) -> Result<(), Al
     requires owned { is_owned page ≡ true }
     requires full { length (page_bytes page) ≡ page_size }
     ensures packed { IsPacked groups.new.items }
-    ensures adds { Adds result (all_pages groups.old.items) (all_pages groups.new.items) }
+    ensures adds { Adds result (all_pages groups.old.items) (all_pages groups.new.items) (page_bytes page) }
 {
     let last = groups.len() - 1;
     push_in(alloc, &mut groups[last], page)
@@ -181,7 +193,7 @@ fn add_group(alloc: Global, groups: &mut Vec<Group>, page: Page) -> Result<(), A
     requires owned { is_owned page ≡ true }
     requires full { length (page_bytes page) ≡ page_size }
     ensures packed { IsPacked groups.new.items }
-    ensures adds { Adds result (all_pages groups.old.items) (all_pages groups.new.items) }
+    ensures adds { Adds result (all_pages groups.old.items) (all_pages groups.new.items) (page_bytes page) }
 {
     let mut pages = Vec::new(alloc);
     pages.push(page)?;
@@ -189,13 +201,14 @@ fn add_group(alloc: Global, groups: &mut Vec<Group>, page: Page) -> Result<(), A
     Ok(())
 }
 
-/// Appends a page of zeros. The only error is out of memory. The bytes are unchanged then.
-fn add_to(alloc: Global, groups: &mut Vec<Group>) -> Result<(), AllocError>
+/// Appends a page. The only error is out of memory. The bytes are unchanged then.
+fn add_to(alloc: Global, groups: &mut Vec<Group>, page: Page) -> Result<(), AllocError>
     requires packed { IsPacked groups.old.items }
+    requires owned { is_owned page ≡ true }
+    requires full { length (page_bytes page) ≡ page_size }
     ensures packed { IsPacked groups.new.items }
-    ensures adds { Adds result (all_pages groups.old.items) (all_pages groups.new.items) }
+    ensures adds { Adds result (all_pages groups.old.items) (all_pages groups.new.items) (page_bytes page) }
 {
-    let page = zeros(alloc)?;
     if count_of(groups.as_slice()) / GROUP < groups.len() {
         return add_last(alloc, groups, page);
     }

@@ -95,16 +95,16 @@ apart_le b o e start end low high apart =
     (λ n. let x : end ≤ b.start = leb-true end b.start (ap (λ (c : Bool). c || nat_le end b.start) (sym n) ∙ apart) in omega (arith, l, h, x))
     (cases_Bool (nat_le b.end start))
 
-lies_within : (b : Extent) (w : PendingWrite) → is_within b (view (entry.Write w)) ≡ true → (nat_le b.start w.offset ≡ true) × (nat_le (w.offset + length w.bytes.items) b.end ≡ true)
+lies_within : (b : Extent) (w : PendingWrite) → is_within b (view (entry.Write w)) ≡ true → (nat_le b.start w.offset ≡ true) × (nat_le (w.offset + length w.bytes) b.end ≡ true)
 lies_within b w within =
-    let some : eqb (length w.bytes.items) 0 ≡ false = ne_eqb _ _ (λ none. omega (arith, none, w.some)) in
-    and_parts (nat_le b.start w.offset) _ (sym (ap (λ (c : Bool). c || (nat_le b.start w.offset && nat_le (w.offset + length w.bytes.items) b.end)) some) ∙ within)
+    let some : eqb (length w.bytes) 0 ≡ false = ne_eqb _ _ (λ none. omega (arith, none, w.some)) in
+    and_parts (nat_le b.start w.offset) _ (sym (ap (λ (c : Bool). c || (nat_le b.start w.offset && nat_le (w.offset + length w.bytes) b.end)) some) ∙ within)
 
 pub room_apart : (b : Extent) (e : Entry) (start end count : ℕ) (hs : Holes) → is_within b (view e) ≡ true → is_apart start end b ≡ true → AreWithin start end count hs → HasRoomFor hs e
 room_apart b (entry.Write w) start end count hs within apart few =
     let a = lies_within b w within in
-    let met = met_few w.offset (w.offset + length w.bytes.items) start end count hs (omega (arith, w.some)) few in
-    omega (arith, met, apart_le b w.offset (w.offset + length w.bytes.items) start end a.0 a.1 apart, w.holes.ok)
+    let met = met_few w.offset (w.offset + length w.bytes) start end count hs (omega (arith, w.some)) few in
+    omega (arith, met, apart_le b w.offset (w.offset + length w.bytes) start end a.0 a.1 apart, w.holes.ok)
 room_apart b (entry.Resize n) start end count hs within apart few = tt
 room_apart b (entry.Range r) start end count hs within apart few = tt
 room_apart b (entry.Marker k) start end count hs within apart few = tt
@@ -113,8 +113,8 @@ room_apart b entry.Dropped start end count hs within apart few = tt
 pub pared_apart : (b : Extent) (e : Entry) (o n : ℕ) → is_within b (view e) ≡ true → is_apart o (o + n) b ≡ true → pared_by o n (view e) ≡ view e
 pared_apart b (entry.Write w) o n within apart =
     let a = lies_within b w within in
-    let le : min (o + n) (w.offset + length w.bytes.items) ≤ max o w.offset = apart_le b w.offset (w.offset + length w.bytes.items) o (o + n) a.0 a.1 apart in
-    ap Waiting (sym (need_dug o n (write_of w) (ranges w.holes.items)) ∙ ap (λ (hs : Holes). need_in (write_of w) hs) (cond-false (nat_lt (max o w.offset) (min (o + n) (w.offset + length w.bytes.items))) _ _ (le-ltb _ _ le)))
+    let le : min (o + n) (w.offset + length w.bytes) ≤ max o w.offset = apart_le b w.offset (w.offset + length w.bytes) o (o + n) a.0 a.1 apart in
+    ap Waiting (sym (need_dug o n (write_of w) (ranges w.holes.items)) ∙ ap (λ (hs : Holes). need_in (write_of w) hs) (cond-false (nat_lt (max o w.offset) (min (o + n) (w.offset + length w.bytes))) _ _ (le-ltb _ _ le)))
 pared_apart b (entry.Resize m) o n within apart = refl
 pared_apart b (entry.Range r) o n within apart = refl
 pared_apart b (entry.Marker k) o n within apart = refl
@@ -190,7 +190,7 @@ jump P q q0 i j e h below one later far k d l = ⊎_elim
 
 -- room for the ranges behind the first
 pub rest_room : (e : Entry) (h : ℕ × ℕ) (hs : Holes) → HasRoomFor (h ∷ hs) e → HasRoomFor hs e
-rest_room (entry.Write w) h hs room = omega (arith, room, count-cons (meets w.offset (w.offset + length w.bytes.items)) h hs)
+rest_room (entry.Write w) h hs room = omega (arith, room, count-cons (meets w.offset (w.offset + length w.bytes)) h hs)
 rest_room (entry.Resize n) h hs room = tt
 rest_room (entry.Range r) h hs room = tt
 rest_room (entry.Marker k) h hs room = tt

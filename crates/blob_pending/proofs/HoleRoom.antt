@@ -39,7 +39,7 @@ met_few a b start end count hs some within = omega (arith, within.few, met_most 
 -- room for the first of some ranges, and for those behind it
 pub first_room : (e : Entry) (h : ℕ × ℕ) (hs : Holes) → HasRoomFor (h ∷ hs) e → HasRoomFor (h ∷ []) e
 first_room (entry.Write w) h hs room =
-    let p = meets w.offset (w.offset + length w.bytes.items) in
+    let p = meets w.offset (w.offset + length w.bytes) in
     omega (arith, room, count-cons p h hs, count-cons p h [])
 first_room (entry.Resize n) h hs room = tt
 first_room (entry.Range r) h hs room = tt

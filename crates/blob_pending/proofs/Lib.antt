@@ -17,3 +17,4 @@ pub mod Queued
 pub mod Removing
 pub mod Taking
 pub mod Unmarked
+pub mod Zeros

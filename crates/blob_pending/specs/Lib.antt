@@ -1,4 +1,5 @@
 pub mod Blocks
+pub mod Contents
 pub mod Draws
 pub mod Lists
 pub mod Marks

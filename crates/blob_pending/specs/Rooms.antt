@@ -18,7 +18,7 @@ meets start end h = nat_lt start h.1 && nat_lt h.0 end
 
 -- a write can take a hole for each of these ranges that meets it
 abbrev pub HasHolesFor : Holes → PendingWrite → Type 0
-HasHolesFor hs w = vec_len w.holes + count_by (meets w.offset (w.offset + length w.bytes.items)) hs ≤ vec_capacity w.holes
+HasHolesFor hs w = vec_len w.holes + count_by (meets w.offset (w.offset + length w.bytes)) hs ≤ vec_capacity w.holes
 
 abbrev pub HasRoomFor : Holes → Entry → Type 0
 HasRoomFor hs (entry.Write w) = HasHolesFor hs w

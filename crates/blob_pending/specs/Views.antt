@@ -12,7 +12,7 @@ use Rattle.blob_pending.specs.declared.entry.Entry.{Entry}
 use Rattle.blob_pending.specs.declared.entry.Entry.TheVariants as entry
 
 abbrev pub write_of : PendingWrite → Write
-write_of w = record { number = w.number; offset = w.offset; bytes = w.bytes.items; mode = w.mode; rate = w.rate }
+write_of w = record { number = w.number; offset = w.offset; bytes = w.bytes; mode = w.mode; rate = w.rate }
 
 -- a write without bytes, of which nothing is left
 abbrev pub nothing : Pending

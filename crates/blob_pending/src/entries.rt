@@ -4,7 +4,7 @@ ghost use Rattle.blob_model.specs.Holes.{Holes};
 ghost use Rattle.blob_model.specs.Pending.{finish, ends};
 ghost use Rattle.blob_pending.specs.Blocks.{AreBounded, KeepsBounded};
 ghost use Rattle.blob_pending.specs.Marks.{barriers_in};
-ghost use Rattle.blob_pending.specs.Replays.{unmarked, widest};
+ghost use Rattle.blob_pending.specs.Replays.{most_zeros, unmarked, widest};
 ghost use Rattle.blob_pending.specs.Rooms.{AreWithin, HasRoomsFor, EachHasRoom, CanCut, KeepsRest};
 ghost use Rattle.blob_pending.specs.Views.{view, views, pared_by, left_in, AreDropped, CountsCovered};
 
@@ -142,23 +142,41 @@ pub fn unmarked(entries: &[Entry]) -> &[Entry]
     entries
 }
 
-/// Returns what a replay of these entries needs: their greatest end, and the length of the longest write.
-pub fn replay_room(entries: &[Entry]) -> (u64, usize)
-    ensures end { result.0 ≡ ends (left_in entries.now) }
-    ensures width { result.1 ≡ widest (left_in entries.now) }
+/// What a replay of pending entries needs.
+#[derive(Clone, Copy)]
+pub struct ReplayRoom {
+    /// The greatest end of an entry.
+    pub end: u64,
+    /// The length of the longest write, which has a choice for each byte.
+    pub choices: usize,
+    /// The length of the longest write of zeros.
+    pub zeros: usize,
+}
+
+/// Returns what a replay of these entries needs. Fully covered writes need nothing.
+pub fn replay_room(entries: &[Entry]) -> ReplayRoom
+    ensures end { result.end ≡ ends (left_in entries.now) }
+    ensures width { result.choices ≡ widest (left_in entries.now) }
+    ensures zeros { result.zeros ≡ most_zeros (left_in entries.now) }
 {
     let mut end = 0;
-    let mut most = 0;
+    let mut choices = 0;
+    let mut zeros = 0;
     for entry in entries {
         match entry {
             Entry::Write(write) if !write.is_covered() => {
                 end = end.max(write.end());
-                most = most.max(write.bytes.len());
+                choices = choices.max(write.bytes.len());
+                zeros = zeros.max(write.bytes.zeros());
             }
             Entry::Resize(len) => end = end.max(*len),
             Entry::Range(range) => end = end.max(range.offset + range.bytes.len() as u64),
             Entry::Write(_) | Entry::Marker(_) | Entry::Dropped => (),
         }
     }
-    (end, most)
+    ReplayRoom {
+        end,
+        choices,
+        zeros,
+    }
 }

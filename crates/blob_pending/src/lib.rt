@@ -2,6 +2,7 @@
 #![tactic(auto)]
 
 pub mod bounds;
+pub mod content;
 pub mod entries;
 pub mod entry;
 pub mod extent;

@@ -3,6 +3,7 @@ ghost use Rattle.std.specs.Prelude.{◌<◌, ◌+◌, ◌^◌, length};
 ghost use Rattle.blob_model.specs.Holes.{AreApart};
 ghost use Rattle.blob_pending.specs.Ranges.{ranges, AreApart-prop};
 
+use crate::content::Content;
 use crate::extent::Extent;
 use blob_base::Probability;
 use blob_model::mode::PartialWriteMode;
@@ -13,15 +14,15 @@ pub struct PendingWrite {
     /// Its number among all recorded writes.
     pub number: u64,
     pub offset: u64,
-    pub bytes: Vec<u8>,
+    pub bytes: Content,
     /// The mode and the retention rate of its issue.
     pub mode: PartialWriteMode,
     pub rate: Probability,
     /// Sorted, separate from each other, and within the write.
     pub holes: Vec<Extent>,
-    ghost some: { 0 < length bytes.items },
-    ghost fits: { offset + length bytes.items < 2 ^ 64 },
-    ghost apart: { AreApart offset (ranges holes.items) (offset + length bytes.items) } by { AreApart-prop offset (ranges holes.items) (offset + length bytes.items) },
+    ghost some: { 0 < length bytes },
+    ghost fits: { offset + length bytes < 2 ^ 64 },
+    ghost apart: { AreApart offset (ranges holes.items) (offset + length bytes) } by { AreApart-prop offset (ranges holes.items) (offset + length bytes) },
 }
 
 impl PendingWrite {
@@ -32,7 +33,7 @@ impl PendingWrite {
 
     /// Returns the position after its last byte.
     pub fn end(&self) -> u64
-        ensures { result ≡ self.now.offset + length self.now.bytes.items }
+        ensures { result ≡ self.now.offset + length self.now.bytes }
     {
         self.offset + self.bytes.len() as u64
     }

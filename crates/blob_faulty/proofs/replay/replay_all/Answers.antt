@@ -13,13 +13,14 @@ use Rattle.blob_model.specs.Stands.{replayed_at}
 use Rattle.blob_memory.specs.Contents.{bytes_of}
 use Rattle.blob_memory.specs.Store.{directory, durable}
 use Rattle.blob_pending.specs.Lists.{lists_of, held_by}
-use Rattle.blob_pending.specs.Replays.{unmarked, width, widest}
+use Rattle.blob_pending.specs.Contents.{HasZeros}
+use Rattle.blob_pending.specs.Replays.{most_zeros, most_zeros_of_all, unmarked, width, widest, widest_of_all, zeros_for}
 use Rattle.blob_pending.specs.Views.{view, is_left, left_in}
 use Rattle.blob_pending.specs.declared.entry.Entry.{Entry}
 use Rattle.blob_draws.specs.Rows.{rows_in}
 use Rattle.blob_faulty.specs.Ready.{IsReady}
 use Rattle.blob_pending.proofs.Unmarked.{unmarked_none, unmarked_replays}
-use Rattle.blob_faulty.proofs.Replaying.{changed_ended, end_in, held_more, if_some, replay_first, widest_in, width_in}
+use Rattle.blob_faulty.proofs.Replaying.{changed_ended, held_more, if_some, most_in, most_of_all, replay_first}
 use Rattle.blob_faulty.proofs.replay.replay_all.Goals as goal
 
 pub loop-entry-init : goal.loop-entry-init
@@ -44,9 +45,9 @@ replay_entry-requires-clause-room c =
     let e = c.entry-item.result in
     let h : i < length q = omega arith in
     let left : is_left (view (get_or q i e)) ≡ true = ap (λ (y : Entry). is_left (view y)) (sym c.entry-item.is) ∙ sym c.is_left.ensures ∙ c.if-is_left.true in
-    let far = end_in q i e h left in
+    let far = most_in end_of ends (λ e r. refl) q i e h left in
     let same_far = ap (λ (y : Entry). end_of (view y)) c.entry-item.is in
-    let wide = width_in q i e h left in
+    let wide = most_in width widest (λ e r. refl) q i e h left in
     let same_wide = ap (λ (y : Entry). width (view y)) c.entry-item.is in
     let small : end_of (view e) ≤ ends (left_in q) = omega (arith, far, same_far) in
     let narrow : width (view e) ≤ widest (left_in q) = omega (arith, wide, same_wide) in
@@ -57,8 +58,25 @@ replay_entry-requires-clause-room c =
     record {
       counted = omega (arith, small, end, first.0);
       room = omega (arith, small, end, room, c.loop-entry.invariant.room);
-      width = omega (arith, narrow, within, widest_in (λ (o : Place). o) c.args.lists.now c.loop-list.list-index x there c.list-item.is, c.requires.width, c.loop-entry.invariant.capacity);
+      width = omega (arith, narrow, within, most_of_all (λ (o : Place). o) widest widest_of_all (λ h hs. refl) c.args.lists.now c.loop-list.list-index x there c.list-item.is, c.requires.width, c.loop-entry.invariant.capacity);
     }
+
+pub replay_entry-requires-clause-zeros : goal.replay_entry-requires-clause-zeros
+replay_entry-requires-clause-zeros c =
+    let x = c.list-item.result in
+    let q = c.unmarked-entry-items.result.now in
+    let i = c.loop-entry.entry-index in
+    let e = c.entry-item.result in
+    let left : is_left (view (get_or q i e)) ≡ true = ap (λ (y : Entry). is_left (view y)) (sym c.entry-item.is) ∙ sym c.is_left.ensures ∙ c.if-is_left.true in
+    let most : zeros_for (view (get_or q i e)) ≤ most_zeros (left_in q) = most_in zeros_for most_zeros (λ e r. refl) q i e (omega arith) left in
+    let same_entry = ap (λ (y : Entry). zeros_for (view y)) c.entry-item.is in
+    let same : left_in q ≡ unmarked (left_in x.entries.items) = c.unmarked-entry-items.ensures ∙ ap (λ (q : List Entry). unmarked (left_in q)) c.deref.ensures.value in
+    let of_list : most_zeros (unmarked (left_in x.entries.items)) ≤ most_zeros_of_all (lists_of (λ (o : Place). o) c.args.lists.now) =
+    most_of_all (λ (o : Place). o) most_zeros most_zeros_of_all (λ h hs. refl) c.args.lists.now c.loop-list.list-index x (omega arith) c.list-item.is in
+    subst (λ (z : List ℕ). HasZeros (zeros_for (view e)) z) (sym c.as_slice-zeros.ensures.value) (record {
+      zeros = c.requires.zeros.zeros;
+      enough = omega (arith, most, same_entry, ap most_zeros same, of_list, c.requires.zeros.enough);
+    })
 
 pub loop-list-preserved-in_default : goal.loop-list-preserved-in_default
 loop-list-preserved-in_default c =

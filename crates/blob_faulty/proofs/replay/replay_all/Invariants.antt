@@ -17,7 +17,7 @@ invariant-loop-list l = record {
   apart : ArePlacesApart (lists_of (λ o. o) l.lists) → ArePlacesApart (lists_of (λ o. o) (drop l.list-index l.lists));
   durable : ArePlacesApart (lists_of (λ o. o) l.lists) → (o : Place) → replayed_at (chosen_by (rows_in l.rows)) (list_of (λ o. o) (drop l.list-index l.lists) o) (durable l.inner o) ≡ replayed_at (chosen_by (rows_in l.rows)) (list_of (λ o. o) l.lists o) (durable l.fn.inner o);
   kept : KeepsRoom l.fn.inner l.inner;
-  capacity : vec_capacity l.fn.chosen ≤ vec_capacity l.chosen;
+  capacity : vec_capacity l.fn.buffers.chosen ≤ vec_capacity l.chosen;
 }
 
 abbrev pub invariant-loop-entry : goal.invariant-loop-entry
@@ -25,5 +25,5 @@ invariant-loop-entry l = record {
   unmarked : has_marker (left_in (drop l.entry-index l.entry-items)) ≡ false;
   bytes : replay (left_in (drop l.entry-index l.entry-items)) (chosen_by (rows_in l.rows)) l.bytes.items ≡ replay (left_in l.entry-items) (chosen_by (rows_in l.rows)) l.initial.bytes.items;
   room : l.initial.bytes.capacity ≤ l.bytes.capacity;
-  capacity : vec_capacity l.fn.chosen ≤ vec_capacity l.chosen;
+  capacity : vec_capacity l.fn.buffers.chosen ≤ vec_capacity l.chosen;
 }

@@ -1,7 +1,8 @@
 use Rattle.std.proofs.Common.{◌≡◌, ◌∙◌, ap, sym, subst, [], arith}
 use Rattle.blob_model.specs.Pending.{replay_entry, end_of}
 use Rattle.blob_pending.specs.declared.entry.Entry.{Entry}
-use Rattle.blob_pending.specs.Replays.{width}
+use Rattle.blob_pending.specs.Replays.{width, zeros_for}
+use Rattle.blob_pending.specs.Contents.{HasZeros}
 use Rattle.blob_pending.specs.Views.{view}
 use Rattle.blob_model.proofs.Bytes.{none_chosen}
 use Rattle.blob_faulty.specs.Crashes.{chosen_in}
@@ -10,6 +11,9 @@ use Rattle.blob_faulty.proofs.replay.replay_entry.Goals as goal
 
 pub replay_write-requires-clause-room : goal.replay_write-requires-clause-room
 replay_write-requires-clause-room c = subst (λ (e : Entry). CanReplay c.args.bytes.now (end_of (view e)) (width (view e)) c.args.chosen.now) c.in-Write.is c.requires.room
+
+pub replay_write-requires-clause-zeros : goal.replay_write-requires-clause-zeros
+replay_write-requires-clause-zeros c = subst (λ (e : Entry). HasZeros (zeros_for (view e)) c.args.zeros.now) c.in-Write.is c.requires.zeros
 
 pub returns-in-Write-clause-bytes : goal.returns-in-Write-clause-bytes
 returns-in-Write-clause-bytes c =

@@ -18,16 +18,16 @@ no_items (x ∷ l) e = absurd (omega (arith, e))
 pub unwrap-requires-2 : goal.unwrap-requires-2
 unwrap-requires-2 c =
     let w = c.args.write.now in
-    let run : c.deref-2.result.now ≡ w.bytes.items = search rules in
-    c.write_chosen_slice-2.ensures.succeeds (omega (arith, c.requires.room.room, ap length run, reach_within w.offset (length c.deref-2.result.now) (is_chosen c.deref-3.result.now)))
+    let run : c.as_slice-run.result.now ≡ w.bytes = c.as_slice-run.ensures in
+    c.write_chosen_slice-2.ensures.succeeds (omega (arith, c.requires.room.room, ap length run, reach_within w.offset (length c.as_slice-run.result.now) (is_chosen c.deref.result.now)))
 
 pub returns-clause-bytes : goal.returns-clause-bytes
 returns-clause-bytes c =
     let w = c.args.write.now in
     let t : Choices = chosen_by (rows_in c.args.rows.now) in
-    let run : c.deref-2.result.now ≡ w.bytes.items = search rules in
-    let kept : c.deref-3.result.now ≡ c.put_choices.new.chosen.items = search rules in
-    let each : (i : ℕ) → i < length w.bytes.items → get_or c.put_choices.new.chosen.items i false ≡ (not (in_holes (ranges w.holes.items) (w.offset + i)) && t w.number i) =
+    let run : c.as_slice-run.result.now ≡ w.bytes = c.as_slice-run.ensures in
+    let kept : c.deref.result.now ≡ c.put_choices.new.chosen.items = search rules in
+    let each : (i : ℕ) → i < length w.bytes → get_or c.put_choices.new.chosen.items i false ≡ (not (in_holes (ranges w.holes.items) (w.offset + i)) && t w.number i) =
     λ i l. c.put_choices.ensures.each i l ∙ ap (λ (r : List Bool). not (in_holes (ranges w.holes.items) (w.offset + i)) && get_or r i false) c.choices_in-row.ensures in
     let x = c.args.bytes.now.items in record {
       items = ok_is _ _ c.unwrap-2.ensures c.write_chosen_slice-2.ensures.ok
@@ -38,17 +38,17 @@ returns-clause-bytes c =
 pub unwrap-requires : goal.unwrap-requires
 unwrap-requires c =
     let w = c.args.write.now in
-    let run : c.deref.result.now ≡ w.bytes.items = search rules in
-    c.write_chosen_slice.ensures.succeeds (omega (arith, c.requires.room.room, ap length run, reach_within w.offset (length c.deref.result.now) (is_chosen c.choices_in-row.result.now)))
+    let run : c.as_slice-run.result.now ≡ w.bytes = c.as_slice-run.ensures in
+    c.write_chosen_slice.ensures.succeeds (omega (arith, c.requires.room.room, ap length run, reach_within w.offset (length c.as_slice-run.result.now) (is_chosen c.choices_in-row.result.now)))
 
-pub returns-then-row-len-clause-bytes : goal.returns-then-row-len-clause-bytes
-returns-then-row-len-clause-bytes c =
+pub returns-then-row-run-clause-bytes : goal.returns-then-row-run-clause-bytes
+returns-then-row-run-clause-bytes c =
     let w = c.args.write.now in
     let t : Choices = chosen_by (rows_in c.args.rows.now) in
     let row = c.choices_in-row.result.now in
-    let run : c.deref.result.now ≡ w.bytes.items = search rules in
+    let run : c.as_slice-run.result.now ≡ w.bytes = c.as_slice-run.ensures in
     let none : w.holes.items ≡ [] = no_items w.holes.items (omega (arith, eqb-true _ _ (sym c.is_empty.ensures ∙ c.if-is_empty.true))) in
-    let each : (i : ℕ) → i < length w.bytes.items → get_or row i false ≡ (not (in_holes (ranges w.holes.items) (w.offset + i)) && t w.number i) =
+    let each : (i : ℕ) → i < length w.bytes → get_or row i false ≡ (not (in_holes (ranges w.holes.items) (w.offset + i)) && t w.number i) =
     λ i l. ap (λ (r : List Bool). get_or r i false) c.choices_in-row.ensures ∙ ap (λ (hs : List Extent). not (in_holes (ranges hs) (w.offset + i)) && t w.number i) (sym none) in
     let x = c.args.bytes.now.items in record {
       items = ok_is _ _ c.unwrap.ensures c.write_chosen_slice.ensures.ok

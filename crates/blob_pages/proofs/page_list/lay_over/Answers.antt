@@ -4,25 +4,25 @@ use Rattle.blob_pages.specs.Paged.{page_size, bytes_in, owned_at}
 use Rattle.blob_pages.proofs.Paged.{extended_bytes, owned_through, owner_there, page_laid, laid_at}
 use Rattle.blob_pages.proofs.page_list.lay_over.Goals as goal
 
-pub returns-in_err-take_room-clause-changes : goal.returns-in_err-take_room-clause-changes
-returns-in_err-take_room-clause-changes c = record {
+pub returns-in_err-part-clause-changes : goal.returns-in_err-part-clause-changes
+returns-in_err-part-clause-changes c = record {
   ok = search rules;
   there = search rules;
-  err = search (rules, extended_bytes c.args.pages.now c.take_room.new.pages c.args.old c.requires.held c.take_room.ensures.extends);
-  more = c.take_room.ensures.extends.more;
-  full = c.take_room.ensures.extends.full c.requires.full;
-  owned = c.take_room.ensures.extends.owned;
+  err = search (rules, extended_bytes c.args.pages.now c.take_room_for.new.pages c.args.old c.requires.held c.take_room_for.ensures.extends);
+  more = c.take_room_for.ensures.extends.more;
+  full = c.take_room_for.ensures.extends.full c.requires.full;
+  owned = c.take_room_for.ensures.extends.owned;
 }
 
 pub returns-clause-changes : goal.returns-clause-changes
 returns-clause-changes c = record {
   ok = ap (bytes_in c.lay_on-2.new.pages) (sym c.lay_on-2.ensures.len) ∙ c.lay_on-2.ensures.laid.bytes
-      ∙ ap (λ b. overlay b c.args.offset c.args.run.now) (extended_bytes c.args.pages.now c.take_room.new.pages c.args.old c.requires.held c.take_room.ensures.extends);
-  there = omega (arith, c.lay_on-2.ensures.laid.same, c.in_ok-take_room.ensures.there, c.requires.held, c.take_room.ensures.extends.more);
+      ∙ ap (λ b. overlay b c.args.offset c.args.run.now) (extended_bytes c.args.pages.now c.take_room_for.new.pages c.args.old c.requires.held c.take_room_for.ensures.extends);
+  there = omega (arith, c.lay_on-2.ensures.laid.same, c.in_ok-part.ensures.there, c.requires.held, c.take_room_for.ensures.extends.more);
   err = tt;
-  more = omega (arith, c.lay_on-2.ensures.laid.same, c.take_room.ensures.extends.more);
+  more = omega (arith, c.lay_on-2.ensures.laid.same, c.take_room_for.ensures.extends.more);
   full = c.lay_on-2.ensures.laid.full;
-  owned = owned_through c.args.pages.now c.take_room.new.pages c.lay_on-2.new.pages c.take_room.ensures.extends.owned c.lay_on-2.ensures.laid.owned;
+  owned = owned_through c.args.pages.now c.take_room_for.new.pages c.lay_on-2.new.pages c.take_room_for.ensures.extends.owned c.lay_on-2.ensures.laid.owned;
 }
 
 pub lay_on-requires-clause-owned : goal.lay_on-requires-clause-owned

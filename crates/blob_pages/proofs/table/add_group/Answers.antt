@@ -1,6 +1,7 @@
 use Rattle.std.proofs.Common.{[], ◌∷◌, ◌≡◌, ◌++◌, ◌∙◌, ap, length, true≢false, arith}
 use Rattle.blob_pages.specs.Groups.{all_pages}
-use Rattle.blob_pages.proofs.Paged.{keeps_same, adds_page}
+use Rattle.blob_pages.proofs.Appending.{adds_page}
+use Rattle.blob_pages.proofs.Paged.{keeps_same}
 use Rattle.blob_pages.proofs.Groups.{packed_push, pages_push}
 use Rattle.blob_pages.proofs.table.add_group.Goals as goal
 

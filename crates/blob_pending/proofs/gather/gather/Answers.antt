@@ -47,7 +47,7 @@ loop-entry-preserved g c = record {
         let q = c.unmarked-entry-items.result.now in
         let at : get_or q c.loop-entry.entry-index (entry.Write it) ≡ entry.Write it = subst (λ (e : Entry). get_or q c.loop-entry.entry-index e ≡ e) w.in-Write.is (sym c.entry-item.is) in
         let left : is_left (view (entry.Write it)) ≡ true = search rules in
-        let len : w.len.result ≡ length it.bytes.items = search rules in
+        let len : w.len.result ≡ length it.bytes = search rules in
         let none = none_more q c.loop-entry.entry-index c.entry-item.result (omega arith) c.loop-entry.invariant.none in
         let drawing : ℕ → Drawing = λ n. record { number = it.number; offset = it.offset; len = n; mode = it.mode; rate = it.rate } in
         drawn_more c.loop-entry.draws.items c.match-entry.draws.items _ q c.loop-entry.entry-index it (omega arith) at left none

@@ -30,14 +30,14 @@ returns-clause-recorded g c =
     let done = c.write_unrecorded.new.store in
     let end : Storage g.row.S.Denot g.row.R.Denot g.row.S-Origin.Denot = record done { lists = c.push_write.new.self; next_write = done.next_write + 1 } in
     let lists = done.lists.all.lists.items in
-    let copy = c.in_ok-copy.copy.items in
+    let copy = c.in_ok-copy.copy in
     let write : Write = new_write done.next_write c.args.offset copy c.args.config in
-    let some : 0 < length copy = subst (λ (b : List ℕ). 0 < length b) (sym c.in_ok-copy.ensures.items) c.requires.some in
+    let some : 0 < length copy = subst (λ (b : List ℕ). 0 < length b) (sym c.in_ok-copy.ensures) c.requires.some in
     let gains : GainsWrite place done end c.in_ok-list.list c.args.offset copy c.args.config = λ o at a.
     c.push_write.ensures o at a ∙ ap (λ (r : List Pending). with_at (list_of place lists) o (list_of place lists o ++ r) a) (fresh write c.new-holes.result.items c.new-holes.ensures.items some) in
     pushed g.S.Durable g.B.Blob c.args.self.now c.write_unrecorded.new.self c.args.store.now mid done c.args.offset c.args.bytes.now end _ c.in_ok-list.list c.args.config
     refl c.requires.some c.requires.retained refl c.room_for.ensures.same c.in_ok-list.ensures.ok.at c.write_unrecorded.ensures.rest c.in_ok-write_unrecorded.ensures.wrote
-    (subst (λ (b : List ℕ). GainsWrite place done end c.in_ok-list.list c.args.offset b c.args.config) c.in_ok-copy.ensures.items gains) refl
+    (subst (λ (b : List ℕ). GainsWrite place done end c.in_ok-list.list c.args.offset b c.args.config) c.in_ok-copy.ensures gains) refl
 
 pub returns-in_err-write_unrecorded-clause-recorded : goal.returns-in_err-write_unrecorded-clause-recorded
 returns-in_err-write_unrecorded-clause-recorded g c =
@@ -85,7 +85,7 @@ returns-in_err-write_unrecorded-clause-allowed g c =
 -- The entry is of the bytes that were copied.
 
 pub invariant_of-write-clause-fits : goal.invariant_of-write-clause-fits
-invariant_of-write-clause-fits g c = subst (λ (b : List ℕ). c.args.offset + length b < 2 ^ 64) (sym c.in_ok-copy.ensures.items) (omega arith)
+invariant_of-write-clause-fits g c = subst (λ (b : List ℕ). c.args.offset + length b < 2 ^ 64) (sym c.in_ok-copy.ensures) (omega arith)
 
 pub invariant_of-write-clause-some : goal.invariant_of-write-clause-some
-invariant_of-write-clause-some g c = subst (λ (b : List ℕ). 0 < length b) (sym c.in_ok-copy.ensures.items) c.requires.some
+invariant_of-write-clause-some g c = subst (λ (b : List ℕ). 0 < length b) (sym c.in_ok-copy.ensures) c.requires.some

@@ -31,7 +31,7 @@ replay_all-requires-clause-numbered g c =
     subst (λ (rows : List (ℕ × Vec Bool Global)). AreNumbered rows) (sym c.deref-2.ensures.value) (rows_rise s (g.R.Rng.stream c.draw_rows.new.rng) c.in_ok-draws.draws.items c.in_ok-rows.rows.items told c.in_ok-draws.ensures.rising)
 
 pub replay_all-requires-clause-ready : goal.replay_all-requires-clause-ready
-replay_all-requires-clause-ready g c = subst (λ (is : List (Incarnation Place)). All (λ list. IsReady c.reserve_all.new.inner (held_by (λ (o : Place). o) list)) is) (c.as_slice-2.ensures ∙ sym c.as_slice-3.ensures) c.in_ok-chosen.ensures.ready
+replay_all-requires-clause-ready g c = subst (λ (is : List (Incarnation Place)). All (λ list. IsReady c.reserve_all.new.inner (held_by (λ (o : Place). o) list)) is) (c.as_slice-2.ensures ∙ sym c.as_slice-3.ensures) c.in_ok-buffers.ensures.ready
 
 pub returns-clause-rows : goal.returns-clause-rows
 returns-clause-rows g c files f =
@@ -58,9 +58,9 @@ returns-clause-stands g c files f =
     crash_stands (λ (o : Place). o) (directory c.args.self.now.inner) (directory c.replay_all.new.inner) (durable c.args.self.now.inner) (durable c.replay_all.new.inner) c.args.self.now _ (chosen_by (table_of c.new.result))
     (c.replay_all.ensures.directory ∙ c.reserve_all.ensures.directory) (λ a. ap (λ (is : List (Incarnation Place)). list_of (λ (o : Place). o) is a) c.clear.ensures) (returns-clause-durable g c) files f
 
-pub returns-in_err-chosen-clause-keeps : goal.returns-in_err-chosen-clause-keeps
-returns-in_err-chosen-clause-keeps g c o bytes k =
-    let w = c.in_err-chosen.ensures in
+pub returns-in_err-buffers-clause-keeps : goal.returns-in_err-buffers-clause-keeps
+returns-in_err-buffers-clause-keeps g c o bytes k =
+    let w = c.in_err-buffers.ensures in
     record {
       files = k.files;
       stands = stands_same _ _ _ _ _ _ _ _ k.files w.directory (λ a. ap (λ (f : Durable). f a) w.durable) (λ a. refl) k.stands;
@@ -69,10 +69,10 @@ returns-in_err-chosen-clause-keeps g c o bytes k =
       fixed = k.fixed;
     }
 
-pub returns-in_err-chosen-clause-same_files : goal.returns-in_err-chosen-clause-same_files
-returns-in_err-chosen-clause-same_files g c =
-    let w = c.in_err-chosen.ensures in
-    err_by c.from_residual-in_err-chosen.result (λ some files s. stands_same _ _ _ _ _ _ _ _ files w.directory (λ a. ap (λ (f : Durable). f a) w.durable) (λ a. refl) s)
+pub returns-in_err-buffers-clause-same_files : goal.returns-in_err-buffers-clause-same_files
+returns-in_err-buffers-clause-same_files g c =
+    let w = c.in_err-buffers.ensures in
+    err_by c.from_residual-in_err-buffers.result (λ some files s. stands_same _ _ _ _ _ _ _ _ files w.directory (λ a. ap (λ (f : Durable). f a) w.durable) (λ a. refl) s)
 
 pub returns-clause-keeps : goal.returns-clause-keeps
 returns-clause-keeps g c o bytes k =

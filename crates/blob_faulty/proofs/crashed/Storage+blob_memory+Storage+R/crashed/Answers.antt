@@ -28,7 +28,7 @@ replay_all-requires-clause-numbered g c =
     subst (λ (rows : List (ℕ × Vec Bool Global)). AreNumbered rows) (sym c.deref-2.ensures.value) (rows_rise s (g.R.Rng.stream c.draw_rows.new.rng) c.in_ok-draws.draws.items c.in_ok-rows.rows.items told c.in_ok-draws.ensures.rising)
 
 pub replay_all-requires-clause-ready : goal.replay_all-requires-clause-ready
-replay_all-requires-clause-ready g c = subst (λ (is : List (Incarnation Place)). All (λ list. IsReady c.reserve_all.new.inner (held_by (λ (o : Place). o) list)) is) (c.as_slice-2.ensures ∙ sym c.as_slice-3.ensures) c.in_ok-chosen.ensures.ready
+replay_all-requires-clause-ready g c = subst (λ (is : List (Incarnation Place)). All (λ list. IsReady c.reserve_all.new.inner (held_by (λ (o : Place). o) list)) is) (c.as_slice-2.ensures ∙ sym c.as_slice-3.ensures) c.in_ok-buffers.ensures.ready
 
 pub returns-clause-rows : goal.returns-clause-rows
 returns-clause-rows g c files f =

@@ -11,8 +11,8 @@ use Rattle.blob_pending.proofs.entry.Entry.cover.Goals as goal
 pub invariant_of-write-clause-apart : goal.invariant_of-write-clause-apart
 invariant_of-write-clause-apart c =
     let w = c.in-Write.write in
-    subst (λ (hs : Holes). AreApart w.offset hs (w.offset + length w.bytes.items)) (sym c.dig.ensures.holes)
-    (apart_dug c.max-first.result c.min-end.result w.offset _ (w.offset + length w.bytes.items) (omega arith) (omega arith) (omega arith) w.apart)
+    subst (λ (hs : Holes). AreApart w.offset hs (w.offset + length w.bytes)) (sym c.dig.ensures.holes)
+    (apart_dug c.max-first.result c.min-end.result w.offset _ (w.offset + length w.bytes) (omega arith) (omega arith) (omega arith) w.apart)
 
 pub returns-then-not-was_covered-clause-view : goal.returns-then-not-was_covered-clause-view
 returns-then-not-was_covered-clause-view c =
@@ -29,4 +29,4 @@ returns-else-not-was_covered-clause-view c =
     ∙ ap (λ (e : Entry). pared_by c.args.start c.args.len (view e)) (sym c.in-Write.is)
 
 pub dig-requires-clause-sorted : goal.dig-requires-clause-sorted
-dig-requires-clause-sorted c = let w = c.in-Write.write in ends_rise w.offset w.holes.items (w.offset + length w.bytes.items) w.apart
+dig-requires-clause-sorted c = let w = c.in-Write.write in ends_rise w.offset w.holes.items (w.offset + length w.bytes) w.apart

@@ -6,5 +6,5 @@ use Rattle.blob_pending.proofs.entry.Entry.reserve.Goals as goal
 pub returns-clause-ok : goal.returns-clause-ok
 returns-clause-ok c = on_ok_weaker c.reserve.result
     (λ room ranges within. let w = c.in-Write.write in
-    omega (arith, room, met_few w.offset (w.offset + length w.bytes.items) c.args.start c.args.end c.args.count ranges (omega (arith, w.some)) within))
+    omega (arith, room, met_few w.offset (w.offset + length w.bytes) c.args.start c.args.end c.args.count ranges (omega (arith, w.some)) within))
     c.reserve.ensures.ok
