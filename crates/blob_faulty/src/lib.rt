@@ -5,6 +5,7 @@ mod admit;
 pub mod blob;
 mod crash;
 mod crashed;
+mod fork;
 pub mod laws;
 pub mod names;
 mod open_admitted;

@@ -3,6 +3,7 @@ pub mod AskedWrites
 pub mod AskSteps
 pub mod ByNumber
 pub mod CallSteps
+pub mod Copies
 pub mod EmptySlots
 pub mod ExclusiveEnds
 pub mod ExclusiveOpens

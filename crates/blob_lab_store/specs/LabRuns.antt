@@ -25,6 +25,10 @@ RunsTo lab calls replies lab' = (v : State) → LabStandsFor lab v → (w : Stat
 abbrev pub PersistsExclusively : Lab → List Call → List Reply → Type 0
 PersistsExclusively lab calls replies = (v : State) → LabStandsFor lab v → ReachedExclusively v → NoneLoose calls → Persists v calls replies
 
+-- the second laboratory represents each state that the first represents
+abbrev pub IsFork : Lab → Lab → Type 0
+IsFork lab fork = (v : State) → LabStandsFor lab v → LabStandsFor fork v
+
 -- A crash that draws from these words leads to a state that the wrapper represents.
 pub record CrashesTo (v : State) (words : List ℕ) (left : Wrapper) : Type 0 where
   pub reply : Reply

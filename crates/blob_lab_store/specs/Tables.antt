@@ -1,9 +1,9 @@
 -- The tables of a laboratory, as its states see them.
-use Rattle.std.specs.Prelude.{ℕ, List, map, Option, option_map, Vec, String, string_bytes}
+use Rattle.std.specs.Prelude.{◌≡◌, ℕ, List, map, Option, None, option_map, Vec, String, string_bytes}
 use Rattle.std.specs.Global.{Global}
 use Rattle.std.specs.Range.{range_inclusive_start, range_inclusive_end}
 use Rattle.std.specs.declared.ops.RangeInclusive.{RangeInclusive}
-use Rattle.blob_base.specs.Handles.{outcome_of}
+use Rattle.blob_base.specs.Handles.{outcome_of, marker_of}
 use Rattle.blob_header.specs.Refusals.{error_of}
 use Rattle.blob_header.specs.declared.version.BlobVersion.{BlobVersion}
 use Rattle.blob_base.specs.declared.handle.Handle as base
@@ -24,6 +24,10 @@ handles_of handles = map (option_map as_held) (values_of handles.slots)
 
 abbrev pub started_by : base.Handle → Started
 started_by h = record { outcome = error_of (outcome_of h) }
+
+-- the copy of a started sync that didn't fail has its marker
+abbrev pub KeepsMarker : base.Handle → base.Handle → Type 0
+KeepsMarker h copy = error_of (outcome_of h) ≡ None → marker_of copy ≡ marker_of h
 
 abbrev pub syncs_of : Syncs → List (Option Started)
 syncs_of syncs = map (option_map started_by) (values_of syncs.slots)

@@ -10,6 +10,7 @@ ghost use Rattle.blob_lab_store.specs.Tables.{images_of};
 mod applying;
 mod asking;
 mod crashing;
+mod forking;
 pub mod handles;
 mod naming;
 mod opening;

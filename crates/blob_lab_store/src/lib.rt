@@ -2,6 +2,7 @@
 #![tactic(auto)]
 
 mod ahead;
+mod errors;
 mod full;
 pub mod lab;
 pub mod scripted_rng;

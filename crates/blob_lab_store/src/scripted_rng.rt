@@ -83,6 +83,22 @@ impl ScriptedRng {
         })
     }
 
+    /// Returns a generator of the words that come next, which has a copy of those that were given.
+    pub fn copy(&self) -> Result<ScriptedRng, AllocError>
+        ensures { IfOk result (λ copy. copy ≡ self.now) }
+    {
+        let behind = match &self.behind {
+            None => None,
+            Some(rng) => Some(rng.clone()?),
+        };
+        let words = Vec::from_slice(*self.words.allocator(), &self.words[self.at..])?;
+        Ok(ScriptedRng {
+            words,
+            at: 0,
+            behind,
+        })
+    }
+
     /// Returns a generator of these words, followed by those of `Xoshiro256PlusPlus::seed_from_u64`.
     pub fn seeded(words: Vec<u64>, seed: u64) -> ScriptedRng
         ensures { result ≡ (words.items, Some (of_seed (splitmix_seed 32 seed))) }

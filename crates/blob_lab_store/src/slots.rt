@@ -1,5 +1,5 @@
 //! Values by number: from 0, in the order in which they were added. Numbers aren't reused, and a value that was taken leaves nothing.
-ghost use Rattle.std.specs.Prelude.{◌≡◌, ◌++◌, ◌∷◌, [], Some, None, OnOk, IfSome, IfNone, length, map, set, vec_len, option_copied};
+ghost use Rattle.std.specs.Prelude.{◌≡◌, ◌++◌, ◌∷◌, [], Some, None, OnOk, IfOk, IfSome, IfNone, length, map, set, vec_len, option_copied};
 ghost use Rattle.blob_lab_model.specs.Answers.{kept_at};
 ghost use Rattle.blob_lab_store.specs.Numbers.{IsAscending, IsBelow};
 
@@ -28,7 +28,7 @@ pub(crate) struct Slots<T> {
 }
 
 impl<T> Slots<T> {
-    ghost use Rattle.blob_lab_store.specs.Slots.{HasRoom, IsAt, values_of};
+    ghost use Rattle.blob_lab_store.specs.Slots.{HasRoom, IsAt, by_number, values_of};
 
     pub(crate) fn new(alloc: Global) -> Slots<T>
         ensures { values_of result ≡ [] }
@@ -147,6 +147,29 @@ impl<T> Slots<T> {
             empty: _,
         } = self;
         values
+    }
+
+    /// Returns a copy of the numbers of the slots, for `with_values`. It is separate so that it can fail before values are copied
+    /// that can't be dropped.
+    pub(crate) fn numbers(&self) -> Result<Vec<usize>, AllocError>
+        ensures { IfOk result (λ numbers. numbers.items ≡ self.now.numbers.items) }
+    {
+        Vec::from_slice(*self.numbers.allocator(), &self.numbers)
+    }
+
+    /// Returns a table with other values in slots of the same numbers, of which as many are empty.
+    pub(crate) fn with_values(&self, numbers: Vec<usize>, values: Vec<Option<T>>) -> Slots<T>
+        requires numbers { numbers.items ≡ self.now.numbers.items }
+        requires paired { vec_len values ≡ vec_len self.now.values }
+        ensures { values_of result ≡ by_number self.now.numbers.items values.items self.now.given }
+    {
+        Slots {
+            values,
+            numbers,
+            given: self.given,
+            shift: self.shift,
+            empty: self.empty,
+        }
     }
 
     /// Drops the empty slots. If memory runs out, they stay.

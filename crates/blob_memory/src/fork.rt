@@ -2,8 +2,10 @@
 ghost use Rattle.std.specs.Prelude.{◌≡◌, OnErr, IfOk};
 ghost use Rattle.blob_header.specs.Refusals.{IsMemory};
 
+use crate::blob::Blob;
 use crate::storage::Storage;
 use blob_base::Error;
+use std::alloc::AllocError;
 
 impl Storage {
     ghost use Rattle.blob_memory.specs.Store.{directory, durable, listing};
@@ -30,6 +32,24 @@ impl Storage {
         Ok(Storage {
             alloc: self.alloc,
             contents,
+        })
+    }
+}
+
+impl Blob {
+    ghost use Rattle.blob_memory.specs.Store.{place, live};
+
+    /// Returns a second handle on the same incarnation, with the same live bytes, to be used with a fork of the store. No later
+    /// call through one handle changes the other. The two share pages as a fork's files do, and reserved capacity isn't copied.
+    ///
+    /// The only error is out of memory.
+    pub fn copy(&self) -> Result<Blob, AllocError>
+        ensures place { IfOk result (λ copy. place copy ≡ place self.now) }
+        ensures live { IfOk result (λ copy. live copy ≡ live self.now) }
+    {
+        Ok(Blob {
+            origin: self.origin.clone()?,
+            live: self.live.copy()?,
         })
     }
 }

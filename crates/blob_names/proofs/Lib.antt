@@ -1,3 +1,4 @@
+pub mod Copies
 pub mod Maps
 pub mod NameMaps
 pub mod Orders

@@ -1,5 +1,5 @@
 // A map keyed by partition and name. Lookups use borrowed keys, so only inserting a new name allocates.
-ghost use Rattle.std.specs.Prelude.{◌≡◌, OnOk, OnErr, option_copied, None, Some, is_some};
+ghost use Rattle.std.specs.Prelude.{◌≡◌, IfOk, OnOk, OnErr, option_copied, None, Some, is_some};
 ghost use Rattle.std.specs.Bool.{OnTrue, OnFalse};
 ghost use Rattle.blob_names.specs.Names.{at, with_name, with_all_names};
 
@@ -23,6 +23,19 @@ impl<V: Drop> Names<V> {
             partitions: BTreeMap::new(alloc),
             alloc,
         }
+    }
+
+    /// Returns a copy of the map. The copy of a value must equal it. The only error is out of memory.
+    pub fn copy(&self) -> Result<Names<V>, AllocError>
+    where
+        V: Clone,
+        requires { (a b : V) → V.is_clone a b → b ≡ a }
+        ensures { IfOk result (λ copy. at copy ≡ at self.now) }
+    {
+        Ok(Names {
+            partitions: self.partitions.clone()?,
+            alloc: self.alloc,
+        })
     }
 
     /// Returns the value of a name, if it has one.

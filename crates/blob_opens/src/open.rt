@@ -9,6 +9,7 @@ ghost use Rattle.blob_base.specs.Options.{is_sync};
 ghost use Rattle.blob_header.specs.Refusals.{Refusal, error_of, IsMemory};
 
 use blob_base::{Durable, Error, Handle, IoBufs, IoBufsMut, ReadOptions, WriteOptions};
+use std::alloc::AllocError;
 use std::marker::Model;
 
 /// An accepted open, by a number that no other open has. It can't be dropped: `Opens::release` ends it, or `Opens::close` with its
@@ -26,6 +27,22 @@ impl Model for Registration {
     ghost Value = { Registration };
 
     ghost view = { λ r. record { partition = string_bytes r.partition; name = r.name.items; number = r.number } };
+}
+
+impl Registration {
+    /// Returns a copy, for a copy of the registry that gave this one. The only error is out of memory.
+    pub fn copy(&self) -> Result<Registration, AllocError>
+        ensures { IfOk result (λ copy. copy ≡ self.now) }
+    {
+        let alloc = *self.name.allocator();
+        let partition = String::from_str(alloc, &self.partition)?;
+        let name = Vec::from_slice(alloc, &self.name)?;
+        Ok(Registration {
+            partition,
+            name,
+            number: self.number,
+        })
+    }
 }
 
 /// The only open handle of a name in its registry. It can't be dropped: pass it to `Opens::close`.

@@ -13,7 +13,7 @@ pub mod history;
 use crate::open::{Blob, Registration};
 use blob_base::{BlobVersion, Error, Storage};
 use blob_names::names::Names;
-use std::alloc::Global;
+use std::alloc::{AllocError, Global};
 use std::ops::RangeInclusive;
 
 /// A registry of open names. It allows one open handle per name.
@@ -34,6 +34,18 @@ impl Opens {
             next: 0,
             alloc,
         }
+    }
+
+    /// Returns a copy of the registry: the same names are open in it, by the same numbers, and it gives the same numbers next.
+    /// Each of the two needs registrations of its own (`Registration::copy`). The only error is out of memory.
+    pub fn copy(&self) -> Result<Opens, AllocError>
+        ensures { IfOk result (λ copy. names_of copy ≡ names_of self.now) }
+    {
+        Ok(Opens {
+            names: self.names.copy()?,
+            next: self.next,
+            alloc: self.alloc,
+        })
     }
 
     /// Opens a blob that isn't open in this registry. Returns its handle, its size in logical bytes and its version. `versions`

@@ -1,4 +1,5 @@
 pub mod Bounded
+pub mod Copying
 pub mod Covered
 pub mod CutSteps
 pub mod Digging

@@ -3,6 +3,7 @@
 
 pub mod bounds;
 pub mod content;
+mod copies;
 pub mod entries;
 pub mod entry;
 pub mod extent;

@@ -1,6 +1,6 @@
 //! The handles of a laboratory by number: from 0, in the order of accepted opens. Numbers aren't reused, but a closed handle's slot is
 //! dropped.
-ghost use Rattle.std.specs.Prelude.{◌≡◌, ◌<◌, ◌++◌, ◌∷◌, [], Some, None, OnOk, OnErr, IfSome, IfNone, length, set, option_map, option_copied};
+ghost use Rattle.std.specs.Prelude.{◌≡◌, ◌<◌, ◌++◌, ◌∷◌, [], Some, None, OnOk, OnErr, IfOk, IfSome, IfNone, length, set, option_map, option_copied};
 ghost use Rattle.blob_header.specs.Refusals.{IsMemory};
 ghost use Rattle.blob_lab_model.specs.Steps.{close_registration};
 ghost use Rattle.blob_lab_model.specs.Answers.{kept_at};
@@ -12,7 +12,7 @@ use crate::slots::Slots;
 use blob_base::Error;
 use blob_opens::Opens;
 use blob_opens::open::{self, Registration};
-use std::alloc::Global;
+use std::alloc::{AllocError, Global};
 
 /// The wrapper's handles.
 pub(crate) type WrapperBlob = blob_faulty::Blob<blob_memory::Blob>;
@@ -47,6 +47,18 @@ impl Handle {
         }
     }
 
+    /// Returns a copy, for a fork of the wrapper and a copy of the registry. The only error is out of memory.
+    fn copy(&self) -> Result<Handle, AllocError>
+        ensures { IfOk result (λ copy. as_held copy ≡ as_held self.now) }
+    {
+        let blob = self.blob.copy()?;
+        let registration = match &self.registration {
+            None => None,
+            Some(registration) => Some(registration.copy()?),
+        };
+        Ok(Handle { blob, registration })
+    }
+
     /// Closes it and its exclusive open, if it has one.
     pub(crate) fn close(self, opens: &mut Opens)
         ensures { names_of opens.new ≡ close_registration (names_of opens.old) self.registration }
@@ -59,6 +71,26 @@ impl Handle {
             opens.release(registration);
         }
     }
+}
+
+/// Returns a copy of a slot. The only error is out of memory.
+fn copied_slot(slot: &Option<Handle>) -> Result<Option<Handle>, AllocError>
+    ensures { IfOk result (λ copy. option_map as_held copy ≡ option_map as_held slot.now) }
+{
+    match slot {
+        None => Ok(None),
+        Some(handle) => Ok(Some(handle.copy()?)),
+    }
+}
+
+/// Closes the handles of these slots.
+fn close_values(mut values: Vec<Option<Handle>>, opens: &mut Opens) {
+    while let Some(slot) = values.pop() {
+        if let Some(handle) = slot {
+            handle.close(opens);
+        }
+    }
+    values.destroy_empty();
 }
 
 /// A table of handles.
@@ -121,15 +153,32 @@ impl Handles {
         self.slots.take(number)
     }
 
+    /// Returns a copy of the table, for a fork of the wrapper. `opens` is a copy of the registry. The only error is `Memory`. The
+    /// handles that were copied before it are then closed in `opens`.
+    pub(crate) fn copy(&self, opens: &mut Opens) -> Result<Handles, Error>
+        ensures handles { IfOk result (λ copy. handles_of copy ≡ handles_of self.now) }
+        ensures names { OnOk result (names_of opens.new ≡ names_of opens.old) }
+        ensures memory { OnErr result (IsMemory result) }
+    {
+        let numbers = self.slots.numbers()?;
+        let mut values = Vec::with_capacity(*numbers.allocator(), self.slots.values.len())?;
+        for slot in &self.slots.values {
+            match copied_slot(slot) {
+                Ok(copy) => values.push(copy).unwrap(),
+                Err(e) => {
+                    close_values(values, opens);
+                    return Err(Error::Memory(e));
+                }
+            }
+        }
+        Ok(Handles {
+            slots: self.slots.with_values(numbers, values),
+        })
+    }
+
     /// Closes all of them.
     pub(crate) fn close_all(self, opens: &mut Opens) {
         let Handles { slots } = self;
-        let mut values = slots.into_values();
-        while let Some(slot) = values.pop() {
-            if let Some(handle) = slot {
-                handle.close(opens);
-            }
-        }
-        values.destroy_empty();
+        close_values(slots.into_values(), opens);
     }
 }

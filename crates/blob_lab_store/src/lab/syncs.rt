@@ -1,13 +1,40 @@
 //! The started syncs of a laboratory by number: from 0, in the order of their starts. Numbers aren't reused, but the slot of a sync that
 //! was finished is dropped.
-ghost use Rattle.std.specs.Prelude.{◌≡◌, ◌++◌, ◌∷◌, [], Some, None, OnOk, OnErr, IfSome, IfNone, length, map, set, option_map};
+ghost use Rattle.std.specs.Prelude.{◌≡◌, ◌++◌, ◌∷◌, [], Some, None, OnOk, OnErr, IfOk, IfSome, IfNone, length, map, set, option_map};
 ghost use Rattle.blob_header.specs.Refusals.{IsMemory};
 ghost use Rattle.blob_lab_model.specs.Answers.{kept_at};
-ghost use Rattle.blob_lab_store.specs.Tables.{started_by, syncs_of, HasSyncRoom};
+ghost use Rattle.blob_lab_store.specs.Tables.{started_by, syncs_of, HasSyncRoom, KeepsMarker};
 
+use crate::errors::copied_error;
 use crate::slots::Slots;
 use blob_base::{Error, Handle};
 use std::alloc::Global;
+
+/// Returns a copy of a started sync, with its marker unless it failed: a failed one has none. The only error is `Memory`.
+fn copied_sync(alloc: Global, started: &Handle) -> Result<Handle, Error>
+    ensures sync { IfOk result (λ copy. started_by copy ≡ started_by started.now) }
+    ensures marker { IfOk result (λ copy. KeepsMarker started.now copy) }
+    ensures memory { OnErr result (IsMemory result) }
+{
+    match started.outcome() {
+        Err(e) => Ok(Handle::ready(Err(copied_error(alloc, e)?))),
+        Ok(()) => match started.marker() {
+            Some(marker) => Ok(Handle::marked(marker)),
+            None => Ok(Handle::ready(Ok(()))),
+        },
+    }
+}
+
+/// Returns a copy of a slot. The only error is `Memory`.
+fn copied_slot(alloc: Global, slot: &Option<Handle>) -> Result<Option<Handle>, Error>
+    ensures sync { IfOk result (λ copy. option_map started_by copy ≡ option_map started_by slot.now) }
+    ensures memory { OnErr result (IsMemory result) }
+{
+    match slot {
+        None => Ok(None),
+        Some(started) => Ok(Some(copied_sync(alloc, started)?)),
+    }
+}
 
 /// A table of started syncs.
 #[derive(Drop)]
@@ -57,5 +84,22 @@ impl Syncs {
         ensures { syncs_of self.new ≡ map (λ slot. None) (syncs_of self.old) }
     {
         self.slots.clear();
+    }
+
+    /// Returns a copy of the table, for a fork of the wrapper. The only error is `Memory`.
+    pub(crate) fn copy(&self) -> Result<Syncs, Error>
+        ensures syncs { IfOk result (λ copy. syncs_of copy ≡ syncs_of self.now) }
+        ensures memory { OnErr result (IsMemory result) }
+    {
+        let numbers = self.slots.numbers()?;
+        let alloc = *numbers.allocator();
+        let mut values = Vec::with_capacity(alloc, self.slots.values.len())?;
+        for slot in &self.slots.values {
+            let copy = copied_slot(alloc, slot)?;
+            values.push(copy)?;
+        }
+        Ok(Syncs {
+            slots: self.slots.with_values(numbers, values),
+        })
     }
 }
