@@ -3,3 +3,4 @@ pub mod Mixed
 pub mod Pieces
 pub mod Paged
 pub mod Groups
+pub mod Zeroed

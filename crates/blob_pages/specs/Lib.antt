@@ -1,5 +1,6 @@
 pub mod Forms
 pub mod Groups
 pub mod Paged
+pub mod Sizes
 pub mod Stored
 pub mod Values

@@ -1,22 +1,21 @@
 -- The bytes of a list of pages.
-use Rattle.std.specs.Prelude.{Result, OnOk, OnErr, ◌≡◌, ◌⊎◌, ℕ, ◌+◌, ◌-◌, ◌*◌, ◌/◌, ◌%◌, ◌<◌, ◌≤◌, max, Bool, true, false, List, [], ◌∷◌, ◌++◌, length, map, take, drop, slice_index, slice_index_or, slice_set}
+use Rattle.std.specs.Prelude.{Result, OnOk, OnErr, ◌≡◌, ◌⊎◌, ℕ, ◌+◌, ◌-◌, ◌*◌, ◌/◌, ◌%◌, ◌<◌, ◌≤◌, max, Bool, true, false, List, [], ◌∷◌, ◌++◌, length, map, slice_index, slice_index_or, slice_set}
 use Rattle.std.specs.List.{range_with_len}
 use Rattle.blob_model.specs.Bytes.{overlay}
+pub use Rattle.blob_pages.specs.Sizes.{page_size, blank_bytes, splice}
 use Rattle.blob_pages.specs.declared.page.Page.{Page}
-use Rattle.blob_pages.specs.declared.page.Page.TheVariants.{Owned, Shared}
-
--- the size of a page in bytes, `PAGE` in the code
-abbrev pub page_size : ℕ
-page_size = 16384
+use Rattle.blob_pages.specs.declared.page.Page.TheVariants.{Owned, Blank, Shared}
 
 -- the bytes of a page
 abbrev pub page_bytes : Page → List ℕ
 page_bytes (Owned v) = v.items
+page_bytes (Blank b) = blank_bytes
 page_bytes (Shared r) = r.value.items
 
 -- whether only this value has a page
 abbrev pub is_owned : Page → Bool
 is_owned (Owned v) = true
+is_owned (Blank b) = true
 is_owned (Shared r) = false
 
 -- the byte at an offset
@@ -80,10 +79,6 @@ pub record HavePart (ps : List Page) (offset : ℕ) (run : List ℕ) (start end 
   pub within : end ≤ length run
   pub there : offset + end ≤ page_size * length ps
   pub bytes : (p : ℕ) → offset + start ≤ p → p < offset + end → byte_at ps p ≡ slice_index run (p - offset)
-
--- x with y written over it at n
-abbrev pub splice : List ℕ → ℕ → List ℕ → List ℕ
-splice x n y = take n x ++ (y ++ drop (n + length y) x)
 
 -- the result of a change: on Ok these bytes with the new length, on Err the old bytes
 pub record Changes {T E : Type 0} (result : Result T E) (old new : List Page) (had has : ℕ) (now : List ℕ) : Type 0 where

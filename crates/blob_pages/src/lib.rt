@@ -2,6 +2,7 @@
 //! shared page that it changes, and the references of its group if the group is shared too.
 #![tactic(auto)]
 
+mod blank;
 pub mod bytes;
 mod form;
 mod group;

@@ -1,7 +1,8 @@
 // One page.
-ghost use Rattle.std.specs.Prelude.{◌≡◌, ◌≤◌, ◌<◌, ◌+◌, ◌*◌, ◌%◌, true, false, length, replicate, OnOk, IfOk};
-ghost use Rattle.blob_pages.specs.Paged.{page_size, page_bytes, is_owned, splice};
+ghost use Rattle.std.specs.Prelude.{◌≡◌, ◌≤◌, ◌<◌, ◌+◌, ◌*◌, ◌%◌, [], true, false, length, replicate, OnOk, IfOk, vec_capacity};
+ghost use Rattle.blob_pages.specs.Paged.{page_size, page_bytes, blank_bytes, is_owned, splice};
 
+use crate::blank::{Blank, are_zeros};
 use std::alloc::{AllocError, Global};
 use std::rc::Rc;
 
@@ -10,10 +11,12 @@ use std::rc::Rc;
 /// The first write to a shared page copies 16 KB. A file of at most 16 KB has no pages: it is one vector.
 pub const PAGE: usize = 16384;
 
-/// A page that only this value has, or one that other values may share.
+/// A page that only this value has, or one that other values may share. The bytes of a blank page are zeros: its memory isn't written
+/// before its first bytes are, so zeros that are written over cost nothing.
 #[derive(Drop)]
 pub enum Page {
     Owned(Vec<u8>),
+    Blank(Blank),
     Shared(Rc<Vec<u8>>),
 }
 
@@ -24,6 +27,7 @@ impl Page {
     {
         match self {
             Page::Owned(bytes) => bytes.as_slice(),
+            Page::Blank(blank) => blank.bytes(),
             Page::Shared(bytes) => bytes.as_ref().as_slice(),
         }
     }
@@ -32,7 +36,7 @@ impl Page {
     pub fn is_owned(&self) -> bool
         ensures { result ≡ is_owned self.now }
     {
-        matches!(self, Page::Owned(_))
+        !matches!(self, Page::Shared(_))
     }
 }
 
@@ -59,19 +63,22 @@ pub fn count(len: usize) -> usize
     len.div_ceil(PAGE)
 }
 
-/// Makes a page of zeros. The only error is out of memory.
+/// Makes a blank page. The only error is out of memory.
 pub fn zeros(alloc: Global) -> Result<Page, AllocError>
     ensures owned { IfOk result (λ page. is_owned page ≡ true) }
-    ensures bytes { IfOk result (λ page. length (page_bytes page) ≡ page_size) }
+    ensures bytes { IfOk result (λ page. page_bytes page ≡ blank_bytes) }
 {
-    Ok(Page::Owned(Vec::from_elem(alloc, 0u8, PAGE)?))
+    Ok(Page::Blank(Blank::new(alloc)?))
 }
 
-/// Makes a page of these bytes. The only error is out of memory.
+/// Makes a page of these bytes, a blank one of zeros. The only error is out of memory.
 pub fn page_of(alloc: Global, bytes: &[u8]) -> Result<Page, AllocError>
     ensures owned { IfOk result (λ page. is_owned page ≡ true) }
     ensures bytes { IfOk result (λ page. page_bytes page ≡ bytes.now) }
 {
+    if are_zeros(bytes) {
+        return zeros(alloc);
+    }
     Ok(Page::Owned(Vec::from_slice(alloc, bytes)?))
 }
 
@@ -82,9 +89,19 @@ pub fn put(page: &mut Page, at: usize, run: &[u8])
     ensures bytes { page_bytes page.new ≡ splice (page_bytes page.old) at run.now }
     ensures owned { is_owned page.new ≡ true }
 {
-    if let Page::Owned(bytes) = page {
-        let end = at + run.len();
-        bytes[at..end].copy_from_slice(run);
+    match page {
+        Page::Owned(bytes) => {
+            let end = at + run.len();
+            bytes[at..end].copy_from_slice(run);
+        }
+        Page::Blank(blank) => {
+            let alloc = blank.allocator();
+            let taken = std::mem::replace(page, Page::Owned(Vec::new(alloc)));
+            if let Page::Blank(blank) = taken {
+                *page = Page::Owned(blank.with_run(at, run));
+            }
+        }
+        Page::Shared(_) => {}
     }
 }
 
@@ -95,9 +112,13 @@ pub fn clear(page: &mut Page, at: usize, len: usize)
     ensures bytes { page_bytes page.new ≡ splice (page_bytes page.old) at (replicate len 0) }
     ensures owned { is_owned page.new ≡ true }
 {
-    if let Page::Owned(bytes) = page {
-        let end = at + len;
-        bytes[at..end].fill(0);
+    match page {
+        Page::Owned(bytes) => {
+            let end = at + len;
+            bytes[at..end].fill(0);
+        }
+        Page::Blank(_) => {}
+        Page::Shared(_) => {}
     }
 }
 
@@ -109,6 +130,23 @@ pub fn on_page(at: usize, end: usize) -> usize
     ensures page { at % page_size + result ≤ page_size }
 {
     std::cmp::min(PAGE - at % PAGE, end - at)
+}
+
+/// Shares the bytes of a page that only this value has. If that fails, the page has them again.
+fn share(alloc: Global, page: &mut Page, bytes: Vec<u8>) -> Result<(), AllocError>
+    ensures bytes { page_bytes page.new ≡ bytes.items }
+    ensures shared { OnOk result (is_owned page.new ≡ false) }
+{
+    match Rc::new(alloc, bytes) {
+        Err(failed) => {
+            *page = Page::Owned(failed.value);
+            Err(AllocError)
+        }
+        Ok(bytes) => {
+            *page = Page::Shared(bytes);
+            Ok(())
+        }
+    }
 }
 
 /// Makes a page shared. The only error is out of memory. The bytes are unchanged then.
@@ -125,16 +163,8 @@ pub fn close(alloc: Global, page: &mut Page) -> Result<(), AllocError>
             *page = Page::Shared(bytes);
             Ok(())
         }
-        Page::Owned(bytes) => match Rc::new(alloc, bytes) {
-            Err(failed) => {
-                *page = Page::Owned(failed.value);
-                Err(AllocError)
-            }
-            Ok(bytes) => {
-                *page = Page::Shared(bytes);
-                Ok(())
-            }
-        },
+        Page::Blank(blank) => share(alloc, page, blank.with_run(0, &[])),
+        Page::Owned(bytes) => share(alloc, page, bytes),
     }
 }
 
@@ -149,6 +179,7 @@ pub fn copy_page(alloc: Global, page: &Page) -> Result<Page, AllocError>
             let copy: Result<Rc<Vec<u8>>, AllocError> = bytes.clone();
             Ok(Page::Shared(copy?))
         }
+        Page::Blank(_) => zeros(alloc),
         Page::Owned(bytes) => Ok(Page::Owned(Vec::from_slice(alloc, bytes)?)),
     }
 }

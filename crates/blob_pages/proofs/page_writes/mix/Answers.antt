@@ -1,7 +1,7 @@
-use Rattle.std.proofs.Common.{◌≡◌, ◌+◌, ◌∙◌, ap, length, arith}
+use Rattle.std.proofs.Common.{◌+◌, ◌∙◌, ap, length, arith}
 use Rattle.blob_model.specs.Bytes.{overlay}
 use Rattle.blob_model.specs.Runs.{is_chosen}
-use Rattle.blob_model.proofs.Bytes.{reach_below, above_chosen}
+use Rattle.blob_model.proofs.Bytes.{reach_below}
 use Rattle.blob_pages.specs.Values.{bytes}
 use Rattle.blob_pages.proofs.Mixed.{mixed_is, reach_back}
 use Rattle.blob_pages.proofs.page_writes.mix.Goals as goal

@@ -1,0 +1,7 @@
+use Rattle.std.proofs.Common.{ap, length, arith}
+use Rattle.blob_pages.specs.Paged.{page_bytes}
+use Rattle.blob_pages.proofs.Zeroed.{blank_length}
+use Rattle.blob_pages.proofs.page.put.Goals as goal
+
+pub with_run-requires : goal.with_run-requires
+with_run-requires c = omega (arith, c.requires.within, ap length (ap page_bytes c.in-Blank.is), blank_length)
