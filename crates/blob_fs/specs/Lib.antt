@@ -25,3 +25,4 @@ pub mod Performs
 pub mod Writes
 pub mod Noted
 pub mod Reads
+pub mod Zeros

@@ -14,7 +14,8 @@ ghost use Rattle.blob_fs.specs.States.{KeepsState};
 
 use crate::error::FsError;
 use crate::file_system::{Descriptor, File, FileSystem};
-use crate::writes::{chosen, write_grown, zeros_between, zeros_end};
+use crate::writes::{chosen, write_grown, zeros_end};
+use crate::zeros::Zeros;
 use blob_directory::edit::Kind;
 use blob_journal::FileBlob;
 use rand_core::Rng;
@@ -307,16 +308,16 @@ impl<R: Rng + Drop> FileSystem<R> {
 
     /// Returns the zeros that a write from an offset up to an end first writes, from the end of the file's blob on. The only error is
     /// `Memory`.
-    fn zeros_from(&self, from: u64, offset: u64, end: u64) -> Result<Vec<u8>, AllocError>
-        ensures none { IfOk result (λ zeros. leaves_zeros (profile_of self.now) from offset end ≡ false → length zeros.items ≡ 0) }
-        ensures zeros { IfOk result (λ zeros. AreZeros zeros.items) }
-        ensures within { IfOk result (λ zeros. from + length zeros.items ≤ max from (max offset end)) }
+    fn zeros_from(&self, from: u64, offset: u64, end: u64) -> Result<Zeros, AllocError>
+        ensures none { IfOk result (λ zeros. leaves_zeros (profile_of self.now) from offset end ≡ false → length zeros ≡ 0) }
+        ensures zeros { IfOk result (λ zeros. AreZeros zeros) }
+        ensures within { IfOk result (λ zeros. from + length zeros ≤ max from (max offset end)) }
     {
         if !self.keeps_writes() {
-            return Ok(Vec::new(self.alloc));
+            return Ok(Zeros::none());
         }
         let to = zeros_end(&self.options.profile, from, offset, end);
-        zeros_between(self.alloc, from, to)
+        Zeros::between(self.alloc, from, to)
     }
 
     /// Writes bytes at an offset, unsynced.
@@ -346,7 +347,7 @@ impl<R: Rng + Drop> FileSystem<R> {
         self.check_room(extent.size, end)?;
         let zeros = self.zeros_from(extent.end, offset, end)?;
         let (how, is_zeroed) = self.draw_growth(extent.is_cut, zeros.is_empty())?;
-        let zeros = chosen(is_zeroed, &zeros);
+        let zeros = chosen(is_zeroed, zeros.as_slice());
         let next_edit = self.store.next_edit();
         let Some(found) = self.files.get_mut(&inode) else {
             return Err(FsError::Stale);

@@ -32,6 +32,7 @@ mod truncations;
 mod unlinked;
 pub mod whole;
 mod writes;
+mod zeros;
 
 pub use blob_directory::{
     Binding, Change, Edit, Keeps, Kind, Profile, Settles, edit, profile, table,

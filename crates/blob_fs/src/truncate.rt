@@ -9,7 +9,8 @@ ghost use Rattle.blob_fs.specs.Tracked.{freed_of};
 use crate::error::FsError;
 use crate::file_system::{Descriptor, File, FileSystem};
 use crate::truncation::Truncation;
-use crate::writes::{PAGE, cut_page, zeroing, zeros_between};
+use crate::writes::{PAGE, cut_page, zeroing};
+use crate::zeros::Zeros;
 use blob_base::Error;
 use blob_journal::laws::bindings;
 use rand_core::Rng;
@@ -30,13 +31,13 @@ impl File {
 impl<R: Rng + Drop> FileSystem<R> {
     /// Returns the zeros that a truncation from a size to a length writes: up to the end of the page, or of the file. The only error is
     /// `Memory`.
-    fn page_zeros(&self, size: u64, length: u64) -> Result<Vec<u8>, FsError> {
+    fn page_zeros(&self, size: u64, length: u64) -> Result<Zeros, FsError> {
         let within = length % PAGE;
         if !self.options.profile.pages || within == 0 {
-            return Ok(Vec::new(self.alloc));
+            return Ok(Zeros::none());
         }
         let end = length.saturating_add(PAGE - within).min(size);
-        let zeros = zeros_between(self.alloc, length, end)?;
+        let zeros = Zeros::between(self.alloc, length, end)?;
         Ok(zeros)
     }
 
@@ -77,7 +78,7 @@ impl<R: Rng + Drop> FileSystem<R> {
         found.truncations.reserve(1)?;
         let edit = self.store.record_truncation(inode, rate)?;
         self.store.set_config(zeroing(&self.options.faults));
-        cut_page(&mut found.blob, &mut self.store, reached, &zeros)?;
+        cut_page(&mut found.blob, &mut self.store, reached, zeros.as_slice())?;
         let next_write = self.store.next_write();
         found.truncations.push_reserved(Truncation {
             edit,

@@ -1,11 +1,11 @@
 //! Writes of a blob, by which bytes of a failed one are written.
-ghost use Rattle.std.specs.Prelude.{◌≡◌, ◌<◌, ◌≤◌, ◌⊎◌, ◌-◌, [], max, IfOk, OnOk, Some, false, length};
+ghost use Rattle.std.specs.Prelude.{◌≡◌, ◌<◌, ◌≤◌, ◌⊎◌, [], max, OnOk, Some, false, length};
 ghost use Rattle.blob_model.specs.Bytes.{write_live};
 ghost use Rattle.blob_faulty.specs.Wrapper.{size_of};
 ghost use Rattle.blob_draws.specs.Faults.{retention};
 ghost use Rattle.blob_fs.specs.declared.switches.FailedWrite.TheVariants.{ByMode};
 ghost use Rattle.blob_fs.specs.Noted.{ResizesOpen};
-ghost use Rattle.blob_fs.specs.Reads.{AreZeros, Shows, write_some};
+ghost use Rattle.blob_fs.specs.Reads.{Shows, write_some};
 ghost use Rattle.blob_fs.specs.Writes.{leaves_zeros};
 ghost use Rattle.blob_journal.specs.Fixed.{ChangesOpen, IsBeside};
 ghost use Rattle.blob_journal.specs.Unchanged.{KeepsNamesAndEdits};
@@ -18,7 +18,6 @@ use blob_directory::profile::Profile;
 use blob_faulty::{Config, PartialWriteMode, WriteConfig};
 use blob_journal::{FileBlob, Journaled};
 use rand_core::Rng;
-use std::alloc::{AllocError, Global};
 
 /// Returns the faults with this rate of failures of writes. A failed one keeps by this rate, in this mode.
 pub(crate) fn with_writes(faults: &Config, failure_rate: Probability, writes: WriteConfig) -> Config
@@ -69,15 +68,6 @@ pub(crate) fn zeros_end(profile: &Profile, size: u64, offset: u64, end: u64) -> 
         return size;
     }
     size.saturating_add(PAGE - within).min(offset)
-}
-
-/// Returns as many zeros as there are bytes between two offsets, none if the second one isn't beyond the first. Fails only if memory
-/// runs out.
-pub(crate) fn zeros_between(alloc: Global, from: u64, to: u64) -> Result<Vec<u8>, AllocError>
-    ensures count { IfOk result (λ zeros. length zeros.items ≡ to - from) }
-    ensures zeros { IfOk result (λ zeros. AreZeros zeros.items) }
-{
-    Vec::from_elem(alloc, 0, to.saturating_sub(from) as usize)
 }
 
 /// Writes zeros, unsynced. If there are none, it does nothing.

@@ -121,7 +121,7 @@ returns-in-Ok-clause-recorded g c = λ by_mode no_zeros.
     let end = end_there fs c.args.file inode found opened filed ∙ c.in_ok-extent.ensures found (ap (λ (m : BTreeMap ℕ File). get nat_cmp m inode) (sym drawn.files.files) ∙ sym there) in
     let plain : leaves_zeros (profile_of begun) c.in_ok-extent.extent.end c.args.offset (c.args.offset + length c.args.bytes.now) ≡ false =
     ap₂ (λ (p : Profile) (size : ℕ). leaves_zeros p size c.args.offset (c.args.offset + length c.args.bytes.now)) (ap (λ (o : Options). o.profile) same.options) (sym end) ∙ no_zeros in
-    let none : length c.in_ok-zeros.zeros.items ≡ 0 = c.in_ok-zeros.ensures.none
+    let none : length c.in_ok-zeros.zeros ≡ 0 = c.in_ok-zeros.ensures.none
     (none_below (profile_of begun) c.in_ok-extent.extent.end c.args.offset (c.args.offset + length c.args.bytes.now) c.saturating_add-end.result (omega (arith, c.saturating_add-end.ensures)) plain) in
     let empty_zeros : c.is_empty.result ≡ true = grind (arith, none, c.is_empty.ensures) in
     let how = c.in_ok-how.ensures.how (ap (λ (o : Options). o.failed_write) same.options ∙ by_mode) in
@@ -133,7 +133,7 @@ returns-in-Ok-clause-recorded g c = λ by_mode no_zeros.
     ap₂ (λ (k : Option (PartialWriteMode × Rate)) (n : ℕ). loose k n offset bytes) kept (drawn.crashes.next_write ∙ crashes.next_write) in
     was_ok c.write_grown-written.result _ c.in-Ok.is c.write_grown-written.ensures.recorded (λ recorded.
     let empty : length c.chosen-zeros.result.now ≡ 0 =
-    ⊎_elim (λ same. ap (λ (l : List ℕ). length l) (same ∙ c.deref.ensures.value) ∙ none) (λ e. ap (λ (l : List ℕ). length l) e) c.chosen-zeros.ensures in
+    ⊎_elim (λ same. ap (λ (l : List ℕ). length l) (same ∙ c.as_slice.ensures) ∙ none) (λ e. ap (λ (l : List ℕ). length l) e) c.chosen-zeros.ensures in
     let written = recorded how empty in
     record {
       inode = inode;
@@ -270,7 +270,7 @@ returns-in-Ok-clause-shows g c = λ by_mode.
     let from = c.in_ok-extent.extent.end in
     let size : size_of found.blob.blob ≡ from = c.in_ok-extent.ensures found (ap (λ (m : BTreeMap ℕ File). get nat_cmp m inode) (sym drawn.files.files) ∙ sym there) in
     let how = c.in_ok-how.ensures.how (ap (λ (o : Options). o.failed_write) same.options ∙ by_mode) in
-    let less : from + length c.in_ok-zeros.zeros.items ≤ max from (offset + length bytes) = omega (arith, c.in_ok-zeros.ensures.within, c.saturating_add-end.ensures) in
+    let less : from + length c.in_ok-zeros.zeros ≤ max from (offset + length bytes) = omega (arith, c.in_ok-zeros.ensures.within, c.saturating_add-end.ensures) in
     let sets = sets_through one.files (c.get_mut.follows.lender new) inode found new there (c.get_mut.follows.holds new) in
     was_ok c.write_grown-written.result _ c.in-Ok.is c.write_grown-written.ensures.shows (λ shows. record {
       inode = inode;
@@ -285,10 +285,10 @@ returns-in-Ok-clause-shows g c = λ by_mode.
           read_blob new (c.end_write-now.ensures.shown (c.reserve_shown.ensures.shown none))
           ∙ ap (λ (b : FileBlob). bytes_of b) c.end_write-now.ensures.content.blob
           ∙ ∥∥₁_elim one.opened (Coded-set (coded_list coded_ℕ) _ _) (λ each.
-          shows_grown one.store inode blob c.write_grown-written.new.blob from offset c.in_ok-zeros.zeros.items c.chosen-zeros.result.now bytes
+          shows_grown one.store inode blob c.write_grown-written.new.blob from offset c.in_ok-zeros.zeros c.chosen-zeros.result.now bytes
           (subst (λ (b : FileBlob). IsOpen one.store inode b) (sym c.reserve_shown.ensures.content.blob) (each inode found small (sym there)))
           (ap (λ (b : FileBlob). size_of b.blob) c.reserve_shown.ensures.content.blob ∙ size) c.in_ok-zeros.ensures.zeros less
-          (⊎_elim (λ e. inl (e ∙ c.deref.ensures.value)) inr c.chosen-zeros.ensures) (shows how))
+          (⊎_elim (λ e. inl (e ∙ c.as_slice.ensures)) inr c.chosen-zeros.ensures) (shows how))
           ∙ ap (λ (b : FileBlob). write_live (bytes_of b) offset bytes) c.reserve_shown.ensures.content.blob
           ∙ ap (λ (l : List ℕ). write_live l offset bytes) (sym (read_blob found none));
     })
