@@ -4,19 +4,25 @@ use Rattle.std.specs.List.{range_with_len}
 use Rattle.blob_model.specs.Bytes.{overlay}
 pub use Rattle.blob_pages.specs.Sizes.{page_size, blank_bytes, splice}
 use Rattle.blob_pages.specs.declared.page.Page.{Page}
-use Rattle.blob_pages.specs.declared.page.Page.TheVariants.{Owned, Blank, Shared}
+use Rattle.blob_pages.specs.declared.page.Page.TheVariants.{Owned, Shared, Blank}
 
 -- the bytes of a page
 abbrev pub page_bytes : Page → List ℕ
 page_bytes (Owned v) = v.items
-page_bytes (Blank b) = blank_bytes
 page_bytes (Shared r) = r.value.items
+page_bytes (Blank b) = blank_bytes
 
 -- whether only this value has a page
 abbrev pub is_owned : Page → Bool
 is_owned (Owned v) = true
-is_owned (Blank b) = true
 is_owned (Shared r) = false
+is_owned (Blank b) = true
+
+-- whether no byte of a page is written yet
+abbrev pub is_blank : Page → Bool
+is_blank (Owned v) = false
+is_blank (Shared r) = false
+is_blank (Blank b) = true
 
 -- the byte at an offset
 unfoldable pub byte_at : List Page → ℕ → ℕ

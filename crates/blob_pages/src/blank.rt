@@ -30,6 +30,7 @@ impl Blank {
     }
 
     /// Returns the bytes: zeros.
+    #[inline(never)]
     #[tactic(auto, unfolding(crate::specs::Sizes::blank_bytes))]
     pub(crate) fn bytes(&self) -> &[u8]
         ensures { result.now ≡ blank_bytes }

@@ -124,6 +124,7 @@ pub fn push_in(alloc: Global, group: &mut Group, page: Page) -> Result<(), Alloc
 }
 
 /// Writes a run to a page that only this value has.
+#[inline(always)]
 pub fn put_in(group: &mut Group, i: usize, at: usize, run: &[u8])
     requires sound { IsSound group.old }
     requires owned { owned_at (group_pages group.old) i ≡ true }

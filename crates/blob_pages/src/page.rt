@@ -1,6 +1,6 @@
 // One page.
 ghost use Rattle.std.specs.Prelude.{◌≡◌, ◌≤◌, ◌<◌, ◌+◌, ◌*◌, ◌%◌, [], true, false, length, replicate, OnOk, IfOk, vec_capacity};
-ghost use Rattle.blob_pages.specs.Paged.{page_size, page_bytes, blank_bytes, is_owned, splice};
+ghost use Rattle.blob_pages.specs.Paged.{page_size, page_bytes, blank_bytes, is_blank, is_owned, splice};
 
 use crate::blank::{Blank, are_zeros};
 use std::alloc::{AllocError, Global};
@@ -16,8 +16,8 @@ pub const PAGE: usize = 16384;
 #[derive(Drop)]
 pub enum Page {
     Owned(Vec<u8>),
-    Blank(Blank),
     Shared(Rc<Vec<u8>>),
+    Blank(Blank),
 }
 
 impl Page {
@@ -27,8 +27,8 @@ impl Page {
     {
         match self {
             Page::Owned(bytes) => bytes.as_slice(),
-            Page::Blank(blank) => blank.bytes(),
             Page::Shared(bytes) => bytes.as_ref().as_slice(),
+            Page::Blank(blank) => blank.bytes(),
         }
     }
 
@@ -82,7 +82,25 @@ pub fn page_of(alloc: Global, bytes: &[u8]) -> Result<Page, AllocError>
     Ok(Page::Owned(Vec::from_slice(alloc, bytes)?))
 }
 
+/// Writes a run to a blank page.
+#[inline(never)]
+fn put_first(page: &mut Page, at: usize, run: &[u8])
+    requires blank { is_blank page.old ≡ true }
+    requires within { at + length run.now ≤ page_size }
+    ensures bytes { page_bytes page.new ≡ splice (page_bytes page.old) at run.now }
+    ensures owned { is_owned page.new ≡ true }
+{
+    if let Page::Blank(blank) = page {
+        let alloc = blank.allocator();
+        let taken = std::mem::replace(page, Page::Owned(Vec::new(alloc)));
+        if let Page::Blank(blank) = taken {
+            *page = Page::Owned(blank.with_run(at, run));
+        }
+    }
+}
+
 /// Writes a run to a page that only this value has.
+#[inline(always)]
 pub fn put(page: &mut Page, at: usize, run: &[u8])
     requires owned { is_owned page.old ≡ true }
     requires within { at + length run.now ≤ length (page_bytes page.old) }
@@ -94,13 +112,7 @@ pub fn put(page: &mut Page, at: usize, run: &[u8])
             let end = at + run.len();
             bytes[at..end].copy_from_slice(run);
         }
-        Page::Blank(blank) => {
-            let alloc = blank.allocator();
-            let taken = std::mem::replace(page, Page::Owned(Vec::new(alloc)));
-            if let Page::Blank(blank) = taken {
-                *page = Page::Owned(blank.with_run(at, run));
-            }
-        }
+        Page::Blank(_) => put_first(page, at, run),
         Page::Shared(_) => {}
     }
 }

@@ -91,6 +91,7 @@ impl Table {
     }
 
     /// Writes a run to a page that only this value has.
+    #[inline(always)]
     pub fn put(&mut self, i: usize, at: usize, run: &[u8])
         requires owned { owned_at self.old i ≡ true }
         requires within { at + length run.now ≤ length (slice_index_or (map page_bytes self.old) i []) }
@@ -229,6 +230,7 @@ fn own_of(alloc: Global, groups: &mut Vec<Group>, i: usize) -> Result<(), AllocE
 }
 
 /// Writes a run to a page that only this value has.
+#[inline(always)]
 fn put_of(groups: &mut Vec<Group>, i: usize, at: usize, run: &[u8])
     requires packed { IsPacked groups.old.items }
     requires owned { owned_at (all_pages groups.old.items) i ≡ true }

@@ -3,5 +3,5 @@ use Rattle.blob_pages.specs.Paged.{page_bytes}
 use Rattle.blob_pages.proofs.Zeroed.{blank_length}
 use Rattle.blob_pages.proofs.page.put.Goals as goal
 
-pub with_run-requires : goal.with_run-requires
-with_run-requires c = omega (arith, c.requires.within, ap length (ap page_bytes c.in-Blank.is), blank_length)
+pub put_first-requires-clause-within : goal.put_first-requires-clause-within
+put_first-requires-clause-within c = omega (arith, c.requires.within, ap length (ap page_bytes c.in-Blank.is), blank_length)
