@@ -26,7 +26,7 @@ use Rattle.blob_explore.specs.declared.script.Script.{Script}
 abbrev pub mark : List ℕ
 mark = (2 ^ 64 - 1) ∷ []
 
--- a tree whose first leaf has no draw has no other leaf
+-- a tree has no other leaf if its first one has no draw
 only_leaf : (t : DecisionTree) (path : List Bool) → depth t [] + 1 ≡ 1 → IsLeaf t path → path ≡ []
 only_leaf Leaf [] none leaf = refl
 only_leaf Leaf (o ∷ path) none leaf = absurd leaf

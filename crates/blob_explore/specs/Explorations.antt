@@ -43,7 +43,7 @@ TakesPath script path words replies =
     → (words ≡ words_of (extend_path (depth t path) path))
     × RunsAlong (start_of script) script.calls.items (extend_path (depth t path) path) replies
 
--- the same of a leaf, whose replies are those after the shared calls
+-- the same of a leaf, which has the replies after those of the shared calls
 abbrev pub Follows : Script → Shared → List Bool → Leaf → Type 0
 Follows script shared path leaf =
     IsShared script shared → TakesPath script path leaf.words.items (shared.replies.items ++ leaf.replies.items)

@@ -24,7 +24,7 @@ pub struct Leaf {
 /// Runs the calls of a script once for each leaf of the decision tree of their draws, depth first.
 ///
 /// The calls before the first one that draws are shared: they are made in one laboratory, and each run starts from a fork of it.
-/// Besides that laboratory it keeps one path. So memory doesn't grow with the number of leaves.
+/// It keeps that laboratory and one path. So memory doesn't grow with the number of leaves.
 ///
 /// It can't be dropped: call `end`.
 pub struct Exploration {
