@@ -8,7 +8,8 @@ use Rattle.blob_choices.specs.Explored.{LeavesHoldEveryRun, RunsAlong}
 use Rattle.blob_choices.specs.Outcomes.{SetNoPartialResize, acts_of, run_outcome}
 use Rattle.blob_choices.specs.TwoWords.{RunsAreDecided}
 use Rattle.blob_explore.specs.Distinct.{CountsFit, Distinct, leaf_text, outcomes_of, with_leaf}
-use Rattle.blob_explore.specs.Explorations.{DecidesRun, Visits, VisitsNext, remaining_leaves, explored_script, start_of}
+use Rattle.blob_explore.specs.SharedCalls.{replies_of}
+use Rattle.blob_explore.specs.Explorations.{DecidesRun, IsBegun, Visits, VisitsNext, remaining_leaves, explored_script, start_of}
 use Rattle.blob_explore.specs.Outcomes.{Explores, Exploring, RunsAlongPath, Visited, path_to, replies_text, shown_leaf}
 use Rattle.blob_explore.specs.declared.exploration.Exploration.{Exploration}
 use Rattle.blob_explore.specs.declared.exploration.Leaf.{Leaf}
@@ -43,12 +44,12 @@ one_more_shown last visited leaf old new few before counts =
 -- one more leaf
 pub visits_more : (script : Script) (last : Bool) (e e' : Exploration) (leaf : Leaf) (count : ℕ) (old new : List Distinct) (t : DecisionTree)
     → Exploring script last e count old t → Visits e leaf e' t → explored_script e' ≡ explored_script e → count < 2 ^ 64 - 1
-    → (CountsFit old → new ≡ with_leaf old (leaf_text leaf.words.items (replies_text last leaf.replies.items))) → Exploring script last e' (count + 1) new t
+    → (CountsFit old → new ≡ with_leaf old (leaf_text leaf.words.items (replies_text last (replies_of e leaf)))) → Exploring script last e' (count + 1) new t
 visits_more script last e e' leaf count old new t before visits same few counts =
-    let here : Visited = record { path = visits.path; replies = leaf.replies.items } in
+    let here : Visited = record { path = visits.path; replies = replies_of e leaf } in
     let visited : List Visited = before.visited in
-    let S : Script → Type 0 = λ s. RunsAlong (start_of s) s.calls.items visits.path leaf.replies.items in
-    let C : List ℕ → Type 0 = λ words. CountsFit old → new ≡ with_leaf old (leaf_text words (replies_text last leaf.replies.items)) in
+    let S : Script → Type 0 = λ s. RunsAlong (start_of s) s.calls.items visits.path (replies_of e leaf) in
+    let C : List ℕ → Type 0 = λ words. CountsFit old → new ≡ with_leaf old (leaf_text words (replies_text last (replies_of e leaf))) in
     record {
       explored = same ∙ before.explored;
       visited = visited ++ here ∷ [];
@@ -61,17 +62,17 @@ visits_more script last e e' leaf count old new t before visits same few counts 
 
 -- what an exploration has found since its start
 abbrev pub Found : Exploration → Bool → Exploration → ℕ → List Distinct → Type 0
-Found begun last e count found = (t : DecisionTree) → DecidesRun begun t → remaining_leaves begun t ≡ leaves t → Exploring (explored_script begun) last e count found t
+Found begun last e count found = IsBegun begun → (t : DecisionTree) → DecidesRun begun t → Exploring (explored_script begun) last e count found t
 
 -- one more leaf, and its text
 pub found_more : (begun e e' : Exploration) (leaf : Leaf) (last : Bool) (count : ℕ) (text : List ℕ) (old new : List Distinct)
-    → Found begun last e count old → VisitsNext e leaf e' → explored_script e' ≡ explored_script e → count < 2 ^ 64 - 1 → text ≡ replies_text last leaf.replies.items
+    → Found begun last e count old → (IsBegun begun → VisitsNext e leaf e') → explored_script e' ≡ explored_script e → count < 2 ^ 64 - 1 → text ≡ replies_text last (replies_of e leaf)
     → (CountsFit old → new ≡ with_leaf old (leaf_text leaf.words.items text)) → Found begun last e' (count + 1) new
-found_more begun e e' leaf last count text old new found visits same few is counts t D all =
-    let before : Exploring (explored_script begun) last e count old t = found t D all in
+found_more begun e e' leaf last count text old new found visits same few is counts b t D =
+    let before : Exploring (explored_script begun) last e count old t = found b t D in
     let S : Script → Type 0 = λ s. Decides (run_outcome (start_of s) (acts_of s.calls.items)) t in
     let C : List ℕ → Type 0 = λ text. CountsFit old → new ≡ with_leaf old (leaf_text leaf.words.items text) in
-    visits_more (explored_script begun) last e e' leaf count old new t before (visits t (subst S (sym before.explored) D)) same few (subst C is counts)
+    visits_more (explored_script begun) last e e' leaf count old new t before (visits b t (subst S (sym before.explored) D)) same few (subst C is counts)
 
 -- the first items of a list
 firsts : (X : Type 0) (n : ℕ) (xs ys all : List X) → length xs ≡ n → xs ++ ys ≡ all → xs ≡ take n all
@@ -83,13 +84,13 @@ firsts X n xs ys all many whole = firsts_of xs ∙ ap (λ (k : ℕ). take k (xs 
 
 -- what was found at the end
 pub found_all : RunsAreDecided → LeavesHoldEveryRun → (script : Script) (begun e : Exploration) (last is_complete : Bool) (count : ℕ) (found : List Distinct)
-    → explored_script begun ≡ script → ((t : DecisionTree) → remaining_leaves begun t ≡ leaves t) → Found begun last e count found
+    → explored_script begun ≡ script → IsBegun begun → Found begun last e count found
     → (is_complete ≡ true → (t : DecisionTree) → remaining_leaves e t ≡ []) → SetNoPartialResize (acts_of script.calls.items) → Explores script last is_complete count found
-found_all decided hold script begun e last is_complete count found same all so_far end none =
+found_all decided hold script begun e last is_complete count found same b so_far end none =
     let (t, D) = decided (start_of script) (acts_of script.calls.items) tt none in
     let S : Script → Type 0 = λ s. Decides (run_outcome (start_of s) (acts_of s.calls.items)) t in
     let E : Script → Type 0 = λ s. Exploring s last e count found t in
-    let exploring : Exploring script last e count found t = subst E same (so_far t (subst S (sym same) D) (all t)) in
+    let exploring : Exploring script last e count found t = subst E same (so_far b t (subst S (sym same) D)) in
     let paths : List (List Bool) = map path_to exploring.visited in
     let many : length paths ≡ count = length-map exploring.visited path_to ∙ exploring.many in
     let size : length paths + length (remaining_leaves e t) ≡ length (leaves t) = sym (length-append paths (remaining_leaves e t)) ∙ ap length exploring.paths in

@@ -1,7 +1,9 @@
 pub mod Runs
+pub mod SharedRuns
 pub mod Visiting
 pub mod Distinct
 pub mod Table
+pub mod Behind
 pub mod Exploring
 pub mod Adding
 pub mod Reading

@@ -1,5 +1,5 @@
 -- The distinct outcomes of the leaves that were visited.
-use Rattle.std.specs.Prelude.{◌≡◌, ℕ, ◌+◌, ◌-◌, ◌^◌, ◌<◌, Bool, not, List, [], ◌∷◌, map, filter, length, if◌then◌else◌, string_bytes, String}
+use Rattle.std.specs.Prelude.{◌≡◌, ℕ, ◌+◌, ◌-◌, ◌^◌, ◌<◌, Bool, not, List, [], ◌∷◌, ◌++◌, map, filter, length, if◌then◌else◌, string_bytes, String}
 use Rattle.std.specs.Global.{Global}
 use Rattle.std.specs.List.{AllByRecursion}
 use Rattle.std.specs.Str.{bytes_eq}
@@ -51,6 +51,10 @@ outcome_at entry = distinct (string_bytes entry.0) entry.1
 
 abbrev pub outcomes_in : {S : Type 0} → IndexMap (String Global) Outcome S → List Distinct
 outcomes_in table = map outcome_at table.entries
+
+-- an outcome with this text before its own
+abbrev pub behind : List ℕ → Distinct → Distinct
+behind front outcome = record outcome { text = front ++ outcome.text }
 
 abbrev pub leaf_text : List ℕ → List ℕ → LeafText
 leaf_text words text = record { words = words; text = text }

@@ -1,3 +1,4 @@
+pub mod SharedCalls
 pub mod Explorations
 pub mod Distinct
 pub mod Outcomes

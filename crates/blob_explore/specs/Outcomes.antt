@@ -7,9 +7,9 @@ use Rattle.blob_tree.specs.Trees.{DecisionTree, leaves, words_of}
 use Rattle.blob_choices.specs.Decided.{Decides}
 use Rattle.blob_choices.specs.Explored.{HoldEveryRun, RunsAlong}
 use Rattle.blob_choices.specs.Outcomes.{SetNoPartialResize, acts_of, run_outcome}
-use Rattle.blob_explore.specs.Distinct.{Distinct, LeafText, outcomes_in, outcomes_of}
+use Rattle.blob_explore.specs.Distinct.{Distinct, LeafText, outcomes_of}
 use Rattle.blob_explore.specs.Explorations.{remaining_leaves, explored_script, start_of}
-use Rattle.blob_explore.specs.Printed.{exploration_text}
+use Rattle.blob_explore.specs.Printed.{exploration_text, outcomes_found}
 use Rattle.blob_explore.specs.ScriptTexts.{IsScriptOf}
 use Rattle.blob_explore.specs.declared.exploration.Exploration.{Exploration}
 use Rattle.blob_explore.specs.declared.outcomes.Explored.{Explored}
@@ -22,6 +22,10 @@ reply_lines replies = flat_map (λ reply. reply_line reply ++ 10 ∷ []) replies
 -- the text of an outcome: the lines of all replies, or of the last one
 abbrev pub replies_text : Bool → List Reply → List ℕ
 replies_text last replies = reply_lines (drop (if last then length replies - 1 else 0) replies)
+
+-- of these, the lines of the shared replies
+abbrev pub shared_text : Bool → List Reply → List ℕ
+shared_text last shared = if last then [] else reply_lines shared
 
 -- a visited leaf: its path, and the replies of the run along it
 pub record Visited : Type 0 where
@@ -56,7 +60,7 @@ pub record Explores (script : Script) (last is_complete : Bool) (count : ℕ) (f
 -- the result of an exploration, if no call sets a rate of partial resizes
 abbrev pub IsExplored : Script → Bool → Explored → Type 0
 IsExplored script last found = SetNoPartialResize (acts_of script.calls.items)
-    → Explores script last found.is_complete found.leaves (outcomes_in found.outcomes)
+    → Explores script last found.is_complete found.leaves (outcomes_found found)
 
 -- The text is that of an exploration of this script, with at most `limit` leaves: all leaves, or the first `limit` of
 -- them.

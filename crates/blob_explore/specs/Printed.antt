@@ -1,9 +1,9 @@
 -- What is printed of an exploration.
-use Rattle.std.specs.Prelude.{◌≡◌, ℕ, Bool, List, [], ◌∷◌, ◌++◌, ◌==◌, length, codes, if◌then◌else◌, String, string_bytes}
+use Rattle.std.specs.Prelude.{◌≡◌, ℕ, Bool, List, [], ◌∷◌, ◌++◌, ◌==◌, length, map, codes, if◌then◌else◌, String, string_bytes}
 use Rattle.std.specs.Global.{Global}
 use Rattle.std.specs.List.{flat_map}
 use Rattle.std.specs.Fmt.{decimal}
-use Rattle.blob_explore.specs.Distinct.{Distinct, outcomes_in}
+use Rattle.blob_explore.specs.Distinct.{Distinct, behind, outcomes_in}
 use Rattle.blob_explore.specs.declared.outcomes.Explored.{Explored}
 
 -- a number of leaves, and of outcomes
@@ -36,9 +36,13 @@ end_text outcomes leaves is_complete =
 abbrev pub exploration_text : List Distinct → ℕ → Bool → List ℕ
 exploration_text outcomes leaves is_complete = flat_map outcome_text outcomes ++ end_text outcomes leaves is_complete
 
+-- the outcomes, each with the shared text before its own
+abbrev pub outcomes_found : Explored → List Distinct
+outcomes_found explored = map (behind (string_bytes explored.shared)) (outcomes_in explored.outcomes)
+
 -- the whole text of what was explored, and its last line
 abbrev pub explored_text : Explored → List ℕ
-explored_text explored = exploration_text (outcomes_in explored.outcomes) explored.leaves explored.is_complete
+explored_text explored = exploration_text (outcomes_found explored) explored.leaves explored.is_complete
 
 abbrev pub last_line : Explored → List ℕ
 last_line explored = end_text (outcomes_in explored.outcomes) explored.leaves explored.is_complete

@@ -6,6 +6,8 @@ pub mod outcomes;
 mod print;
 mod run;
 pub mod script;
+mod shared;
+mod short;
 mod tally;
 
 pub use exploration::{Exploration, Leaf};

@@ -1,7 +1,8 @@
 //! The distinct outcomes of a script.
-ghost use Rattle.std.specs.Prelude.{◌≡◌, ◌≤◌, ◌-◌, IfOk, OnErr, false, if◌then◌else◌, string_bytes};
+ghost use Rattle.std.specs.Prelude.{◌≡◌, ◌≤◌, ◌-◌, ◌++◌, IfOk, OnErr, drop, false, length, string_bytes};
 ghost use Rattle.blob_header.specs.Refusals.{IsMemory};
-ghost use Rattle.blob_explore.specs.Outcomes.{IsExplored, replies_text};
+ghost use Rattle.blob_explore.specs.Explorations.{IsBegun, explored_script};
+ghost use Rattle.blob_explore.specs.Outcomes.{IsExplored, replies_text, reply_lines, shared_text};
 
 use crate::exploration::Exploration;
 use crate::script::Script;
@@ -14,10 +15,12 @@ use blob_script::script::print_reply;
 use indexmap::IndexMap;
 use std::alloc::Global;
 
-/// What an exploration found: each distinct outcome by its text, in the order of their first leaves, and the number of
-/// leaves.
+/// What an exploration found: each distinct outcome, in the order of their first leaves, and the number of leaves.
 #[derive(Drop)]
 pub struct Explored {
+    /// The text that each outcome begins with: the replies to the shared calls, a line each. Empty with `last`.
+    pub shared: String,
+    /// Each outcome by its text after the shared one.
     pub outcomes: IndexMap<String, Outcome>,
     pub leaves: u64,
     /// Whether these are all leaves.
@@ -34,48 +37,100 @@ pub fn explore(alloc: Global, script: Script, limit: u64, last: bool) -> Result<
     ensures limit { IfOk result (λ found. found.is_complete ≡ false → found.leaves ≡ limit) }
     ensures memory { OnErr result (IsMemory result) }
 {
+    let mut exploration = Exploration::new(alloc, script)?;
+    let found = visit_leaves(alloc, &mut exploration, limit, last);
+    exploration.end();
+    found
+}
+
+/// Visits the leaves of an exploration, at most `limit`.
+fn visit_leaves(
+    alloc: Global,
+    exploration: &mut Exploration,
+    limit: u64,
+    last: bool,
+) -> Result<Explored, Error>
+    ensures leaves { IfOk result (λ found.
+        IsBegun exploration.old → IsExplored (explored_script exploration.old) last found) }
+    ensures within { IfOk result (λ found. found.leaves ≤ limit) }
+    ensures limit { IfOk result (λ found. found.is_complete ≡ false → found.leaves ≡ limit) }
+    ensures memory { OnErr result (IsMemory result) }
+{
     outcomes();
     every_run();
-    let mut exploration = Exploration::new(alloc, script);
+    let shared = print_shared(alloc, exploration.shared(), last)?;
     let mut found = IndexMap::new(alloc);
     let mut leaves = 0;
     'visits: while may_try(leaves, limit) {
         let Some(leaf) = exploration.next()? else {
             return Ok(Explored {
+                shared,
                 outcomes: found,
                 leaves,
                 is_complete: true,
             });
         };
-        let text = text_of(alloc, &leaf.replies, last)?;
+        let text = print_own(alloc, exploration.shared(), &leaf.replies, last)?;
         tally(&mut found, text, leaf.words)?;
         leaves += 1;
     }
     let is_complete = exploration.is_done();
     Ok(Explored {
+        shared,
         outcomes: found,
         leaves,
         is_complete,
     })
 }
 
-/// Returns the text of a leaf: the lines of its replies, or of the last one.
-fn text_of(alloc: Global, replies: &[Reply], last: bool) -> Result<String, Error>
-    ensures ok { IfOk result (λ text. string_bytes text ≡ replies_text last replies.now) }
+/// Returns the lines of the shared replies, or none if only the last reply is printed.
+fn print_shared(alloc: Global, shared: &[Reply], last: bool) -> Result<String, Error>
+    ensures ok { IfOk result (λ text. string_bytes text ≡ shared_text last shared.now) }
+    ensures memory { OnErr result (IsMemory result) }
+{
+    if last {
+        Ok(String::new(alloc))
+    } else {
+        print_lines(alloc, shared)
+    }
+}
+
+/// Returns the rest of a leaf's text: the lines of its own replies, or of the last reply.
+fn print_own(
+    alloc: Global,
+    shared: &[Reply],
+    replies: &[Reply],
+    last: bool,
+) -> Result<String, Error>
+    ensures ok { IfOk result (λ text.
+        replies_text last (shared.now ++ replies.now) ≡ shared_text last shared.now ++ string_bytes text) }
+    ensures memory { OnErr result (IsMemory result) }
+{
+    if !last {
+        print_lines(alloc, replies)
+    } else if replies.is_empty() {
+        print_lines(alloc, last_of(shared))
+    } else {
+        print_lines(alloc, last_of(replies))
+    }
+}
+
+/// Returns the last reply alone, if there is one.
+fn last_of(replies: &[Reply]) -> &[Reply]
+    ensures { result.now ≡ drop (length replies.now - 1) replies.now }
+{
+    &replies[replies.len().saturating_sub(1)..]
+}
+
+/// Returns the lines of these replies.
+fn print_lines(alloc: Global, replies: &[Reply]) -> Result<String, Error>
+    ensures ok { IfOk result (λ text. string_bytes text ≡ reply_lines replies.now) }
     ensures memory { OnErr result (IsMemory result) }
 {
     let mut text = String::new(alloc);
-    let from = first_shown(replies.len(), last);
-    for reply in &replies[from..] {
+    for reply in replies {
         print_reply(reply, &mut text)?;
         text.push('\n')?;
     }
     Ok(text)
-}
-
-/// Returns the index of the first of `count` replies that is printed.
-fn first_shown(count: usize, last: bool) -> usize
-    ensures { result ≡ if last then count - 1 else 0 }
-{
-    if last { count.saturating_sub(1) } else { 0 }
 }

@@ -1,6 +1,6 @@
 // What was explored, as lines.
 ghost use Rattle.std.specs.Prelude.{◌≡◌, ◌==◌, IfOk, IfErr, OnOk, codes, if◌then◌else◌, string_bytes};
-ghost use Rattle.blob_explore.specs.Distinct.{distinct};
+ghost use Rattle.blob_explore.specs.Distinct.{behind, distinct};
 ghost use Rattle.blob_explore.specs.Outcomes.{PrintsExploration};
 ghost use Rattle.blob_explore.specs.RefusedLines.{IsRefused};
 ghost use Rattle.blob_explore.specs.Printed.{Appends, explored_text, last_line};
@@ -37,7 +37,12 @@ pub fn print_explored(alloc: Global, explored: &Explored) -> Result<String, Allo
 {
     let mut printed = String::new(alloc);
     for (text, outcome) in &explored.outcomes {
-        print_outcome(text.as_str(), outcome, &mut printed)?;
+        print_outcome(
+            explored.shared.as_str(),
+            text.as_str(),
+            outcome,
+            &mut printed,
+        )?;
     }
     print_end(explored, &mut printed)?;
     Ok(printed)
@@ -70,12 +75,19 @@ fn outcome_noun(count: usize) -> &'static str
     if count == 1 { "outcome" } else { "outcomes" }
 }
 
-fn print_outcome(text: &str, outcome: &Outcome, printed: &mut String) -> Result<(), AllocError>
-    ensures { OnOk result (Appends printed.old printed.new (outcome_text (distinct text.now outcome.now))) }
+fn print_outcome(
+    shared: &str,
+    text: &str,
+    outcome: &Outcome,
+    printed: &mut String,
+) -> Result<(), AllocError>
+    ensures { OnOk result (Appends printed.old printed.new
+        (outcome_text (behind shared.now (distinct text.now outcome.now)))) }
 {
     print_leaves(outcome.leaves, printed)?;
     print_words(&outcome.words, printed)?;
     printed.push('\n')?;
+    printed.push_str(shared)?;
     printed.push_str(text)
 }
 

@@ -156,7 +156,7 @@ impl Reading {
 }
 
 /// Returns whether the call sets a rate of partial resizes other than zero.
-fn draws_size(call: &Call) -> bool
+pub(crate) fn draws_size(call: &Call) -> bool
     ensures no { OnFalse result (SetsNoPartialResize (act_of call.now)) }
     ensures yes { OnTrue result (SetsNoPartialResize (act_of call.now) → ⊥) }
 {

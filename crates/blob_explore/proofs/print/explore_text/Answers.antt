@@ -1,4 +1,4 @@
-use Rattle.blob_explore.specs.Distinct.{outcomes_in}
+use Rattle.blob_explore.specs.Printed.{outcomes_found}
 use Rattle.blob_explore.proofs.print.explore_text.Goals as goal
 
 pub returns-clause-text : goal.returns-clause-text
@@ -7,7 +7,7 @@ returns-clause-text c =
     record {
       explored = c.in_ok-script.script;
       is = c.in_ok-script.ensures.script;
-      found = outcomes_in found.outcomes;
+      found = outcomes_found found;
       count = found.leaves;
       is_complete = found.is_complete;
       explores = c.in-Ok.ensures.leaves c.in_ok-script.ensures.sizes;

@@ -1,4 +1,4 @@
-use Rattle.std.proofs.Common.{rules, refl, ◌≡◌, ◌+◌, ◌≤◌, length, arith, []}
+use Rattle.std.proofs.Common.{rules, arith}
 use Rattle.blob_explore.proofs.Adding.{finished}
 use Rattle.blob_explore.proofs.Reading.{goes_on, read_all}
 use Rattle.blob_explore.proofs.script.read_script.Goals as goal

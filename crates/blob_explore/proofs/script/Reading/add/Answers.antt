@@ -1,4 +1,4 @@
-use Rattle.std.proofs.Common.{rules, ◌≡◌, ◌≢◌, [], Err, refl, sym, ap, ◌∙◌, subst}
+use Rattle.std.proofs.Common.{rules, Err, refl, sym, ap, subst}
 use Rattle.std.proofs.lemmas.Result.{on_ok_weaker, IfErr-weaker}
 use Rattle.blob_script.specs.declared.script.reader.Reader.{Reader}
 use Rattle.blob_script.specs.Acts.{act_of}

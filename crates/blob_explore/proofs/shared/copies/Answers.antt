@@ -1,7 +1,7 @@
 use Rattle.std.proofs.Common.{arith, ◌≡◌, ◌++◌, ◌∷◌, ◌+◌, [], take, sym, ap, ◌∙◌}
 use Rattle.std.proofs.lemmas.List.{take_more}
 use Rattle.blob_explore.proofs.Runs.{images_more}
-use Rattle.blob_explore.proofs.run.copies.Goals as goal
+use Rattle.blob_explore.proofs.shared.copies.Goals as goal
 
 pub loop-image-preserved : goal.loop-image-preserved
 loop-image-preserved c =
