@@ -251,6 +251,8 @@ if has_python && [ -f "$top/out/libblobcrash.so" ]; then
     done
     run_python "$top/tests/two_ways.py" >"$work/out" 2>"$work/err"
     tell $? 'Python: the two ways'
+    run_python "$top/tests/forks.py" >"$work/out" 2>"$work/err"
+    tell $? 'Python: forks of a store'
 else
     skip "Python: there is no Python 3.8 or later, or no $compiler, which makes its library"
 fi
