@@ -2,8 +2,8 @@
 # Tests the library and its clients in C, Rust and Python: each worked script has the program's replies, line by line and as a whole; each
 # client's log recovers what it acknowledged, and its planted bug is found; the arguments of tests/hostile.tsv are passed on unchanged or
 # refused; uses that would hide a bug of the code under test are refused; a thousand random lists keep fixed bytes durable after each call.
-# The C clients run under the address sanitizer, a session between threads under helgrind. What needs a missing tool is skipped, which fails
-# under `CI=true`. The last line is `N passed, M failed`.
+# The C clients run under the address sanitizer, a session between threads and forks of one under helgrind. What needs a missing tool is
+# skipped, which fails under `CI=true`. The last line is `N passed, M failed`.
 top=$(CDPATH='' cd -- "$(dirname -- "$0")/.." && pwd -P)
 # shellcheck source=tests/counting.sh
 . "$top/tests/counting.sh"
@@ -88,14 +88,20 @@ if has "$compiler"; then
     "$work/facts" >"$work/out" 2>"$work/err"
     tell $? 'C: effects, lines, words and power'
     "$work/fork" >"$work/out" 2>"$work/err"
-    tell $? 'C: forks of a session'
+    tell $? 'C: forks by a script'
     replays C "$work/files_calls"
     "$work/hostile" "$top/tests/hostile.tsv" >"$work/out" 2>"$work/err"
     tell $? 'C: hostile arguments'
     # The linker passes the allocations of the program and of the library on to the program, which refuses some.
-    build_files() { $build "$@" "$top/bindings/c/files.c" "$top/out/libblobcrash.a" -Wl,--wrap=malloc,--wrap=realloc; }
-    build_files -o "$work/files" >"$work/out" 2>"$work/err" && "$work/files" >"$work/out" 2>"$work/err"
+    refusing() {
+        name=$1
+        shift
+        $build "$@" "$top/bindings/c/$name.c" "$top/out/libblobcrash.a" -Wl,--wrap=malloc,--wrap=realloc
+    }
+    refusing files -o "$work/files" >"$work/out" 2>"$work/err" && "$work/files" >"$work/out" 2>"$work/err"
     tell $? 'C: what each call on files returns'
+    refusing fork_session -o "$work/fork_session" >"$work/out" 2>"$work/err" && "$work/fork_session" >"$work/out" 2>"$work/err"
+    tell $? 'C: forks of a session'
     $build -o "$work/faults" "$top/bindings/c/files_faults.c" "$top/out/libblobcrash.a" >"$work/out" 2>"$work/err" &&
         "$work/faults" >"$work/out" 2>"$work/err"
     tell $? 'C: files that fail'
@@ -140,7 +146,7 @@ if has "$compiler"; then
     fi
     if has valgrind && $build -pthread -o "$work/threads" "$top/bindings/c/threads.c" "$top/out/libblobcrash.a" 2>"$work/err"; then
         valgrind --tool=helgrind --quiet --error-exitcode=3 "$work/threads" >"$work/out" 2>"$work/err"
-        tell $? 'C: a session that is handed from thread to thread'
+        tell $? 'C: a session that is handed from thread to thread, and forks of one'
     else
         skip 'C: a session that is handed from thread to thread: there is no valgrind, or no threads'
     fi
@@ -162,12 +168,17 @@ if has "$compiler"; then
         "$work/facts.sanitized" >"$work/out" 2>"$work/err"
         tell $? 'C, sanitized: effects, lines, words and power'
         "$work/fork.sanitized" >"$work/out" 2>"$work/err"
-        tell $? 'C, sanitized: forks of a session'
+        tell $? 'C, sanitized: forks by a script'
         replays 'C, sanitized' "$work/files_calls.sanitized"
         "$work/hostile.sanitized" "$top/tests/hostile.tsv" >"$work/out" 2>"$work/err"
         tell $? 'C, sanitized: hostile arguments'
-        build_files -g -fsanitize=address,undefined -o "$work/files.sanitized" && "$work/files.sanitized" >"$work/out" 2>"$work/err"
+        for program in files fork_session; do
+            refusing "$program" -g -fsanitize=address,undefined -o "$work/$program.sanitized"
+        done
+        "$work/files.sanitized" >"$work/out" 2>"$work/err"
         tell $? 'C, sanitized: what each call on files returns'
+        "$work/fork_session.sanitized" >"$work/out" 2>"$work/err"
+        tell $? 'C, sanitized: forks of a session'
         answers 'C, sanitized' "$work/lines.sanitized"
         answers 'C, at once, sanitized' "$work/lines.sanitized" --whole
         explains 'C, sanitized' "$work/lines.sanitized"
@@ -240,6 +251,8 @@ if has_python && [ -f "$top/out/libblobcrash.so" ]; then
     done
     run_python "$top/tests/two_ways.py" >"$work/out" 2>"$work/err"
     tell $? 'Python: the two ways'
+    run_python "$top/tests/forks.py" >"$work/out" 2>"$work/err"
+    tell $? 'Python: forks of a store'
 else
     skip "Python: there is no Python 3.8 or later, or no $compiler, which makes its library"
 fi

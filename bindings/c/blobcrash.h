@@ -15,8 +15,8 @@
  *   session, or its memory leaks.
  * - One at a time. Pass a session to one call at a time. It may move from one thread to another if the calls are ordered,
  *   for example by a lock or a join: the library has no global or thread-local state, and calls only `malloc`, `realloc`,
- *   `free` and the `mem` functions. Different sessions share nothing. Call no function in a signal handler, nor in the child
- *   of a `fork` of a process that has threads.
+ *   `free` and the `mem` functions. Different sessions share nothing, except that a session and its forks share memory: all of
+ *   them count as one here. Call no function in a signal handler, nor in the child of a `fork` of a process that has threads.
  * - Memory. The program's `malloc`, `realloc` and `free` come from one allocator, which aligns a block to each power of two up
  *   to 16 that divides its size.
  *
@@ -52,7 +52,8 @@ enum blobcrash_status {
     BLOBCRASH_OTHER_REPLY = 6,
     /* The call was made. The length of its reply doesn't fit in 64 bits. The reply is kept. */
     BLOBCRASH_UNPRINTED = 7,
-    /* A typed call has an unknown kind, a version above 65535 or a partition that isn't UTF-8. No call was made. */
+    /* A typed call has an unknown kind, a version above 65535 or a partition that isn't UTF-8. Or a fork is open already. No call was
+     * made. */
     BLOBCRASH_BAD_CALL = 8,
     /* The power is off (blobcrash_power_off_after). No call was made. */
     BLOBCRASH_POWER_LOSS = 9
@@ -299,6 +300,18 @@ struct blobcrash_branch {
  * DONE; BAD_LINE with the number of a line that isn't allowed there; NO_MEMORY. The last two change nothing.
  */
 struct blobcrash_script_ran blobcrash_open(struct blobcrash_session *session, const uint8_t *preamble, size_t preamble_len);
+
+/*
+ * Opens the closed session `fork` in the state of `session`: the same blobs and pending writes, settings, handles and started syncs by the
+ * same numbers, words of the generator, supply of power and last reply. Only its registry of durability debt is new. No call is made
+ * again: blobs of more than 16 KB share the pages that haven't changed since a sync, and the rest is copied. No later call of one changes
+ * the other. Close both, in any order.
+ *
+ * They share memory: pass one of a session and its forks to one call at a time, also if these are on several threads.
+ *
+ * DONE; BAD_CALL if `fork` is open, and so also if it is `session`; CLOSED; NO_MEMORY. All but DONE change nothing.
+ */
+uint32_t blobcrash_fork_session(struct blobcrash_session *session, struct blobcrash_session *fork);
 
 /*
  * Makes the call of a line, which has no line feed, and writes its reply to the start of `reply`, without a line feed and

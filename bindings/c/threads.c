@@ -1,6 +1,6 @@
 /*
- * A session that is handed from thread to thread while another thread has a session of its own: for a checker of races. It ends
- * with the status 1 if a call doesn't return what it should.
+ * A session that is handed from thread to thread while another thread has a session of its own, and two threads with forks of one session,
+ * whose calls a lock orders: for a checker of races. It ends with the status 1 if a call doesn't return what it should.
  */
 #include "blobcrash_calls.h"
 
@@ -46,6 +46,39 @@ static void *have_own(void *unused) {
     return unused;
 }
 
+/* Orders the calls of the forks of one session, which share pages of a blob. */
+static pthread_mutex_t order = PTHREAD_MUTEX_INITIALIZER;
+
+static void *have_fork(void *at) {
+    struct blobcrash_session *own = at;
+    size_t handle = 0;
+    for (int i = 0; i < TURNS; i++) {
+        want(pthread_mutex_lock(&order) == 0);
+        want(blobcrash_write_at(own, handle, (uint64_t)i * 20000, "own", 3) == BLOBCRASH_DONE);
+        want(blobcrash_sync(own, handle) == BLOBCRASH_DONE);
+        want(pthread_mutex_unlock(&order) == 0);
+    }
+    want(pthread_mutex_lock(&order) == 0);
+    blobcrash_close(own);
+    want(pthread_mutex_unlock(&order) == 0);
+    return NULL;
+}
+
+static void forks(void) {
+    static uint8_t bytes[200000];
+    struct blobcrash_session first = {0}, own[2] = {{0}, {0}};
+    pthread_t threads[2];
+    size_t handle;
+    begin(&first);
+    want(blobcrash_open_blob(&first, "p", 1, "b", 1, &handle, NULL) == BLOBCRASH_DONE && handle == 0);
+    want(blobcrash_write_at(&first, handle, 0, bytes, sizeof bytes) == BLOBCRASH_DONE && blobcrash_sync(&first, handle) == BLOBCRASH_DONE);
+    for (int i = 0; i < 2; i++) want(blobcrash_fork_session(&first, &own[i]) == BLOBCRASH_DONE);
+    for (int i = 0; i < 2; i++) want(pthread_create(&threads[i], NULL, have_fork, &own[i]) == 0);
+    for (int i = 0; i < 2; i++) want(pthread_join(threads[i], NULL) == 0);
+    want(blobcrash_read_at(&first, handle, 0, bytes, 3) == BLOBCRASH_DONE && memcmp(bytes, "\0\0\0", 3) == 0);
+    blobcrash_close(&first);
+}
+
 static void *close_it(void *unused) {
     blobcrash_close(&handed);
     return unused;
@@ -61,5 +94,6 @@ int main(void) {
     }
     want(blobcrash_sync(&handed, 0) == BLOBCRASH_CLOSED);
     want(pthread_join(other, NULL) == 0);
+    forks();
     return 0;
 }

@@ -94,6 +94,7 @@ _bytes, _number, _explorer, _choices = (_text, _size), ctypes.c_uint64, ctypes.P
 # What each function returns, and takes after a session.
 _OF_SESSIONS = {
     "open": (ScriptRan, *_bytes),
+    "fork_session": (_status, _session),
     "call": (Ran, *_bytes, _room, _size),
     "reply": (Ran, _room, _size),
     "apply": (TypedReply, _asked, *_bytes, *_bytes),
@@ -184,10 +185,12 @@ def loaded() -> ctypes.CDLL:
 
 
 @lru_cache(maxsize=None)
-def function(name: str) -> Any:
-    """Returns a function, with the types of its result and its arguments. Raises `LibraryMissing` if an earlier library lacks it."""
+def function(name: str, keeps_lock: bool = False) -> Any:
+    """Returns a function, with the types of its result and its arguments. It keeps the interpreter's lock, or doesn't. Raises
+    `LibraryMissing` if an earlier library lacks it."""
+    library_of = ctypes.PyDLL(None, handle=loaded()._handle) if keeps_lock else loaded()
     try:
-        found = getattr(loaded(), f"blobcrash_{name}")
+        found = getattr(library_of, f"blobcrash_{name}")
     except AttributeError:
         raise LibraryMissing(f"{library()} has no blobcrash_{name}: build it with `sh bindings/build.sh`") from None
     if found.argtypes is None:

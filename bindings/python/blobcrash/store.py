@@ -2,6 +2,7 @@
 
 from __future__ import annotations
 
+from copy import copy
 from itertools import islice
 from threading import get_ident
 from typing import Any, Callable, Dict, Iterable, Iterator, List, Optional, Tuple
@@ -94,6 +95,28 @@ class Store(Session):
         while len(self._ahead) > left:
             self._words.append(self._ahead.pop())
         self._ahead += reversed(words)
+
+    def fork(self) -> Store:
+        """Returns another store in the same state: blobs, pending writes, settings, the power, and the words that the generator gives next.
+
+        No call is made again, and from here on no call of one store changes the other. The new one belongs to this thread too. Handles
+        stay with the store that opened them. In the new one, `call` and `finish` name handles and started syncs by the same numbers, and
+        a name that is open stays so until the new store is reopened.
+
+        Raises `ValueError` for a store by a pipe, and for that of a search's run.
+        """
+        self._check()
+        if self._is_search or not hasattr(self._layer, "fork"):
+            raise ValueError("only a store with `by=Library` can be forked, and not that of a search's run")
+        other = copy(self)
+        other._layer = layer = self._layer.fork()
+        other._words, other._ahead, other._unsynced, other._opened = self._words[:], self._ahead[:], self._unsynced.again(), {}
+        other._lines, direct = self._lines[:], self._direct
+        if direct is not None:
+            other._direct = layer
+            # Writes begin with the address of their session.
+            other._lines = [layer.at if line is direct.at else line for line in self._lines]
+        return other
 
     def call(self, line: str) -> List[str]:
         """Makes the call of any line of a script, and returns the words of its reply.

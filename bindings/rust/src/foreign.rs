@@ -191,6 +191,7 @@ pub(crate) struct ParsedHeader {
 }
 
 unsafe extern "C" {
+    pub(crate) fn blobcrash_fork_session(session: *mut RawSession, fork: *mut RawSession) -> u32;
     pub(crate) fn blobcrash_open(
         session: *mut RawSession,
         preamble: *const u8,

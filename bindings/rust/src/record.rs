@@ -28,7 +28,7 @@ pub(crate) struct Record<A> {
     texts: String,
 }
 
-#[derive(Clone, Debug)]
+#[derive(Clone, Copy, Debug)]
 struct Line<A> {
     /// The call, if the line isn't a text alone.
     asked: Option<A>,

@@ -139,6 +139,15 @@ impl State {
         }
     }
 
+    /// Returns another state, over a fork of the session. It has no handles, and isn't that of a search's run.
+    pub(crate) fn fork(&mut self) -> Result<State, Error> {
+        let mut fork = State::new(self.session.fork()?, self.config, Limits::default());
+        (fork.allow_stale, fork.is_pushed) = (self.allow_stale, self.is_pushed);
+        fork.is_unset = self.is_unset;
+        fork.follow_settings();
+        Ok(fork)
+    }
+
     fn follow_settings(&mut self) {
         self.permits_all = !self.is_unset && self.limits.choices.is_none();
     }

@@ -66,10 +66,81 @@ fn only_a_line_feed_ends_a_line() {
 }
 
 #[test]
-fn what_cannot_be_forked_says_so() {
-    let unrecorded = Store::builder().unrecorded().open().unwrap();
-    assert!(matches!(unrecorded.fork(), Err(Error::Argument(_))));
-    let store = Store::builder().open().unwrap();
+fn lines_name_handles_and_started_syncs_by_the_same_numbers() {
+    let store = Store::builder().seed(7).open().unwrap();
+    let (blob, _) = store.open("p", b"b").unwrap();
+    blob.write_at(0, b"abc", WriteOptions::default()).unwrap();
+    let _started = blob.start_sync().unwrap();
+    blob.write_at(3, b"d", WriteOptions::default()).unwrap();
+    let fork = store.fork().unwrap();
+    assert_eq!(fork.call("read 0 0 4").unwrap(), "bytes 61626364");
+    assert_eq!(fork.call("finish 0").unwrap(), "ok");
+    assert_eq!(fork.call("finish 0").unwrap(), "error NoHandle");
+    assert!(matches!(
+        fork.open("p", b"b"),
+        Err(Error::BlobAlreadyOpen(..))
+    ));
+    // A crash of the fork leaves the store's own blob.
+    fork.restart().unwrap();
+    assert_eq!(fork.open("p", b"b").unwrap().1, 3);
+    assert!(!blob.is_stale());
+    blob.sync().unwrap();
+    store.restart().unwrap();
+    assert_eq!(store.open("p", b"b").unwrap().1, 4);
+}
+
+#[test]
+fn a_fork_has_the_power_and_whether_calls_are_recorded() {
+    let store = Store::builder().unrecorded().open().unwrap();
     store.crash_after(1).unwrap();
-    assert!(matches!(store.fork(), Err(Error::Argument(_))));
+    let fork = store.fork().unwrap();
+    for each in [&store, &fork] {
+        let _blob = each.open("p", b"b").unwrap();
+        assert!(!each.is_power_off());
+        assert_eq!(each.open("p", b"c").err(), Some(Error::PowerLoss));
+        assert!(each.is_power_off() && each.fork().unwrap().is_power_off());
+        assert_eq!(each.script(), "");
+    }
+    fork.restart().unwrap();
+    assert!(store.is_power_off() && !fork.is_power_off());
+}
+
+#[test]
+fn threads_may_use_forks_at_the_same_time() {
+    let store = Store::builder().config(halves()).seed(7).open().unwrap();
+    let (blob, _) = store.open("p", b"b").unwrap();
+    // A synced blob of this size shares pages.
+    blob.write_at(0, &[1; 400_000], WriteOptions::default())
+        .unwrap();
+    blob.sync().unwrap();
+    drop(blob);
+    let run = |fork: Store| {
+        for at in 0..100 {
+            let further = fork.fork().unwrap();
+            let (blob, _) = further.open("p", b"b").unwrap();
+            blob.write_at(at * 4000, &[2; 64], WriteOptions::default())
+                .unwrap();
+            further.restart().unwrap();
+        }
+        fork.audit()
+    };
+    let digests = std::thread::scope(|scope| {
+        let started: Vec<_> = (0..4)
+            .map(|_| store.fork().unwrap())
+            .map(|fork| scope.spawn(move || run(fork)))
+            .collect();
+        started
+            .into_iter()
+            .map(|run| run.join().unwrap())
+            .collect::<Vec<_>>()
+    });
+    assert_eq!(digests, vec![store.audit(); 4]);
+}
+
+#[test]
+fn what_cannot_be_forked_says_so() {
+    let explored = blobcrash::explore(&Store::builder(), 1, |store| {
+        Ok::<_, Error>(matches!(store.fork(), Err(Error::Argument(_))))
+    });
+    assert_eq!(explored.unwrap().outcomes[&true], 1);
 }

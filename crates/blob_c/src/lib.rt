@@ -6,6 +6,7 @@
 pub mod explain_calls;
 pub mod explorer_calls;
 pub mod file_calls;
+pub mod fork_calls;
 pub mod header_calls;
 pub mod power_calls;
 pub mod word_calls;

@@ -1,5 +1,6 @@
 pub mod Adding
 pub mod Answering
+pub mod Copying
 pub mod LineCalls
 pub mod Putting
 pub mod Registry

@@ -3,6 +3,7 @@ pub mod CallLines
 pub mod Debts
 pub mod DurableBlobs
 pub mod Effects
+pub mod Forks
 pub mod Headers
 pub mod Names
 pub mod Owned

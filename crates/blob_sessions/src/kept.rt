@@ -24,7 +24,7 @@ use std::alloc::Global;
 pub struct Kept {
     pub(crate) lab: Lab,
     /// It has the settings so far, and counts no lines.
-    reader: Reader,
+    pub(crate) reader: Reader,
     pub(crate) last: Option<Reply>,
     /// A registry that no call of the laboratory changes.
     pub(crate) debts: Debts,

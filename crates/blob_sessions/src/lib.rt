@@ -5,6 +5,8 @@
 pub mod debts;
 mod durable;
 pub mod effects;
+mod errors;
+mod forks;
 pub mod headers;
 mod kept;
 pub mod kinds;

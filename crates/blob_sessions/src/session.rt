@@ -26,6 +26,12 @@ impl Session {
         }
     }
 
+    pub fn is_open(&self) -> bool
+        ensures { result ≡ is_some (kept_of self.now) }
+    {
+        self.is_open
+    }
+
     /// Opens a closed session with a laboratory.
     pub fn put(&mut self, kept: Box<Kept>)
         requires { kept_of self.old ≡ None }
