@@ -1,6 +1,6 @@
 /*
- * A session that is handed from thread to thread while another thread has a session of its own, and two threads with forks of one session,
- * whose calls a lock orders: for a checker of races. It ends with the status 1 if a call doesn't return what it should.
+ * A session that is handed from thread to thread while another thread has a session of its own, and two threads with forks of one session:
+ * a lock orders their calls. It is for a checker of races, and ends with the status 1 if a call doesn't return what it should.
  */
 #include "blobcrash_calls.h"
 
