@@ -34,7 +34,6 @@ pub struct Exploration {
     /// The number of zeros that a run is given after the words of its path.
     spare: usize,
     is_done: bool,
-    alloc: Global,
 }
 
 impl Exploration {
@@ -53,7 +52,6 @@ impl Exploration {
             explorer: Explorer::new(alloc),
             spare: 64,
             is_done: false,
-            alloc,
         })
     }
 
@@ -88,13 +86,7 @@ impl Exploration {
         if self.is_done {
             return Ok(None);
         }
-        let leaf = visit(
-            self.alloc,
-            &self.script,
-            &self.shared,
-            &self.explorer,
-            &mut self.spare,
-        )?;
+        let leaf = visit(&self.script, &self.shared, &self.explorer, &mut self.spare)?;
         let taken = leaf.words.len();
         let more = self.explorer.advance(taken)?;
         self.is_done = !more;
@@ -109,7 +101,6 @@ impl Exploration {
             explorer: _,
             spare: _,
             is_done: _,
-            alloc: _,
         } = self;
         shared.end();
     }

@@ -7,7 +7,6 @@ mod print;
 mod run;
 pub mod script;
 mod shared;
-mod short;
 mod tally;
 
 pub use exploration::{Exploration, Leaf};

@@ -9,9 +9,9 @@ ghost use Rattle.blob_explore.specs.Explorations.{Ran, image_of};
 ghost use Rattle.blob_explore.specs.SharedCalls.{AreShared, IsShared, start_with};
 
 use crate::script::{Script, draws_size};
-use crate::short::is_short;
 use blob_base::Error;
 use blob_choices::laws::{leaves, outcomes, seeds, taken_words};
+use blob_distinct::short::is_short;
 use blob_faulty::Config;
 use blob_lab_model::laws::runs_go_on;
 use blob_lab_store::Lab;

@@ -1,6 +1,5 @@
 -- One crash: the tree that decides its draws, and what it leaves along a path.
-use Rattle.std.proofs.Common.{◌≡◌, ◌≢◌, ◌<◌, ◌≤◌, ℕ, zero, suc, ◌+◌, ◌-◌, ◌^◌, Bool, List, [], ◌∷◌, ◌++◌, length, take, replicate, Option, Some, None, refl, sym, ap, ◌∙◌, subst, arith, append_assoc, append-nil, inl, inr}
-use Rattle.std.proofs.lemmas.List.{length-map, take_all}
+use Rattle.std.proofs.Common.{◌≡◌, ◌≢◌, ◌<◌, ℕ, ◌+◌, ◌-◌, Bool, List, [], ◌∷◌, length, Option, Some, None, refl, sym, ap, ◌∙◌, subst, arith, append-nil, inl, inr}
 use Rattle.rand_core.specs.Stream.{Stream}
 use Rattle.blob_header.specs.Refusals.{Memory, Refusal}
 use Rattle.blob_model.specs.Draws.{Row, chosen_by}
@@ -12,7 +11,7 @@ use Rattle.blob_script.specs.declared.reply.Reply.TheVariants as reply
 use Rattle.blob_script.specs.Acts as acts
 use Rattle.blob_script.specs.Told as told
 use Rattle.blob_script.specs.Told.{Told, Tells, refused_by}
-use Rattle.blob_tree.specs.Trees.{DecisionTree, depth, extend_path, outcome_word, words_of}
+use Rattle.blob_tree.specs.Trees.{DecisionTree, depth, extend_path, words_of}
 use Rattle.blob_lab_model.specs.After.{after_act}
 use Rattle.blob_lab_model.specs.Runs.{LeadsTo}
 use Rattle.blob_lab_model.specs.Scripted.{scripted_stream}
@@ -65,53 +64,26 @@ same_lines v names a b same = ap (λ (rows : List Row). image_lines (durable_fil
 pub along : (v : State) (names : List Name) (path : List Bool) → lines_left v names (path_stream path zeros) ≡ lines_left v names (only_words (words_of path))
 along v names path = ap (λ (ws : List ℕ). lines_left v names (scripted_stream (ws, None))) (append-nil (words_of path))
 
--- the words of a path and of true outcomes after it
-taken_words : (d spare : ℕ) (path : List Bool) → d ≤ length path + spare → take d (words_of path ++ replicate spare 0) ≡ words_of (extend_path d path)
-taken_words zero zero [] h = refl
-taken_words zero (suc spare) [] h = refl
-taken_words zero spare (o ∷ path) h = refl
-taken_words (suc d) zero [] h = absurd (omega arith)
-taken_words (suc d) (suc spare) [] h = ap (λ (ws : List ℕ). 0 ∷ ws) (taken_words d spare [] (omega arith))
-taken_words (suc d) spare (o ∷ path) h = ap (λ (ws : List ℕ). outcome_word o ∷ ws) (taken_words d spare path (omega arith))
-
 -- the path of a crash, and its lines
 abbrev pub Took : State → List Name → List Bool → List ℕ → List ℕ → Type 0
 Took v names path words lines = (t : DecisionTree) → Decides (crash_draws v) t
     → (words ≡ words_of (extend_path (depth t path) path)) × (lines ≡ lines_left v names (only_words (words_of (extend_path (depth t path) path))))
 
 -- the words that a crash took of those that were given
-takes_words : LeftCountsTaken → (v : State) (names : List Name) (path : List Bool) (spare left : ℕ) (lines : List ℕ)
-    → Leaves v names (sentinel_words path spare) lines (Some left) → 0 < left
-    → Took v names path (take ((length path + spare) - (left - 1)) (words_of path ++ replicate spare 0)) lines
-takes_words law v names path spare left lines leaves some t D =
-    let given : Stream = only_words (sentinel_words path spare) in
-    let d : ℕ = depth t path in
-    let here : List Bool = extend_path d path in
-    let (count, most, (w, go)) = law v leaves.after a_crash (leaves.reply ∷ []) t path spare left (decided v t D) (leaves.memory, tt) leaves.leads leaves.ends some in
-    let real = crashes (with_stream v given) leaves.after leaves.reply leaves.memory leaves.leads in
-    let along_it = crashes (with_stream v (path_stream here zeros)) _ leaves.reply leaves.memory (go zeros) in
-    let same : lines_left v names given ≡ lines_left v names (path_stream here zeros) =
-    same_lines v names given (path_stream here zeros) (same_rows leaves.reply _ _ real.told along_it.told) in
-    let cut : (length path + spare) - (left - 1) ≡ d = omega (arith, count, some) in (
-      ap (λ (n : ℕ). take n (words_of path ++ replicate spare 0)) cut ∙ taken_words d spare path most,
-      leaves.lines_are ∙ same ∙ along v names here,
-    )
-
--- the same as a visit has them: what was made of the explorer's words
-pub takes_given : LeftCountsTaken → (v : State) (names : List Name) (path : List Bool) (spare left len cut : ℕ) (lines words resized all taken : List ℕ) (found : Option ℕ)
-    → words ≡ words_of path → len ≡ length words + spare → resized ≡ take len words ++ replicate (len - length words) 0 → all ≡ resized ++ (2 ^ 64 - 1) ∷ []
-    → Leaves v names all lines found → found ≡ Some left → 0 < left → cut ≡ len - (left - 1) → taken ≡ take cut resized
-    → Took v names path taken lines
-takes_given law v names path spare left len cut lines words resized all taken found w l r g leaves f some c k =
-    let count : length words ≡ length path = ap length w ∙ length-map path outcome_word in
-    let whole : take len words ≡ words = take_all len words (omega (arith, l)) in
-    let rest : len - length words ≡ spare = omega (arith, l) in
-    let same : resized ≡ words_of path ++ replicate spare 0 =
-    r ∙ ap (λ (ws : List ℕ). ws ++ replicate (len - length words) 0) (whole ∙ w) ∙ ap (λ (n : ℕ). words_of path ++ replicate n 0) rest in
-    let same_all : all ≡ sentinel_words path spare = g ∙ ap (λ (ws : List ℕ). ws ++ (2 ^ 64 - 1) ∷ []) same ∙ append_assoc (words_of path) (replicate spare 0) ((2 ^ 64 - 1) ∷ []) in
+pub takes : LeftCountsTaken → (v : State) (names : List Name) (path : List Bool) (spare left taken : ℕ) (lines given words : List ℕ) (found : Option ℕ)
+    → given ≡ sentinel_words path spare → length given ≡ length path + spare + 1 → Leaves v names given lines found → found ≡ Some left → 0 < left
+    → taken ≡ length given - left → words ≡ words_of (extend_path taken path) → Took v names path words lines
+takes law v names path spare left taken lines given words found is long leaves_it f some k w t D =
     let L : List ℕ → Type 0 = λ ws. Leaves v names ws lines found in
     let O : Option ℕ → Type 0 = λ o. Leaves v names (sentinel_words path spare) lines o in
-    let T : List ℕ → Type 0 = λ ws. Took v names path ws lines in
-    let cut_at : cut ≡ (length path + spare) - (left - 1) = omega (arith, c, l, count) in
-    subst T (sym (k ∙ ap (λ (n : ℕ). take n resized) cut_at ∙ ap (λ (ws : List ℕ). take ((length path + spare) - (left - 1)) ws) same))
-    (takes_words law v names path spare left lines (subst O f (subst L same_all leaves)) some)
+    let leaves : Leaves v names (sentinel_words path spare) lines (Some left) = subst O f (subst L is leaves_it) in
+    let drawn : Stream = only_words (sentinel_words path spare) in
+    let here : List Bool = extend_path (depth t path) path in
+    let (count, most, (end, go)) = law v leaves.after a_crash (leaves.reply ∷ []) t path spare left (decided v t D) (leaves.memory, tt) leaves.leads leaves.ends some in
+    let real = crashes (with_stream v drawn) leaves.after leaves.reply leaves.memory leaves.leads in
+    let along_it = crashes (with_stream v (path_stream here zeros)) _ leaves.reply leaves.memory (go zeros) in
+    let same : lines_left v names drawn ≡ lines_left v names (path_stream here zeros) =
+    same_lines v names drawn (path_stream here zeros) (same_rows leaves.reply _ _ real.told along_it.told) in (
+      w ∙ ap (λ (n : ℕ). words_of (extend_path n path)) (omega (arith, count, long, k, some)),
+      leaves.lines_are ∙ same ∙ along v names here,
+    )

@@ -1,19 +1,16 @@
 // The run, call by call.
-ghost use Rattle.std.specs.Prelude.{◌≡◌, ◌≢◌, ◌<◌, ◌≤◌, ◌+◌, Some, IfOk, OnErr, OnOk, length};
-ghost use Rattle.std.specs.Bool.{OnFalse, OnTrue};
-ghost use Rattle.blob_header.specs.Refusals.{IsMemory, Memory};
-ghost use Rattle.blob_script.specs.Told.{refused_by};
+ghost use Rattle.std.specs.Prelude.{◌<◌, ◌≤◌, ◌+◌, IfOk, OnErr, OnOk, length};
+ghost use Rattle.blob_header.specs.Refusals.{IsMemory};
 ghost use Rattle.blob_lab_store.specs.LabRuns.{StartsAt};
 ghost use Rattle.blob_lab_store.specs.LabStands.{LabStandsFor};
-ghost use Rattle.blob_choices.specs.Outcomes.{NoneOutOfMemory};
 ghost use Rattle.blob_states.specs.Recorded.{HaveNames, names_of, state_after};
 
 use crate::names::add_opened;
 use crate::recorded::{Recorded, copy_of};
 use blob_base::Error;
+use blob_distinct::short::is_short;
 use blob_faulty::Config;
 use blob_lab_store::Lab;
-use blob_script::Reply;
 use std::alloc::{AllocError, Global};
 
 /// Returns a laboratory in which the first calls were made. The only error is `Memory`, also if a call was refused it.
@@ -72,26 +69,4 @@ fn advance(lab: &mut Lab, run: &Recorded, index: usize) -> Result<(), Error>
         return Err(Error::Memory(AllocError));
     }
     Ok(())
-}
-
-fn is_memory(reply: &Reply) -> bool
-    ensures is { OnTrue result (refused_by reply.now ≡ Some Memory) }
-    ensures not { OnFalse result (refused_by reply.now ≢ Some Memory) }
-{
-    match reply {
-        Reply::Failed(Error::Memory(_)) => true,
-        _ => false,
-    }
-}
-
-/// Returns whether a call failed to allocate.
-fn is_short(replies: &[Reply]) -> bool
-    ensures { OnFalse result (NoneOutOfMemory replies.now) }
-{
-    for reply in replies {
-        if is_memory(reply) {
-            return true;
-        }
-    }
-    false
 }

@@ -1,5 +1,5 @@
 // A crash along a path.
-ghost use Rattle.std.specs.Prelude.{◌≡◌, ◌-◌, ◌^◌, ◌++◌, ◌∷◌, [], IfOk, IfSome, OnErr, string_bytes};
+ghost use Rattle.std.specs.Prelude.{IfOk, IfSome, OnErr, string_bytes};
 ghost use Rattle.blob_header.specs.Refusals.{IsMemory};
 ghost use Rattle.blob_lab_model.specs.States.{State};
 ghost use Rattle.blob_lab_store.specs.LabStands.{LabStandsFor};
@@ -9,6 +9,7 @@ ghost use Rattle.blob_states.specs.Recorded.{names_of};
 use crate::images::image_lines;
 use blob_base::Error;
 use blob_choices::laws::taken_words;
+use blob_distinct::paths::{words_along, words_taken};
 use blob_lab_store::Lab;
 use blob_tree::Explorer;
 use std::alloc::{AllocError, Global};
@@ -55,16 +56,12 @@ fn visit_within(
     ensures memory { OnErr result (IsMemory result) }
 {
     taken_words();
-    let mut words = explorer.words()?;
-    let Some(len) = words.len().checked_add(spare) else {
-        return Err(Error::Memory(AllocError));
-    };
-    words.resize(len, 0)?;
-    let given = with_last(alloc, &words)?;
-    let (lines, left) = crash_by(alloc, lab, names, given)?;
+    let words = words_along(explorer, spare)?;
+    let given = words.len();
+    let (lines, left) = crash_by(alloc, lab, names, words)?;
     match left {
         Some(left) if left > 0 => {
-            words.truncate(len.saturating_sub(left - 1));
+            let words = words_taken(explorer, given.saturating_sub(left))?;
             Ok(Some(Leaf { words, lines }))
         }
         _ => Ok(None),
@@ -85,13 +82,4 @@ fn crash_by(
     let left = lab.crashed(words)?;
     let lines = image_lines(alloc, left.inner(), names)?;
     Ok((lines, left.rng().left()))
-}
-
-fn with_last(alloc: Global, words: &[u64]) -> Result<Vec<u64>, Error>
-    ensures ok { IfOk result (λ given. given.items ≡ words.now ++ (2 ^ 64 - 1) ∷ []) }
-    ensures memory { OnErr result (IsMemory result) }
-{
-    let mut given = Vec::from_slice(alloc, words)?;
-    given.push(u64::MAX)?;
-    Ok(given)
 }

@@ -1,8 +1,8 @@
 use Rattle.std.proofs.Common.{arith, ◌≡◌, ◌++◌, ◌∷◌, ◌+◌, [], take, sym, ap, ◌∙◌, subst}
 use Rattle.std.proofs.lemmas.List.{take_more}
 use Rattle.blob_choices.specs.Outcomes.{NoneOutOfMemory}
-use Rattle.blob_explore.proofs.Runs.{none_more}
-use Rattle.blob_explore.proofs.short.is_short.Goals as goal
+use Rattle.blob_distinct.proofs.Refused.{none_more}
+use Rattle.blob_distinct.proofs.short.is_short.Goals as goal
 
 pub loop-reply-preserved : goal.loop-reply-preserved
 loop-reply-preserved c =

@@ -1,4 +1,4 @@
-// Whether a run was refused memory.
+//! Whether a run was refused memory.
 ghost use Rattle.std.specs.Prelude.{◌≡◌, ◌≢◌, Some};
 ghost use Rattle.std.specs.Bool.{OnTrue, OnFalse};
 ghost use Rattle.blob_header.specs.Refusals.{Memory};
@@ -19,7 +19,7 @@ fn is_memory(reply: &Reply) -> bool
 }
 
 /// Returns whether a call failed to allocate.
-pub(crate) fn is_short(replies: &[Reply]) -> bool
+pub fn is_short(replies: &[Reply]) -> bool
     ensures { OnFalse result (NoneOutOfMemory replies.now) }
 {
     for reply in replies {
