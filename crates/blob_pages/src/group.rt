@@ -5,7 +5,7 @@ ghost use Rattle.blob_pages.specs.Groups.{group_pages, is_open, IsSound, NoneOwn
 
 use crate::page::{Page, clear, close, copy_page, own, put};
 use std::alloc::{AllocError, Global};
-use std::rc::Rc;
+use std::sync::Arc;
 
 /// The number of pages of a full group.
 ///
@@ -17,7 +17,7 @@ pub const GROUP: usize = 64;
 #[derive(Drop)]
 pub enum Group {
     Open(Vec<Page>),
-    Closed(Rc<Vec<Page>>),
+    Closed(Arc<Vec<Page>>),
 }
 
 impl Group {
@@ -74,7 +74,7 @@ pub fn copy_group(alloc: Global, group: &Group) -> Result<Group, AllocError>
 {
     match group {
         Group::Closed(pages) => {
-            let copy: Result<Rc<Vec<Page>>, AllocError> = pages.clone();
+            let copy: Result<Arc<Vec<Page>>, AllocError> = pages.clone();
             Ok(Group::Closed(copy?))
         }
         Group::Open(pages) => Ok(Group::Open(copy_pages(alloc, pages.as_slice())?)),
@@ -173,7 +173,7 @@ pub fn share_group(alloc: Global, group: &mut Group) -> Result<Group, AllocError
     let taken = std::mem::replace(group, Group::Open(Vec::new(alloc)));
     match taken {
         Group::Closed(pages) => {
-            let copy: Result<Rc<Vec<Page>>, AllocError> = pages.clone();
+            let copy: Result<Arc<Vec<Page>>, AllocError> = pages.clone();
             *group = Group::Closed(pages);
             Ok(Group::Closed(copy?))
         }
@@ -182,13 +182,13 @@ pub fn share_group(alloc: Global, group: &mut Group) -> Result<Group, AllocError
                 *group = Group::Open(pages);
                 return Err(failed);
             }
-            match Rc::new(alloc, pages) {
+            match Arc::new(alloc, pages) {
                 Err(failed) => {
                     *group = Group::Open(failed.value);
                     Err(AllocError)
                 }
                 Ok(pages) => {
-                    let copy: Result<Rc<Vec<Page>>, AllocError> = pages.clone();
+                    let copy: Result<Arc<Vec<Page>>, AllocError> = pages.clone();
                     *group = Group::Closed(pages);
                     Ok(Group::Closed(copy?))
                 }

@@ -4,7 +4,7 @@ ghost use Rattle.blob_pages.specs.Paged.{page_size, page_bytes, blank_bytes, is_
 
 use crate::blank::{Blank, are_zeros};
 use std::alloc::{AllocError, Global};
-use std::rc::Rc;
+use std::sync::Arc;
 
 /// The size of a page in bytes.
 ///
@@ -16,7 +16,7 @@ pub const PAGE: usize = 16384;
 #[derive(Drop)]
 pub enum Page {
     Owned(Vec<u8>),
-    Shared(Rc<Vec<u8>>),
+    Shared(Arc<Vec<u8>>),
     Blank(Blank),
 }
 
@@ -149,7 +149,7 @@ fn share(alloc: Global, page: &mut Page, bytes: Vec<u8>) -> Result<(), AllocErro
     ensures bytes { page_bytes page.new ≡ bytes.items }
     ensures shared { OnOk result (is_owned page.new ≡ false) }
 {
-    match Rc::new(alloc, bytes) {
+    match Arc::new(alloc, bytes) {
         Err(failed) => {
             *page = Page::Owned(failed.value);
             Err(AllocError)
@@ -188,7 +188,7 @@ pub fn copy_page(alloc: Global, page: &Page) -> Result<Page, AllocError>
 {
     match page {
         Page::Shared(bytes) => {
-            let copy: Result<Rc<Vec<u8>>, AllocError> = bytes.clone();
+            let copy: Result<Arc<Vec<u8>>, AllocError> = bytes.clone();
             Ok(Page::Shared(copy?))
         }
         Page::Blank(_) => zeros(alloc),
