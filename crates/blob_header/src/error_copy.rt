@@ -1,12 +1,12 @@
-// Copies of errors.
+//! Copies of errors.
 ghost use Rattle.std.specs.Prelude.{◌≡◌, IfOk, OnErr};
 ghost use Rattle.blob_header.specs.Refusals.{refusal_of, IsMemory};
 
-use blob_base::Error;
+use crate::error::Error;
 use std::alloc::{AllocError, Global};
 
-/// Returns a copy of an error. The only error of its own is `Memory`.
-pub(crate) fn copied_error(alloc: Global, error: &Error) -> Result<Error, Error>
+/// Returns a copy of an error, with the same texts. The only error of its own is `Memory`.
+pub fn copied_error(alloc: Global, error: &Error) -> Result<Error, Error>
     ensures ok { IfOk result (λ copy. refusal_of copy ≡ refusal_of error.now) }
     ensures err { OnErr result (IsMemory result) }
 {

@@ -2,7 +2,6 @@
 #![tactic(auto)]
 
 mod ahead;
-mod errors;
 mod full;
 pub mod lab;
 pub mod scripted_rng;

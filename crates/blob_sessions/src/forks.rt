@@ -5,12 +5,12 @@ ghost use Rattle.blob_header.specs.Refusals.{IsMemory};
 ghost use Rattle.blob_sessions.specs.Forks.{HasForkIn, IsCopy, IsKeptFork, IsLastCopy, bytes_of};
 ghost use Rattle.blob_sessions.specs.Sessions.{kept_of};
 
-use crate::errors::copied_error;
 use crate::kept::Kept;
 use crate::ran::{BAD_CALL, CLOSED, DONE, NO_MEMORY};
 use crate::session::Session;
 use blob_base::Error;
 use blob_draws::Selections;
+use blob_header::error_copy::copied_error;
 use blob_lab::Reply;
 use blob_lab::script::setting::copy_of;
 use std::alloc::Global;

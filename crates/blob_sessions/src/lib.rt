@@ -5,7 +5,6 @@
 pub mod debts;
 mod durable;
 pub mod effects;
-mod errors;
 mod forks;
 pub mod headers;
 mod kept;

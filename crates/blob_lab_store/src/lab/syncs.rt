@@ -5,9 +5,9 @@ ghost use Rattle.blob_header.specs.Refusals.{IsMemory};
 ghost use Rattle.blob_lab_model.specs.Answers.{kept_at};
 ghost use Rattle.blob_lab_store.specs.Tables.{started_by, syncs_of, HasSyncRoom, KeepsMarker};
 
-use crate::errors::copied_error;
 use crate::slots::Slots;
 use blob_base::{Error, Handle};
+use blob_header::error_copy::copied_error;
 use std::alloc::Global;
 
 /// Returns a copy of a started sync, with its marker unless it failed: a failed one has none. The only error is `Memory`.
