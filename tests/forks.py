@@ -130,7 +130,7 @@ def test_large():
 
 
 def test_collected_elsewhere():
-    """Forks are collected by another thread while this one makes calls of the store, which releases no lock then."""
+    """Forks are collected by another thread while this one makes calls of the store."""
     store = Store(7, by=Library)
     blob, _ = store.open("p", b"b")
     blob.write(0, b"a" * 400_000)

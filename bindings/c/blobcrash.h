@@ -15,8 +15,9 @@
  *   session, or its memory leaks.
  * - One at a time. Pass a session to one call at a time. It may move from one thread to another if the calls are ordered,
  *   for example by a lock or a join: the library has no global or thread-local state, and calls only `malloc`, `realloc`,
- *   `free` and the `mem` functions. Different sessions share nothing, except that a session and its forks share memory: all of
- *   them count as one here. Call no function in a signal handler, nor in the child of a `fork` of a process that has threads.
+ *   `free` and the `mem` functions. Different sessions share nothing, but for pages of blobs that a session and its forks have:
+ *   no call writes them, and their counts are atomic. Call no function in a signal handler, nor in the child of a `fork` of a
+ *   process that has threads.
  * - Memory. The program's `malloc`, `realloc` and `free` come from one allocator, which aligns a block to each power of two up
  *   to 16 that divides its size.
  *
@@ -305,9 +306,7 @@ struct blobcrash_script_ran blobcrash_open(struct blobcrash_session *session, co
  * Opens the closed session `fork` in the state of `session`: the same blobs and pending writes, settings, handles and started syncs by the
  * same numbers, words of the generator, supply of power and last reply. Only its registry of durability debt is new. No call is made
  * again: blobs of more than 16 KB share the pages that haven't changed since a sync, and the rest is copied. No later call of one changes
- * the other. Close both, in any order.
- *
- * They share memory: pass one of a session and its forks to one call at a time, also if these are on several threads.
+ * the other, and each may be used by a thread of its own at the same time. Close both, in any order.
  *
  * DONE; BAD_CALL if `fork` is open, and so also if it is `session`; CLOSED; NO_MEMORY. All but DONE change nothing.
  */

@@ -1,7 +1,6 @@
 /*
- * Forks by a script: over blobcrash_calls.h, which this header includes. blobcrash_fork_session of blobcrash.h makes no call again. Its
- * forks share memory with the session; take those of this header for threads that run at the same time, for an earlier state than the
- * session's, and for a session that is closed.
+ * Forks by a script: over blobcrash_calls.h, which this header includes. blobcrash_fork_session of blobcrash.h makes no call again; take
+ * those of this header for an earlier state than the session's, and for a session that is closed.
  *
  * A fork is another session in the same state: blobs, pending writes, settings, handles and started syncs with their numbers, and the
  * words that the generator gives next. From there on the two share nothing, so a run forks, as after a crash, also onto another thread:

@@ -1,6 +1,6 @@
 /*
- * A session that is handed from thread to thread while another thread has a session of its own, and two threads with forks of one session:
- * a lock orders their calls. It is for a checker of races, and ends with the status 1 if a call doesn't return what it should.
+ * A session that is handed from thread to thread while another thread has a session of its own, and two threads with forks of one session.
+ * It is for a checker of races, and ends with the status 1 if a call doesn't return what it should.
  */
 #include "blobcrash_calls.h"
 
@@ -46,21 +46,15 @@ static void *have_own(void *unused) {
     return unused;
 }
 
-/* Orders the calls of the forks of one session, which share pages of a blob. */
-static pthread_mutex_t order = PTHREAD_MUTEX_INITIALIZER;
-
+/* A thread with a fork: it writes pages of a blob that the session and its other fork have too. */
 static void *have_fork(void *at) {
     struct blobcrash_session *own = at;
     size_t handle = 0;
     for (int i = 0; i < TURNS; i++) {
-        want(pthread_mutex_lock(&order) == 0);
         want(blobcrash_write_at(own, handle, (uint64_t)i * 20000, "own", 3) == BLOBCRASH_DONE);
         want(blobcrash_sync(own, handle) == BLOBCRASH_DONE);
-        want(pthread_mutex_unlock(&order) == 0);
     }
-    want(pthread_mutex_lock(&order) == 0);
     blobcrash_close(own);
-    want(pthread_mutex_unlock(&order) == 0);
     return NULL;
 }
 

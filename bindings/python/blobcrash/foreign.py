@@ -185,12 +185,10 @@ def loaded() -> ctypes.CDLL:
 
 
 @lru_cache(maxsize=None)
-def function(name: str, keeps_lock: bool = False) -> Any:
-    """Returns a function, with the types of its result and its arguments. It keeps the interpreter's lock, or doesn't. Raises
-    `LibraryMissing` if an earlier library lacks it."""
-    library_of = ctypes.PyDLL(None, handle=loaded()._handle) if keeps_lock else loaded()
+def function(name: str) -> Any:
+    """Returns a function, with the types of its result and its arguments. Raises `LibraryMissing` if an earlier library lacks it."""
     try:
-        found = getattr(library_of, f"blobcrash_{name}")
+        found = getattr(loaded(), f"blobcrash_{name}")
     except AttributeError:
         raise LibraryMissing(f"{library()} has no blobcrash_{name}: build it with `sh bindings/build.sh`") from None
     if found.argtypes is None:

@@ -214,21 +214,15 @@ class InProcess(InLibrary):
     _functions, _named, _table = "", "store is", W_KINDS
     # Whether `close` has anything to end.
     _is_open = False
-    # Whether its functions keep the interpreter's lock.
-    _keeps_lock = False
 
     def __init__(self, preamble: bytes = b"") -> None:
-        self._find_functions()
+        # The functions that most runs of a search call. A call without the types of its arguments takes half as long.
+        self._apply, self._open, self._push = [untyped(f"{self._functions}{name}", False) for name in ("apply", "open", "push_words")]
         self._words_left, self._kinds = untyped(f"{self._functions}words_left"), kinds(self._table)
         self._session = Session()
         self.at = ctypes.byref(self._session)
         self.room: Any = ctypes.create_string_buffer(_ROOM)
         self.begin(preamble)
-
-    def _find_functions(self) -> None:
-        """Finds the functions that most runs of a search call. A call without the types of its arguments takes half as long."""
-        names, keeps_lock = ("apply", "open", "push_words"), self._keeps_lock
-        self._apply, self._open, self._push = [untyped(f"{self._functions}{name}", keeps_lock) for name in names]
 
     def begin(self, preamble: bytes = b"") -> None:
         """Begins in place with another preamble: what the session held is ended."""
@@ -271,7 +265,7 @@ class InProcess(InLibrary):
             self.close()
 
     def _call(self, name: str, *arguments: Any) -> Any:
-        return function(self._functions + name, self._keeps_lock)(self.at, *arguments)
+        return function(self._functions + name)(self.at, *arguments)
 
     def _applied(self, kind: int, number: int, first: int, last: int, one: bytes, other: bytes) -> Any:
         """Makes a typed call, and returns its reply."""
@@ -319,21 +313,11 @@ class Library(InProcess):
     """The layer in this process."""
 
     def __init__(self, preamble: bytes = b"") -> None:
-        self.untyped_read, self.untyped_write = untyped("read"), untyped("write")
+        self.untyped_read, self.untyped_write, self._reply = untyped("read"), untyped("write"), untyped("reply", False)
         super().__init__(preamble)
 
-    def _find_functions(self) -> None:
-        super()._find_functions()
-        self._reply = untyped("reply", self._keeps_lock)
-
     def fork(self) -> Library:
-        """Returns another session in the same state.
-
-        The two share memory, so a call of one must not meet a call of the other. One may be closed by any thread, when it is collected:
-        from here on the functions of both keep the interpreter's lock.
-        """
-        self._keeps_lock = True
-        self._find_functions()
+        """Returns another session in the same state."""
         other = copy(self)
         other._session = Session()
         other.at = ctypes.byref(other._session)

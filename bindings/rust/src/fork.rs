@@ -4,7 +4,7 @@ use crate::{Error, Store};
 impl Store {
     /// Returns another store in the same state: blobs, pending writes, settings, the power, and the words that the generator gives next.
     /// From here on no call of one changes the other, so that a run forks, as after a crash. No call is made again: a fork takes as long as
-    /// copies of what isn't synced, of small blobs and of the script. Threads may use the two, but their calls take turns.
+    /// copies of what isn't synced, of small blobs and of the script. Threads may use the two at the same time.
     ///
     /// Blobs and started syncs stay with the store that returned them. In the other one, lines of [`Store::call`] name them by the same
     /// numbers. A name that is open stays so until the new store is reopened.

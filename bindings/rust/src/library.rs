@@ -61,7 +61,7 @@ impl Session {
     /// Returns the size that a handle tracks, without a call. `None` if there is no such handle.
     pub(crate) fn tracked_size(&mut self, handle: usize) -> Option<u64> {
         // SAFETY: the session is open, and borrowed for the call.
-        let reply = self.ask(|raw| unsafe { blobcrash_tracked_size(raw, handle) });
+        let reply = unsafe { blobcrash_tracked_size(&mut self.raw, handle) };
         (reply.status == DONE).then_some(reply.size)
     }
 
@@ -113,10 +113,9 @@ impl Session {
             last,
         };
         let (of, of_len) = (partition.as_ptr(), partition.len());
+        let raw = &mut self.raw;
         // SAFETY: as for `call`; the numbers and the names are borrowed for the call.
-        let reply = self.ask(|raw| unsafe {
-            blobcrash_apply(raw, &asked, of, of_len, name.as_ptr(), name.len())
-        });
+        let reply = unsafe { blobcrash_apply(raw, &asked, of, of_len, name.as_ptr(), name.len()) };
         self.took(reply.status, asked, partition, name)?;
         Ok(reply)
     }
@@ -156,7 +155,7 @@ impl Session {
     /// Returns the refusal of the last call, whose reply line has this many bytes. `None` if it was done.
     pub(crate) fn last_refusal(&mut self, len: usize) -> Option<Error> {
         // SAFETY: as for `call`.
-        let status = self.ask(|raw| unsafe { blobcrash_last(raw) }).status;
+        let status = unsafe { blobcrash_last(&mut self.raw) }.status;
         (status != DONE).then(|| Error::of(status, self.text(len)))
     }
 
@@ -164,8 +163,7 @@ impl Session {
     fn ran(&mut self, line: &str) -> Result<Ran, Error> {
         let (room, at) = (self.reply.len(), self.reply.as_mut_ptr());
         // SAFETY: the session is open. It, the line and the buffer are borrowed for the call, and don't overlap.
-        let ran =
-            self.ask(|raw| unsafe { blobcrash_call(raw, line.as_ptr(), line.len(), at, room) });
+        let ran = unsafe { blobcrash_call(&mut self.raw, line.as_ptr(), line.len(), at, room) };
         match ran.status {
             BAD_LINE => Err(Error::BadLine(line.to_owned())),
             NO_MEMORY => Err(Error::OutOfMemory),
@@ -185,7 +183,7 @@ impl Session {
     ) -> Result<(), Error> {
         let (at, len) = (bytes.as_ptr(), bytes.len());
         // SAFETY: as for `call`; the bytes are borrowed for the call.
-        let status = self.ask(|raw| unsafe { blobcrash_write(raw, handle, offset, at, len, sync) });
+        let status = unsafe { blobcrash_write(&mut self.raw, handle, offset, at, len, sync) };
         let kind = if sync { Kind::WriteSync } else { Kind::Write };
         self.took(status, moved(kind, handle, offset, 0), "", bytes)
     }
@@ -228,7 +226,7 @@ impl Session {
     ) -> Result<(), Error> {
         let (at, len) = (into.as_mut_ptr(), into.len());
         // SAFETY: as for `call`; the buffer is borrowed for the call.
-        let status = self.ask(|raw| unsafe { blobcrash_read(raw, handle, offset, at, len) });
+        let status = unsafe { blobcrash_read(&mut self.raw, handle, offset, at, len) };
         self.took(status, moved(Kind::Read, handle, offset, len), "", b"")
     }
 
@@ -241,10 +239,9 @@ impl Session {
         already: impl FnOnce() -> Error,
     ) -> Result<DebtReply, Error> {
         let (of, of_len) = (partition.as_ptr(), partition.len());
+        let raw = &mut self.raw;
         // SAFETY: as for `call`; the numbers and the names are borrowed for the call.
-        let reply = self.ask(|raw| unsafe {
-            blobcrash_debt(raw, &call, of, of_len, name.as_ptr(), name.len())
-        });
+        let reply = unsafe { blobcrash_debt(raw, &call, of, of_len, name.as_ptr(), name.len()) };
         reply.taken(already)
     }
 
@@ -257,12 +254,10 @@ impl Session {
     ) -> Result<Option<Vec<u8>>, Error> {
         let (of, of_len) = (partition.as_ptr(), partition.len());
         let (named, named_len) = (name.as_ptr(), name.len());
+        let raw = &mut self.raw;
         // SAFETY: as for `call`; the texts and the buffer are borrowed for the call, and don't overlap.
-        let copy = |raw: &mut RawSession, at, capacity| unsafe {
+        let copied = copied(SMALL, |at, capacity| unsafe {
             blobcrash_durable_blob(raw, of, of_len, named, named_len, with_header, at, capacity)
-        };
-        let copied = copied(SMALL, |at, capacity| {
-            self.ask(|raw| copy(raw, at, capacity))
         });
         match copied {
             Ok(bytes) => Ok(Some(bytes)),
@@ -273,9 +268,10 @@ impl Session {
 
     /// Returns the name with an index in the last reply, that of a scan.
     pub(crate) fn name(&mut self, index: usize) -> Result<Vec<u8>, Error> {
-        let copied = copied(256, |at, room| {
-            // SAFETY: as for `call`; the buffer is borrowed for the call.
-            self.ask(|raw| unsafe { blobcrash_name(raw, index, at, room) })
+        let raw = &mut self.raw;
+        // SAFETY: as for `call`; the buffer is borrowed for the call.
+        let copied = copied(256, |at, room| unsafe {
+            blobcrash_name(raw, index, at, room)
         });
         copied.map_err(|status| Error::of(status, ""))
     }
@@ -283,9 +279,8 @@ impl Session {
     /// Returns the digest of all durable blobs.
     pub(crate) fn audit(&mut self) -> [u8; 4] {
         let mut digest = [0; 4];
-        let (at, len) = (digest.as_mut_ptr(), digest.len());
         // SAFETY: as for `call`.
-        let ran = self.ask(|raw| unsafe { blobcrash_audit(raw, at, len) });
+        let ran = unsafe { blobcrash_audit(&mut self.raw, digest.as_mut_ptr(), digest.len()) };
         assert_eq!(
             ran.status, DONE,
             "an open session has a digest of four bytes"
@@ -303,7 +298,7 @@ impl Session {
             }
             let (room, at) = (self.reply.len(), self.reply.as_mut_ptr());
             // SAFETY: as for `call`.
-            ran = self.ask(|raw| unsafe { blobcrash_reply(raw, at, room) });
+            ran = unsafe { blobcrash_reply(&mut self.raw, at, room) };
         }
         if ran.status != DONE {
             return Err(Error::OutOfMemory);

@@ -6,7 +6,7 @@ use crate::paths::Words;
 use crate::record::{Asked, Record};
 use crate::{Error, Selections};
 use std::mem;
-use std::sync::{Arc, Mutex, PoisonError};
+use std::sync::Arc;
 
 /// A session that belongs to the library: of a store, or of files.
 pub(crate) trait Raw: Sized + 'static {
@@ -34,20 +34,18 @@ pub(crate) struct Functions<R> {
 /// `&mut self` prevents two calls at the same time. The session may be moved: the library keeps no address of it between calls.
 #[derive(Debug)]
 pub(crate) struct Session<R: Raw> {
-    raw: R,
+    pub(crate) raw: R,
     /// The reply line of a store's last call.
     pub(crate) reply: Vec<u8>,
     /// The calls that were made, if they are recorded.
     pub(crate) record: Option<Record<R::Asked>>,
     /// Whether a call wasn't made since the power went off.
     has_lost: bool,
-    /// The turn of a session and its forks, if it has any.
-    turn: Option<Arc<Mutex<()>>>,
 }
 
 // SAFETY: nothing of a session belongs to a thread. The library has no thread-local data and no global data that changes, and its
-// blocks come from the process's allocator, which any thread may call. Calls of one session are ordered: each takes `&mut self`. A session
-// and its forks share memory, and `ask` orders their calls.
+// blocks come from the process's allocator, which any thread may call. Calls of one session are ordered: each takes `&mut self`. Sessions
+// may share pages, which no call writes, and whose counts are atomic.
 unsafe impl<R: Raw> Send for Session<R> {}
 
 impl<R: Raw> Session<R> {
@@ -58,7 +56,6 @@ impl<R: Raw> Session<R> {
             reply: Vec::new(),
             record: None,
             has_lost: false,
-            turn: None,
         };
         let (at, len) = (preamble.as_ptr(), preamble.len());
         // SAFETY: the session is all zeros, and the text is borrowed for the call.
@@ -95,25 +92,16 @@ impl<R: Raw> Session<R> {
             reply: Vec::new(),
             record: self.record.clone(),
             has_lost: self.has_lost,
-            turn: Some(Arc::clone(self.turn.get_or_insert_with(Arc::default))),
         };
-        let status = self.ask(|raw| fork(raw, &mut other.raw));
+        let status = fork(&mut self.raw, &mut other.raw);
         (status == DONE).then_some(other).ok_or(Error::OutOfMemory)
-    }
-
-    /// Makes a call of the library. A session and its forks take turns, since they share memory.
-    #[inline(always)]
-    pub(crate) fn ask<T>(&mut self, call: impl FnOnce(&mut R) -> T) -> T {
-        let turn = self.turn.as_ref();
-        let _turn = turn.map(|turn| turn.lock().unwrap_or_else(PoisonError::into_inner));
-        call(&mut self.raw)
     }
 
     /// Inserts words before those that the generator gives next.
     pub(crate) fn push_words(&mut self, words: &[u64]) -> Result<(), Error> {
         let (at, count) = (words.as_ptr(), words.len());
         // SAFETY: the session is open. It and the words are borrowed for the call.
-        let status = self.ask(|raw| unsafe { (R::FUNCTIONS.push_words)(raw, at, count) });
+        let status = unsafe { (R::FUNCTIONS.push_words)(&mut self.raw, at, count) };
         (status == DONE).then_some(()).ok_or(Error::OutOfMemory)
     }
 
@@ -128,9 +116,10 @@ impl<R: Raw> Session<R> {
 
     /// Returns which bytes of each write the last call, a crash with this many rows, kept.
     pub(crate) fn kept_writes(&mut self, rows: u64) -> Selections {
-        selections(rows, |row, from| {
-            // SAFETY: the session is open, and borrowed for the call.
-            self.ask(|raw| unsafe { (R::FUNCTIONS.kept_run)(raw, row, from) })
+        let raw = &mut self.raw;
+        // SAFETY: the session is open, and borrowed for the call.
+        selections(rows, |row, from| unsafe {
+            (R::FUNCTIONS.kept_run)(raw, row, from)
         })
     }
 
@@ -143,7 +132,7 @@ impl<R: Raw> Session<R> {
 impl<R: Raw> Recorded for Session<R> {
     fn words_left(&mut self) -> Option<usize> {
         // SAFETY: as for `kept_writes`.
-        let ran = self.ask(|raw| unsafe { (R::FUNCTIONS.words_left)(raw) });
+        let ran = unsafe { (R::FUNCTIONS.words_left)(&mut self.raw) };
         (ran.status != ENDLESS).then_some(ran.len)
     }
 
@@ -155,18 +144,18 @@ impl<R: Raw> Recorded for Session<R> {
 
     fn power(&mut self) -> PowerState {
         // SAFETY: as for `kept_writes`.
-        self.ask(|raw| unsafe { (R::FUNCTIONS.power)(raw) })
+        unsafe { (R::FUNCTIONS.power)(&mut self.raw) }
     }
 
     fn set_power(&mut self, calls: Option<u64>) {
         self.has_lost = false;
         // SAFETY: as for `kept_writes`.
-        self.ask(|raw| unsafe {
-            (R::FUNCTIONS.power_on)(raw);
+        unsafe {
+            (R::FUNCTIONS.power_on)(&mut self.raw);
             if let Some(calls) = calls {
-                (R::FUNCTIONS.power_off_after)(raw, calls);
+                (R::FUNCTIONS.power_off_after)(&mut self.raw, calls);
             }
-        });
+        }
     }
 
     fn has_lost(&self) -> bool {
@@ -177,6 +166,6 @@ impl<R: Raw> Recorded for Session<R> {
 impl<R: Raw> Drop for Session<R> {
     fn drop(&mut self) {
         // SAFETY: the session is borrowed for the call, and isn't used again.
-        self.ask(|raw| unsafe { (R::FUNCTIONS.close)(raw) });
+        unsafe { (R::FUNCTIONS.close)(&mut self.raw) }
     }
 }

@@ -52,7 +52,7 @@ impl Session {
     pub(crate) fn configure(&mut self, setting: &str) -> Result<(), Error> {
         let (at, len) = (setting.as_ptr(), setting.len());
         // SAFETY: the files are open. They and the text are borrowed for the call.
-        match self.ask(|raw| unsafe { blobcrash_files_configure(raw, at, len) }) {
+        match unsafe { blobcrash_files_configure(&mut self.raw, at, len) } {
             DONE => Ok(()),
             BAD_LINE => Err(Error::BadLine(setting.to_owned())),
             _ => Err(Error::OutOfMemory),
@@ -72,8 +72,8 @@ impl Session {
         let (path, len) = (call.path.as_ptr(), call.path.len());
         let (to, to_len) = (call.to.as_ptr(), call.to.len());
         // SAFETY: as for `configure`; the numbers and the paths are borrowed for the call.
-        let reply = self
-            .ask(|raw| unsafe { blobcrash_files_apply(raw, &call.asked, path, len, to, to_len) });
+        let reply =
+            unsafe { blobcrash_files_apply(&mut self.raw, &call.asked, path, len, to, to_len) };
         self.done(reply.status).map(|()| reply)
     }
 
@@ -81,7 +81,7 @@ impl Session {
     pub(crate) fn write(&mut self, file: u64, offset: u64, bytes: &[u8]) -> Result<(), Error> {
         let (at, len) = (bytes.as_ptr(), bytes.len());
         // SAFETY: as for `configure`; the bytes are borrowed for the call.
-        let status = self.ask(|raw| unsafe { blobcrash_files_write(raw, file, offset, at, len) });
+        let status = unsafe { blobcrash_files_write(&mut self.raw, file, offset, at, len) };
         let outcome = self.done(status);
         let call = Call::of_bytes(Kind::Write, file, [offset, 0], bytes);
         self.push(&call, outcome.as_ref().map(|()| None));
@@ -92,7 +92,7 @@ impl Session {
     pub(crate) fn read(&mut self, file: u64, offset: u64, into: &mut [u8]) -> Result<usize, Error> {
         let (at, capacity) = (into.as_mut_ptr(), into.len());
         // SAFETY: as for `configure`; the buffer is borrowed for the call.
-        let ran = self.ask(|raw| unsafe { blobcrash_files_read(raw, file, offset, at, capacity) });
+        let ran = unsafe { blobcrash_files_read(&mut self.raw, file, offset, at, capacity) };
         let outcome = self.done(ran.status);
         let call = Call::of_bytes(Kind::Read, file, [offset, capacity as u64], b"");
         self.push(&call, outcome.as_ref().map(|()| None));
@@ -132,10 +132,11 @@ impl Session {
 
     /// Returns the name with an index of the last call, a `List`, or `None` if it has no such name.
     pub(crate) fn name(&mut self, index: usize) -> Result<Option<Name>, Error> {
+        let raw = &mut self.raw;
         let (mut number, mut is_directory) = (0, false);
         let name = copied(NAME_MAX, |at, capacity| {
             // SAFETY: as for `configure`; the buffer is borrowed for the call.
-            let reply = self.ask(|raw| unsafe { blobcrash_files_name(raw, index, at, capacity) });
+            let reply = unsafe { blobcrash_files_name(raw, index, at, capacity) };
             (number, is_directory) = (reply.number, reply.kind == 1);
             let (status, len) = (reply.status, reply.size as usize);
             Ran { status, len }
@@ -162,7 +163,7 @@ impl Session {
 
     fn kept_place(&mut self, row: usize) -> Place {
         // SAFETY: as for `configure`.
-        let reply = self.ask(|raw| unsafe { blobcrash_files_kept_place(raw, row) });
+        let reply = unsafe { blobcrash_files_kept_place(&mut self.raw, row) };
         Place {
             inode: (reply.status == DONE && reply.number > 0).then_some(reply.number),
             offset: reply.size,
@@ -171,7 +172,7 @@ impl Session {
 
     fn kept_edit(&mut self, edit: usize) -> bool {
         // SAFETY: as for `configure`.
-        let ran = self.ask(|raw| unsafe { blobcrash_files_kept_edit(raw, edit) });
+        let ran = unsafe { blobcrash_files_kept_edit(&mut self.raw, edit) };
         ran.status == DONE && ran.len == 1
     }
 }
