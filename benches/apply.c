@@ -44,6 +44,8 @@ int main(int argc, char **argv) {
     const char *what = argv[1];
     unsigned long calls = strtoul(argv[2], NULL, 10);
     bool recorded = !strcmp(what, "recorded") || !strcmp(what, "crash");
+    // Of zeros the layer keeps the number alone.
+    memset(data, 'x', sizeof data);
     need(blobcrash_open(&session, (const uint8_t *)"seed 7", 6).status);
     need(blobcrash_open_blob(&session, "p", 1, "b", 1, &handle, NULL));
     if (recorded) {

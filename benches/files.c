@@ -107,6 +107,8 @@ int main(int argc, char **argv) {
     if (argc != 4) return 2;
     const char *what = argv[1];
     unsigned long count = strtoul(argv[2], NULL, 10), calls = strtoul(argv[3], NULL, 10);
+    // Of zeros the layer keeps the number alone.
+    memset(data, 'x', sizeof data);
     if (!strncmp(what, "below-", 6)) {
         work_below(what + 6, calls);
         return 0;
