@@ -15,9 +15,9 @@
  *   session, or its memory leaks.
  * - One at a time. Pass a session to one call at a time. It may move from one thread to another if the calls are ordered,
  *   for example by a lock or a join: the library has no global or thread-local state, and calls only `malloc`, `realloc`,
- *   `free` and the `mem` functions. Different sessions share nothing, but for pages of blobs that a session and its forks have:
- *   no call writes them, and their counts are atomic. Call no function in a signal handler, nor in the child of a `fork` of a
- *   process that has threads.
+ *   `free` and the `mem` functions. Different sessions share nothing, except that a session and its forks share pages of blobs:
+ *   no call writes a shared page, and their counts are atomic. Call no function in a signal handler, nor in the child of a
+ *   `fork` of a process that has threads.
  * - Memory. The program's `malloc`, `realloc` and `free` come from one allocator, which aligns a block to each power of two up
  *   to 16 that divides its size.
  *
@@ -53,8 +53,8 @@ enum blobcrash_status {
     BLOBCRASH_OTHER_REPLY = 6,
     /* The call was made. The length of its reply doesn't fit in 64 bits. The reply is kept. */
     BLOBCRASH_UNPRINTED = 7,
-    /* A typed call has an unknown kind, a version above 65535 or a partition that isn't UTF-8. Or a fork is open already. No call was
-     * made. */
+    /* A typed call has an unknown kind, a version above 65535 or a partition that isn't UTF-8. Or the session that
+     * a fork is to open is open. No call was made. */
     BLOBCRASH_BAD_CALL = 8,
     /* The power is off (blobcrash_power_off_after). No call was made. */
     BLOBCRASH_POWER_LOSS = 9

@@ -45,7 +45,7 @@ pub(crate) struct Session<R: Raw> {
 
 // SAFETY: nothing of a session belongs to a thread. The library has no thread-local data and no global data that changes, and its
 // blocks come from the process's allocator, which any thread may call. Calls of one session are ordered: each takes `&mut self`. Sessions
-// may share pages, which no call writes, and whose counts are atomic.
+// may share pages: no call writes a shared page, and the counts of pages are atomic.
 unsafe impl<R: Raw> Send for Session<R> {}
 
 impl<R: Raw> Session<R> {
