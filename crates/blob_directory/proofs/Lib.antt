@@ -1,4 +1,5 @@
 pub mod Checkpoints
+pub mod Copied
 pub mod Counts
 pub mod Fitting
 pub mod Journals

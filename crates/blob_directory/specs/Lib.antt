@@ -12,3 +12,4 @@ pub mod Wanted
 pub mod Settled
 pub mod Paths
 pub mod Presets
+pub mod Copies

@@ -2,6 +2,7 @@
 #![tactic(auto)]
 
 pub mod checkpoint;
+pub mod copies;
 pub mod edit;
 pub mod laws;
 pub mod log;

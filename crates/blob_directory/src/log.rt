@@ -28,6 +28,16 @@ impl Log {
         }
     }
 
+    /// Returns a copy. The only error is out of memory.
+    pub fn copy(&self) -> Result<Log, AllocError>
+        ensures { IfOk result (λ copy. logged copy ≡ logged self.now) }
+    {
+        Ok(Log {
+            alloc: self.alloc,
+            names: self.names.copy()?,
+        })
+    }
+
     /// Returns whether the log follows an edit, since it has a name that the edit frees, and makes room for it then. Fails only if
     /// memory runs out. No name changes.
     pub fn prepare(&mut self, edit: &Edit) -> Result<bool, AllocError>

@@ -39,6 +39,16 @@ impl Table {
         }
     }
 
+    /// Returns a copy. The only error is out of memory.
+    pub fn copy(&self) -> Result<Table, AllocError>
+        ensures { IfOk result (λ copy. bound copy ≡ bound self.now) }
+    {
+        Ok(Table {
+            alloc: self.alloc,
+            entries: self.entries.clone()?,
+        })
+    }
+
     /// Returns what an entry is bound to.
     pub fn get(&self, entry: &[u8]) -> Option<Binding>
         ensures { result ≡ bound self.now entry.now }

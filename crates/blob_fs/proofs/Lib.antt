@@ -33,3 +33,4 @@ pub mod Numbered
 pub mod Noting
 mod Reading
 mod Zeroing
+pub mod Forked

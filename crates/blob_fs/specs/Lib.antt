@@ -26,3 +26,4 @@ pub mod Writes
 pub mod Noted
 pub mod Reads
 pub mod Zeros
+pub mod Forks

@@ -14,6 +14,7 @@ pub mod error;
 pub mod file_system;
 pub mod files;
 mod flushes;
+pub mod forks;
 pub mod inspection;
 pub mod laws;
 pub mod names;

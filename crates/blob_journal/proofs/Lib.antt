@@ -21,3 +21,4 @@ pub mod Limits
 pub mod Numbers
 pub mod Ready
 pub mod Stores
+pub mod Forked

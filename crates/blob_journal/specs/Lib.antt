@@ -17,3 +17,4 @@ pub mod Limits
 pub mod Stores
 pub mod Errors
 pub mod Unchanged
+pub mod Forks

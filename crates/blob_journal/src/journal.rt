@@ -28,7 +28,7 @@ use blob_faulty::laws::outcomes::recorded;
 use blob_faulty::{Config, PartialWriteMode, WriteConfig};
 use blob_packed::laws::records;
 use rand_core::Rng;
-use std::alloc::Global;
+use std::alloc::{AllocError, Global};
 
 /// The open journal.
 #[derive(Drop)]
@@ -93,6 +93,20 @@ impl Journal {
             end: 0,
         };
         Ok((journal, bytes))
+    }
+
+    /// Returns a copy, to be used with a fork of the store. The only error is out of memory.
+    pub(crate) fn copy(&self) -> Result<Journal, AllocError>
+        ensures place { IfOk result (λ copy. place (inside copy.blob) ≡ place (inside self.now.blob)) }
+        ensures bytes { IfOk result (λ copy. bytes_in copy ≡ bytes_in self.now) }
+        ensures same { IfOk result (λ copy. copy ≡ record self.now { blob = copy.blob }) }
+    {
+        Ok(Journal {
+            blob: self.blob.copy()?,
+            generation: self.generation,
+            records: self.records,
+            end: self.end,
+        })
     }
 
     /// Writes an edit in one more record, unsynced. Returns the number of the record, and where it begins.

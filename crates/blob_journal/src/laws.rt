@@ -2,6 +2,7 @@
 ghost use Rattle.blob_journal.specs.Bindings.{FreedIsNotNamed, FreedNow, FreedOneMore, FreedSettled, KeptMayName, MayNameOneMore, MayNameSettled, WithinGiven, WithinOneMore, WithinSettled};
 ghost use Rattle.blob_journal.specs.Blobs.{CurrentStays, DurableIsFound, DurableIsOpen, DurableStays, OpenIsFound, OpenIsSeen, ReadsSeen, ResizeShortens, SameTwice};
 ghost use Rattle.blob_journal.specs.Fixed.{FixedIsFound};
+ghost use Rattle.blob_journal.specs.Forks.{CopyIsFixed, CopyIsOpen, CopySees};
 ghost use Rattle.blob_journal.specs.Settling.{KeptTwice, SettledAfter, SettledBefore};
 ghost use Rattle.blob_journal.specs.Told.{GrowsOn, GrowsSame, SettledIsKept, SettledStays};
 
@@ -53,4 +54,11 @@ pub fn blobs<R>()
 /// A byte of an open file that no crash changes is among the durable bytes of the file's number.
 pub fn fixed<R>()
     ensures { FixedIsFound R }
+{}
+
+/// Calls see the same bytes by a copy of a handle. A copy of an open file's is open, and has the same fixed bytes.
+pub fn copies<R>()
+    ensures sees { CopySees }
+    ensures is_open { CopyIsOpen R }
+    ensures fixed { CopyIsFixed R }
 {}

@@ -4,6 +4,7 @@
 pub mod crash;
 pub mod edits;
 pub mod files;
+pub mod forks;
 mod journal;
 pub mod journaled;
 pub mod laws;
