@@ -1,5 +1,6 @@
 //! The bytes of a pending write.
-ghost use Rattle.std.specs.Prelude.{◌≡◌, ◌≤◌, ◌+◌, length, take, drop, IfOk};
+ghost use Rattle.std.specs.Prelude.{◌≡◌, ◌≤◌, ◌+◌, false, length, take, drop, IfOk};
+ghost use Rattle.std.specs.Bool.{OnFalse};
 ghost use Rattle.blob_pending.specs.Contents.{are_zeros, zeros_in, HasZeros};
 
 use std::alloc::{AllocError, Global};
@@ -25,6 +26,7 @@ impl Model for Content {
 
     ghost Value = { List ℕ };
 
+    ghost use Rattle.std.specs.Bool.{OnFalse};
     ghost use Rattle.blob_pending.specs.Contents.{bytes_of, IsShort};
 
     ghost view = { λ c. bytes_of c.held };
@@ -69,7 +71,19 @@ fn are_few_zeros(bytes: &[u8]) -> bool
     bytes.iter().all(|byte| *byte == 0)
 }
 
-/// Returns whether all bytes are zeros. Of most others it reads the first few alone.
+/// Returns whether the first byte, if there is one, is a zero.
+#[inline(always)]
+fn may_be_zeros(bytes: &[u8]) -> bool
+    ensures { OnFalse result (are_zeros bytes.now ≡ false) }
+{
+    match bytes.first() {
+        Some(byte) => *byte == 0,
+        None => true,
+    }
+}
+
+/// Returns whether all bytes are zeros. It isn't inlined, since most bytes that are written don't begin with a zero.
+#[inline(never)]
 fn is_of_zeros(bytes: &[u8]) -> bool
     ensures { result ≡ are_zeros bytes.now }
 {
@@ -85,10 +99,11 @@ fn is_of_zeros(bytes: &[u8]) -> bool
 
 impl Content {
     /// Makes a content of these bytes. Zeros aren't copied. The only error is out of memory.
+    #[inline(always)]
     pub fn from_slice(alloc: Global, bytes: &[u8]) -> Result<Content, AllocError>
         ensures { IfOk result (λ made. made ≡ bytes.now) }
     {
-        if is_of_zeros(bytes) {
+        if may_be_zeros(bytes) && is_of_zeros(bytes) {
             return Ok(Content {
                 held: Held::Zeros(bytes.len()),
             });
