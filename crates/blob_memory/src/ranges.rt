@@ -29,9 +29,12 @@ impl Origin {
         ensures counted { OnOk result (offset + self.now.start + len < 2 ^ 64) }
         ensures refusal { error_of result ≡ refused_if OffsetOverflow (is_uncounted (offset + self.now.start + len)) }
     {
-        match self.checked_end(offset, len) {
-            Some(end) => Ok(end),
-            None => Err(Error::OffsetOverflow),
+        let Some(raw) = offset.checked_add(self.data_offset) else {
+            return Err(Error::OffsetOverflow);
+        };
+        if len as u64 > u64::MAX - raw {
+            return Err(Error::OffsetOverflow);
         }
+        Ok(offset as usize + len)
     }
 }
