@@ -23,6 +23,7 @@ fn of(changes: bool, draws: bool, syncs: bool, role: Role) -> Effect
 }
 
 /// Returns what a call of a kind may do. Of an unknown kind it is nothing.
+#[inline(always)]
 pub fn effect_of_kind(kind: u32) -> Effect
     ensures { result ≡ kind_effect kind }
 {

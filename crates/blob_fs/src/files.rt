@@ -242,6 +242,7 @@ impl<R: Rng + Drop> FileSystem<R> {
     /// # Errors
     ///
     /// `Stale`, and `Injected` of the layer's read.
+    #[inline(always)]
     pub fn read(&mut self, file: Descriptor, offset: u64, buf: &mut [u8]) -> Result<usize, FsError>
         ensures read { IfOk result (λ n. Reads self.old file offset (length buf.old) n buf.new) }
         ensures keeps { KeepsState self.old self.new }
