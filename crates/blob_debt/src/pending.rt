@@ -13,8 +13,8 @@ pub(crate) mod entry;
 pub(crate) mod generation;
 pub mod recreated;
 
-use crate::copies::copied;
 use blob_header::Error;
+use blob_header::error_copy::copied_error;
 use blob_names::names::Names;
 use entry::{Change, Entry};
 pub use generation::{Generation, GenerationId, Receiver, Sender};
@@ -133,7 +133,7 @@ impl Pending {
             return Err(Error::BlobAlreadyOpen(partition, name));
         }
         if let Some(failure) = &entry.failure {
-            return Err(copied(self.alloc, failure)?);
+            return Err(copied_error(self.alloc, failure)?);
         }
         Ok(())
     }
@@ -189,7 +189,7 @@ impl Pending {
             return Ok(false);
         }
         if let Some(failure) = &entry.failure {
-            return Err(copied(self.alloc, failure)?);
+            return Err(copied_error(self.alloc, failure)?);
         }
         Ok(entry.is_dirty)
     }
