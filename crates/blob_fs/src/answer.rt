@@ -114,6 +114,7 @@ fn look_up<R: Rng + Drop>(fs: &FileSystem<R>, call: &LookUp<'_>) -> Reply
 
 impl<R: Rng + Drop> FileSystem<R> {
     /// Makes a call, and returns its reply.
+    #[inline(always)]
     pub fn answer(&mut self, call: &Call<'_>) -> Reply
         ensures { Performs (act_of call.now) result self.old self.new }
     {
