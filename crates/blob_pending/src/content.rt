@@ -26,7 +26,6 @@ impl Model for Content {
 
     ghost Value = { List ℕ };
 
-    ghost use Rattle.std.specs.Bool.{OnFalse};
     ghost use Rattle.blob_pending.specs.Contents.{bytes_of, IsShort};
 
     ghost view = { λ c. bytes_of c.held };
