@@ -4,23 +4,7 @@
  */
 #include "blobcrash_files_calls.h"
 #include "checks.h"
-
-/* The library's allocation that is counted down to is refused, and all later ones too if `refuses_on`. */
-static unsigned long until_refused;
-static bool refuses_on;
-void *__real_malloc(size_t size);
-void *__real_realloc(void *old, size_t size);
-void *__wrap_malloc(size_t size);
-void *__wrap_realloc(void *old, size_t size);
-
-static bool is_refused(void) {
-    if (until_refused == 0) return false;
-    until_refused -= until_refused > 1 || !refuses_on;
-    return until_refused == 0 || (refuses_on && until_refused == 1);
-}
-
-void *__wrap_malloc(size_t size) { return is_refused() ? NULL : __real_malloc(size); }
-void *__wrap_realloc(void *old, size_t size) { return is_refused() ? NULL : __real_realloc(old, size); }
+#include "memory_checks.h"
 
 /* Half of the unsynced bytes survive a crash, a fourth of the syncs fails, and one that fails drops bytes. */
 static const char preamble[] = "seed 7\nprofile xfs\nconfig write 1 8 1 2 subset\nconfig sync 1 4\nfailed_sync drops\n";
@@ -294,7 +278,7 @@ static void refused_after(uint32_t kind) {
     blobcrash_files_close(&files);
 }
 
-/* Files whose recovery failed aren't forked until a crash returns DONE. */
+/* After a recovery that failed there is no fork until a crash returns DONE. */
 static void after_a_failed_recovery(void) {
     struct blobcrash_files fork = {0};
     unsigned long nth = 1, failed_recoveries = 0;

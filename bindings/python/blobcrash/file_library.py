@@ -32,7 +32,7 @@ class FilesLibrary(InProcess):
     _functions, _named, _table = "files_", "files are", W_FILE_KINDS
 
     def fork(self) -> Union[FilesLibrary, Refusal]:
-        """Returns other files in the same state, or the refusal of files whose recovery failed."""
+        """Returns other files in the same state, or the refusal if the recovery of the last crash failed."""
         other, status = self._forked("fork")
         return self._refused(status) or other
 

@@ -40,7 +40,7 @@ fn a_fork_has_the_same_state_and_draws() {
         assert_eq!(each.exists("/g"), files.exists("/g"));
     }
 
-    // What one does later the others don't see, also if the first is gone.
+    // What one does later the others don't see, also if the first is dropped.
     fork.write("/f", b"own").unwrap();
     fork.settle().unwrap();
     assert_eq!(second.read("/f"), files.read("/f"));
