@@ -60,7 +60,7 @@ for module in blobcrash/*.py blobcrash_page/*.py blobcrash_page/*.js blobcrash_p
     done
 done
 for header in "$top"/bindings/c/*.h; do
-    # What two tests share isn't installed.
+    # What tests share isn't installed.
     case $header in *checks.h) continue ;; esac
     put 644 "$header" "$to/include/blobcrash/${header##*/}"
 done

@@ -102,6 +102,8 @@ if has "$compiler"; then
     tell $? 'C: what each call on files returns'
     refusing fork_session -o "$work/fork_session" >"$work/out" 2>"$work/err" && "$work/fork_session" >"$work/out" 2>"$work/err"
     tell $? 'C: forks of a session'
+    refusing fork_files -o "$work/fork_files" >"$work/out" 2>"$work/err" && "$work/fork_files" >"$work/out" 2>"$work/err"
+    tell $? 'C: forks of files'
     $build -o "$work/faults" "$top/bindings/c/files_faults.c" "$top/out/libblobcrash.a" >"$work/out" 2>"$work/err" &&
         "$work/faults" >"$work/out" 2>"$work/err"
     tell $? 'C: files that fail'
@@ -146,7 +148,7 @@ if has "$compiler"; then
     fi
     if has valgrind && $build -pthread -o "$work/threads" "$top/bindings/c/threads.c" "$top/out/libblobcrash.a" 2>"$work/err"; then
         valgrind --tool=helgrind --quiet --error-exitcode=3 "$work/threads" >"$work/out" 2>"$work/err"
-        tell $? 'C: a session that is handed from thread to thread, and forks of one'
+        tell $? 'C: a session that is handed from thread to thread, and forks of one and of files'
     else
         skip 'C: a session that is handed from thread to thread: there is no valgrind, or no threads'
     fi
@@ -172,13 +174,15 @@ if has "$compiler"; then
         replays 'C, sanitized' "$work/files_calls.sanitized"
         "$work/hostile.sanitized" "$top/tests/hostile.tsv" >"$work/out" 2>"$work/err"
         tell $? 'C, sanitized: hostile arguments'
-        for program in files fork_session; do
+        for program in files fork_session fork_files; do
             refusing "$program" -g -fsanitize=address,undefined -o "$work/$program.sanitized"
         done
         "$work/files.sanitized" >"$work/out" 2>"$work/err"
         tell $? 'C, sanitized: what each call on files returns'
         "$work/fork_session.sanitized" >"$work/out" 2>"$work/err"
         tell $? 'C, sanitized: forks of a session'
+        "$work/fork_files.sanitized" >"$work/out" 2>"$work/err"
+        tell $? 'C, sanitized: forks of files'
         answers 'C, sanitized' "$work/lines.sanitized"
         answers 'C, at once, sanitized' "$work/lines.sanitized" --whole
         explains 'C, sanitized' "$work/lines.sanitized"
@@ -253,6 +257,8 @@ if has_python && [ -f "$top/out/libblobcrash.so" ]; then
     tell $? 'Python: the two ways'
     run_python "$top/tests/forks.py" >"$work/out" 2>"$work/err"
     tell $? 'Python: forks of a store'
+    run_python "$top/tests/file_forks.py" >"$work/out" 2>"$work/err"
+    tell $? 'Python: forks of files'
 else
     skip "Python: there is no Python 3.8 or later, or no $compiler, which makes its library"
 fi

@@ -115,6 +115,16 @@ struct blobcrash_file_reply {
 struct blobcrash_script_ran blobcrash_files_open(struct blobcrash_files *files, const uint8_t *preamble, size_t preamble_len);
 
 /*
+ * Opens the closed files `fork` in the state of `files`: the same names and bytes, of which the same are durable, unsynced and unsettled,
+ * settings, descriptors by the same numbers, words of the generator, supply of power and last call. No call is made again: files of more
+ * than 16 KB share the pages that haven't changed since a sync, and the rest is copied. No later call of one changes the other, and each
+ * may be used by a thread of its own at the same time. Close both, in any order.
+ *
+ * DONE; BAD_CALL if `fork` is open, and so also if it is `files`; CLOSED; F_CRASHED; NO_MEMORY. All but DONE change nothing.
+ */
+uint32_t blobcrash_files_fork(struct blobcrash_files *files, struct blobcrash_files *fork);
+
+/*
  * Makes a setting, a line as in the preamble without its line feed. What is pending keeps the mode and the rate of its issue.
  *
  * DONE; BAD_LINE if it is no setting, NO_MEMORY and CLOSED, which change nothing.

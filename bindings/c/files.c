@@ -3,29 +3,13 @@
  * linked with `-Wl,--wrap=malloc,--wrap=realloc`. It prints each check that fails, and ends with the status 1 if there is one.
  */
 #include "files_checks.h"
+#include "memory_checks.h"
 
 #include <stdlib.h>
 
 /* The address sanitizer, if there is one, refuses what can't be allocated, as `malloc` does. */
 const char *__asan_default_options(void);
 const char *__asan_default_options(void) { return "allocator_may_return_null=1"; }
-
-/* The library's allocations: the one that is counted down to is refused, and all later ones too if `refuses_on`. */
-static unsigned long until_refused;
-static bool refuses_on;
-void *__real_malloc(size_t size);
-void *__real_realloc(void *old, size_t size);
-void *__wrap_malloc(size_t size);
-void *__wrap_realloc(void *old, size_t size);
-
-static bool is_refused(void) {
-    if (until_refused == 0) return false;
-    until_refused -= until_refused > 1 || !refuses_on;
-    return until_refused == 0 || (refuses_on && until_refused == 1);
-}
-
-void *__wrap_malloc(size_t size) { return is_refused() ? NULL : __real_malloc(size); }
-void *__wrap_realloc(void *old, size_t size) { return is_refused() ? NULL : __real_realloc(old, size); }
 
 /* Whether the durable bytes of an inode are copied with this status and this length. */
 static bool durable_is(uint64_t inode, uint8_t *into, size_t capacity, uint32_t status, size_t len) {

@@ -4,18 +4,7 @@
  */
 #include "blobcrash_calls.h"
 #include "checks.h"
-
-/* The library's allocation that is counted down to is refused. */
-static unsigned long until_refused;
-void *__real_malloc(size_t size);
-void *__real_realloc(void *old, size_t size);
-void *__wrap_malloc(size_t size);
-void *__wrap_realloc(void *old, size_t size);
-
-static bool is_refused(void) { return until_refused > 0 && --until_refused == 0; }
-
-void *__wrap_malloc(size_t size) { return is_refused() ? NULL : __real_malloc(size); }
-void *__wrap_realloc(void *old, size_t size) { return is_refused() ? NULL : __real_realloc(old, size); }
+#include "memory_checks.h"
 
 /* Half of the pending bytes survive a crash, and a fourth of the syncs fails. */
 static const char preamble[] = "image p 61 43574943000000006f6c64\nseed 7\nconfig write 1 8 1 2 subset\nconfig sync 1 4\n";

@@ -1,8 +1,9 @@
 /*
- * A session that is handed from thread to thread while another thread has a session of its own, and two threads with forks of one session.
- * It is for a checker of races, and ends with the status 1 if a call doesn't return what it should.
+ * A session that is handed from thread to thread while another thread has a session of its own, and threads with forks of one session and
+ * of files. It is for a checker of races, and ends with the status 1 if a call doesn't return what it should.
  */
 #include "blobcrash_calls.h"
+#include "blobcrash_files_calls.h"
 
 #include <pthread.h>
 #include <stdlib.h>
@@ -73,6 +74,35 @@ static void forks(void) {
     blobcrash_close(&first);
 }
 
+/* The same with a fork of files. */
+static void *have_file_fork(void *at) {
+    struct blobcrash_files *own = at;
+    uint64_t file = 0;
+    for (int i = 0; i < TURNS; i++) {
+        want(blobcrash_file_write(own, file, (uint64_t)i * 20000, "own", 3) == BLOBCRASH_DONE);
+        want(blobcrash_file_rename(own, i % 2 == 0 ? "/a" : "/b", i % 2 == 0 ? "/b" : "/a") == BLOBCRASH_DONE);
+        want(blobcrash_file_sync(own, file) == BLOBCRASH_DONE);
+    }
+    want(blobcrash_files_crash(own, NULL, NULL) == BLOBCRASH_DONE && blobcrash_file_open(own, "/a", NULL) == BLOBCRASH_DONE);
+    blobcrash_files_close(own);
+    return NULL;
+}
+
+static void file_forks(void) {
+    static uint8_t bytes[200000];
+    struct blobcrash_files first = {0}, own[2] = {{0}, {0}};
+    pthread_t threads[2];
+    size_t found;
+    want(blobcrash_files_open(&first, (const uint8_t *)"seed 7\n", 7).status == BLOBCRASH_DONE);
+    want(blobcrash_file_create(&first, "/a", NULL) == BLOBCRASH_DONE);
+    want(blobcrash_file_write(&first, 0, 0, bytes, sizeof bytes) == BLOBCRASH_DONE && blobcrash_files_settle(&first) == BLOBCRASH_DONE);
+    for (int i = 0; i < 2; i++) want(blobcrash_files_fork(&first, &own[i]) == BLOBCRASH_DONE);
+    for (int i = 0; i < 2; i++) want(pthread_create(&threads[i], NULL, have_file_fork, &own[i]) == 0);
+    for (int i = 0; i < 2; i++) want(pthread_join(threads[i], NULL) == 0);
+    want(blobcrash_file_read(&first, 0, 0, bytes, 3, &found) == BLOBCRASH_DONE && found == 3 && memcmp(bytes, "\0\0\0", 3) == 0);
+    blobcrash_files_close(&first);
+}
+
 static void *close_it(void *unused) {
     blobcrash_close(&handed);
     return unused;
@@ -89,5 +119,6 @@ int main(void) {
     want(blobcrash_sync(&handed, 0) == BLOBCRASH_CLOSED);
     want(pthread_join(other, NULL) == 0);
     forks();
+    file_forks();
     return 0;
 }

@@ -18,7 +18,7 @@ FUSE_LICENCE = ("/usr/share/doc/libfuse3-dev/copyright", "/usr/share/common-lice
 NO_URL = "https://blobcrash.invalid"
 # What a user copies and changes, below share/doc/blobcrash/examples.
 C_EXAMPLES = ("first.c", "first_files.c", "log.c", "explore_log.c", "files.c", "files_faults.c", "files_checks.h",
-              "explore_files.c")
+              "memory_checks.h", "explore_files.c")
 
 
 def install(work):

@@ -2,14 +2,12 @@
 
 from __future__ import annotations
 
-import pickle
 from typing import Any, Dict, Iterator, List, NamedTuple, Optional, Sequence, Tuple
 
 from .crash_units import Row, rows_of
 from .file_contents import Draws, Lost, Part
 from .file_settings import kept_edits
 from .foreign_files import Refusal
-from .forked import Child
 from .grammar import MAX
 from .learned import Learned, Spans
 from .replayed import Content, ReplayedFiles
@@ -18,8 +16,6 @@ from .replayed import Content, ReplayedFiles
 _ROOM = 256
 # With fewer draws all outcomes are tried.
 _MANY = 4
-# Up to so many lines it is faster to make the calls again than to copy this process.
-_FEW_LINES = 500
 Words = Tuple[int, ...]
 
 
@@ -33,11 +29,11 @@ class Left(NamedTuple):
 
 
 class Forward:
-    """A run of which each call is made once. What a crash leaves is found in a copy of this process."""
+    """A run of which each call is made once. What a crash leaves is found in a fork."""
 
     def __init__(self, way: Any, images: List[str], words: List[int], lines: List[str]) -> None:
         self.images, self.words, self.lines, self.line = images, words, lines, 0
-        self._way, self.is_files = way, way is ReplayedFiles
+        self.is_files = way is ReplayedFiles
         self._session = way(images, words)
         self.learned = Learned()
         # Which unsettled edits of files a crash keeps.
@@ -73,15 +69,14 @@ class Forward:
 
     def crash(self, given: Sequence[int], spans: Optional[Spans] = None) -> Left:
         """What a crash by these words leaves, and the parts of some files by their inodes. The run stays where it is."""
-        if self.line > _FEW_LINES:
-            first, second = Child(lambda: self._crashed(self._session, given, spans or {})).result()
-            return Left(first[0], first[1], pickle.loads(second), first[2])
-        session = self._way(self.images, self.words)
+        session = self._session.fork()
         try:
-            for text in self.lines[: self.line]:
-                self._make(session, text)
-            first, content = self._crashed(session, given, spans or {})
-            return Left(first[0], first[1], content, first[2])
+            before = session.words_left() + len(given)
+            reply = session.crash(list(given))
+            taken = tuple(given[: before - session.words_left()])
+            content = session.content()
+            parts = {inode: session.part_of(inode, span) for inode, span in (spans or {}).items()}
+            return Left(taken, tuple(sorted(rows_of(reply))), content, parts)
         finally:
             session.close()
 
@@ -91,15 +86,6 @@ class Forward:
     @staticmethod
     def _make(session: Any, text: str) -> Any:
         return None if text.startswith("#") else session.call(text)
-
-    @staticmethod
-    def _crashed(session: Any, given: Sequence[int], spans: Spans) -> Tuple[Any, Content]:
-        before = session.words_left() + len(given)
-        reply = session.crash(list(given))
-        taken = tuple(given[: before - session.words_left()])
-        content = session.content()
-        parts = {inode: session.part_of(inode, span) for inode, span in spans.items()}
-        return (taken, tuple(sorted(rows_of(reply))), parts), content
 
 
 class _Drawn(NamedTuple):

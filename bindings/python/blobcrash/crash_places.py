@@ -228,13 +228,12 @@ class _Crash:
 
 def _drawn(replay: Replay, words: List[int]) -> Tuple[Tuple[int, ...], Tuple[Row, ...]]:
     """The words that such a crash takes, and what it keeps."""
-
-    def work() -> Any:
-        taken, reply = replay.crash(words)
-        return (tuple(taken), _rows(reply)), None
-
-    found: Tuple[Tuple[int, ...], Tuple[Row, ...]] = Child(work).result()[0]
-    return found
+    fork = replay.fork()
+    try:
+        taken, reply = fork.crash(words)
+        return tuple(taken), _rows(reply)
+    finally:
+        fork.close()
 
 
 def _rows(reply: Any) -> Tuple[Row, ...]:

@@ -31,6 +31,11 @@ class FilesLibrary(InProcess):
 
     _functions, _named, _table = "files_", "files are", W_FILE_KINDS
 
+    def fork(self) -> Union[FilesLibrary, Refusal]:
+        """Returns other files in the same state, or the refusal if the recovery of the last crash failed."""
+        other, status = self._forked("fork")
+        return self._refused(status) or other
+
     def apply(self, asked: FileCall) -> Any:
         """Makes a call. Returns the bytes of a read, the names of a list, a `Kept` of a crash, nothing of a write or a setting, and `Found`
         of any other."""

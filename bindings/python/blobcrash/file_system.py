@@ -3,6 +3,7 @@
 from __future__ import annotations
 
 import os
+from copy import copy
 from typing import Any, Callable, Dict, Iterable, List, NamedTuple, Optional
 
 from .errors import NeedsSeed
@@ -72,6 +73,26 @@ class Files(Session):
         # How often `restart` has ended a process.
         self._restarts = 0
         self._layer = files_way(by)("\n".join([*self.script, ""]).encode())
+
+    def fork(self) -> Files:
+        """Returns other files in the same state: names and bytes, what of them is unsynced and unsettled, settings, the power, and the words
+        that the generator gives next.
+
+        No call is made again, and from here on no call of one changes the other. The new ones belong to this thread too. File objects stay
+        with the files that opened them; their descriptors are open in the new ones too, until these crash.
+
+        Raises `ValueError` for the files of a search's run, and an `OSError` if the recovery of the last crash failed.
+        """
+        self._check()
+        if self._is_search:
+            raise ValueError("the files of a search's run can't be forked")
+        layer = self._layer.fork()
+        if isinstance(layer, Refusal):
+            raise error_of(layer)
+        other = copy(self)
+        other._layer, other._opened = layer, {}
+        other._words, other._lines, other._unsynced = self._words[:], self._lines[:], self._unsynced.again()
+        return other
 
     def open(self, path: Path, mode: str = "rb") -> OpenFile:
         """Opens a file, by a mode of `open` with a `b`, as an unbuffered file object.

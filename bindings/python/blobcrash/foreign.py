@@ -110,6 +110,7 @@ _OF_SESSIONS = {
     "power": (PowerState,),
     "close": (None,),
     "files_open": (ScriptRan, *_bytes),
+    "files_fork": (_status, _session),
     "files_configure": (_status, *_bytes),
     "files_apply": (FileReply, _asked, *_bytes, *_bytes),
     "files_write": (_status, _number, _number, *_bytes),

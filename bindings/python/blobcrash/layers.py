@@ -14,7 +14,7 @@ from contextlib import suppress
 from array import array
 from copy import copy
 from struct import Struct
-from typing import Any, Callable, Dict, List, Optional, Sequence, Type, Union
+from typing import Any, Callable, Dict, List, Optional, Sequence, Tuple, Type, TypeVar, Union
 
 from .calls import Call, Line, Opened, Reply, made, new, rows_of
 from .checking import check as faults_of
@@ -39,6 +39,7 @@ from .foreign import (
 from .grammar import MAX, data_of
 from .power import InLibrary
 
+_Own = TypeVar("_Own", bound="InProcess")
 _LINE_FEED = 10
 # The numbers of a typed call: `blobcrash_asked` and `blobcrash_file_call`.
 _ASKED = Struct("@I4xQQQ")
@@ -253,6 +254,14 @@ class InProcess(InLibrary):
         if status:
             self._check(status)
 
+    def _forked(self: _Own, name: str) -> Tuple[_Own, int]:
+        """Returns another session, which a function opens in the state of this one, and the status."""
+        other = copy(self)
+        other._session = Session()
+        other.at = ctypes.byref(other._session)
+        other.room = ctypes.create_string_buffer(_ROOM)
+        return other, self._call(name, other.at)
+
     def close(self) -> int:
         """Ends the session, and returns 0."""
         if self._is_open:
@@ -318,11 +327,8 @@ class Library(InProcess):
 
     def fork(self) -> Library:
         """Returns another session in the same state."""
-        other = copy(self)
-        other._session = Session()
-        other.at = ctypes.byref(other._session)
-        other.room = ctypes.create_string_buffer(_ROOM)
-        self._check(self._call("fork_session", other.at))
+        other, status = self._forked("fork_session")
+        self._check(status)
         return other
 
     def call(self, line: bytes) -> bytes:

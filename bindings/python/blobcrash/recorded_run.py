@@ -2,6 +2,7 @@
 
 from __future__ import annotations
 
+from copy import copy
 from itertools import chain, islice
 from typing import Any, Dict, FrozenSet, Iterable, List, NamedTuple, Optional, Tuple
 
@@ -210,6 +211,12 @@ class Replay:
             elif self.line not in self._without:
                 for setting in self._run.settings[self.line] or [text]:
                     self._make(setting, self._run.made[self.line - 1])
+
+    def fork(self) -> Replay:
+        """Returns one in the same state, for a crash."""
+        other = copy(self)
+        other._session = self._session.fork()
+        return other
 
     def follows(self, edit: int) -> bool:
         """Whether the log of the syncs follows an unsettled edit of files."""

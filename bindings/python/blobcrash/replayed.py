@@ -2,7 +2,8 @@
 
 from __future__ import annotations
 
-from typing import Any, Dict, List, Optional, Tuple
+from copy import copy
+from typing import Any, Dict, List, Optional, Tuple, TypeVar
 
 from .calls import Line
 from .errors import NotMade
@@ -17,19 +18,50 @@ from .met import blobs_of, durable_blobs
 # What a crash left: of a store the partition, the name and the bytes with the header of each blob; of files the path of each, with its
 # bytes or, of a directory, `None`.
 Content = Tuple[Tuple[Any, ...], ...]
+_Own = TypeVar("_Own", bound="_Replayed")
 
 
 class NotMadeAgain(RuntimeError):
     """A call of a script ran out of memory."""
 
 
-class ReplayedStore:
+class _Replayed:
+    """The calls so far, in a session of the library."""
+
+    def __init__(self, session: Any) -> None:
+        self._session, self.words_left = session, session.words_left
+
+    def fork(self: _Own) -> _Own:
+        """Returns another one in the same state."""
+        other = copy(self)
+        try:
+            _Replayed.__init__(other, self._session.fork())
+        except NotMade:
+            raise NotMadeAgain from None
+        return other
+
+    def push_words(self, words: List[int]) -> None:
+        """Inserts words before those that are left."""
+        try:
+            self._session.push_words(words)
+        except NotMade:
+            raise NotMadeAgain from None
+
+    def close(self) -> None:
+        self._session.close()
+
+
+class ReplayedStore(_Replayed):
     """Calls of a store."""
 
     def __init__(self, images: List[str], words: List[int]) -> None:
-        self._session = Library("".join(f"{line}\n" for line in [*images, _words_line(words)]).encode())
+        super().__init__(Library("".join(f"{line}\n" for line in [*images, _words_line(words)]).encode()))
         self._calls = [Line.of(line.replace("image", "open", 1)) for line in images]
-        self.words_left = self._session.words_left
+
+    def fork(self) -> ReplayedStore:
+        other = super().fork()
+        other._calls = self._calls[:]
+        return other
 
     @staticmethod
     def changes(line: str) -> bool:
@@ -42,10 +74,6 @@ class ReplayedStore:
         self._calls.append(Line.of(line))
         return reply
 
-    def push_words(self, words: List[int]) -> None:
-        """Inserts words before those that are left."""
-        self._session.push_words(words)
-
     def crash(self, words: List[int]) -> Any:
         """Crashes by these words. Returns the reply."""
         self.push_words(words)
@@ -55,17 +83,12 @@ class ReplayedStore:
         """What is durable."""
         return durable_blobs(self._session, blobs_of(self._calls, ()))
 
-    def close(self) -> None:
-        self._session.close()
 
-
-class ReplayedFiles:
+class ReplayedFiles(_Replayed):
     """Calls of files."""
 
     def __init__(self, images: List[str], words: List[int]) -> None:
-        self._files = FilesLibrary(f"{_words_line(words)}\n".encode())
-        self.words_left = self._files.words_left
-        self.follows = self._files.follows
+        super().__init__(FilesLibrary(f"{_words_line(words)}\n".encode()))
 
     @staticmethod
     def changes(line: str) -> bool:
@@ -87,21 +110,18 @@ class ReplayedFiles:
         self._apply(FileCall("close", opened.number))
         return reply
 
-    def push_words(self, words: List[int]) -> None:
-        """Inserts words before those that are left."""
-        try:
-            self._files.push_words(words)
-        except NotMade:
-            raise NotMadeAgain from None
-
     def crash(self, words: List[int]) -> Any:
         """Crashes by these words. Returns the reply."""
         self.push_words(words)
         return self._apply(FileCall("crash"))
 
+    def follows(self, edit: int) -> bool:
+        """Returns whether the log of the syncs follows an unsettled edit."""
+        return bool(self._session.follows(edit))
+
     def inode_at(self, descriptor: int) -> int:
         """Returns the inode of an open file, or 0."""
-        return self._files.inode_at(descriptor)
+        return int(self._session.inode_at(descriptor))
 
     def part_of(self, inode: int, span: Tuple[int, int]) -> Optional[Part]:
         """Returns the size of a file and the bytes of a span, after `content`. `None` if there is no such file."""
@@ -126,9 +146,6 @@ class ReplayedFiles:
         self._walk(1, b"", found)
         return tuple(found)
 
-    def close(self) -> None:
-        self._files.close()
-
     def _list(self, directory: int, above: bytes, found: Dict[bytes, int]) -> None:
         for name in self._apply(FileCall("listdir_at", directory)):
             entry = self._apply(FileCall("find_at", directory, path=name))
@@ -150,7 +167,7 @@ class ReplayedFiles:
     def _apply(self, asked: FileCall) -> Any:
         """Makes a call. Raises `NotMadeAgain` if there is no memory. Refusals are as they were."""
         try:
-            return self._files.apply(asked)
+            return self._session.apply(asked)
         except NotMade:
             raise NotMadeAgain from None
 

@@ -36,6 +36,7 @@ mod crash;
 mod entries;
 mod file;
 mod foreign;
+mod fork;
 mod library;
 mod names;
 mod options;

@@ -18,6 +18,7 @@ impl Raw for RawSession {
     };
     const FUNCTIONS: Functions<RawSession> = Functions {
         open: blobcrash_open,
+        fork: blobcrash_fork_session,
         push_words: blobcrash_push_words,
         words_left: blobcrash_words_left,
         power: blobcrash_power,
@@ -43,12 +44,6 @@ impl record::Asked for Asked {
 const SMALL: usize = 65536;
 
 impl Session {
-    /// Returns another session in the same state, with a copy of the record.
-    pub(crate) fn fork(&mut self) -> Result<Session, Error> {
-        // SAFETY: the first session is open, the second is closed, and both are borrowed for the call.
-        self.forked(|raw, fork| unsafe { blobcrash_fork_session(raw, fork) })
-    }
-
     /// Makes the call of a line and returns its reply line.
     pub(crate) fn call(&mut self, line: &str) -> Result<&str, Error> {
         let ran = self.ran(line)?;

@@ -17,9 +17,10 @@ pub(crate) trait Raw: Sized + 'static {
     const FUNCTIONS: Functions<Self>;
 }
 
-/// The functions that both kinds of a session have. Each takes a session that is open, except `open`.
+/// The functions that both kinds of a session have. Each takes a session that is open, except `open` and the second one of `fork`.
 pub(crate) struct Functions<R> {
     pub(crate) open: unsafe extern "C" fn(*mut R, *const u8, usize) -> ScriptRan,
+    pub(crate) fork: unsafe extern "C" fn(*mut R, *mut R) -> u32,
     pub(crate) push_words: unsafe extern "C" fn(*mut R, *const u64, usize) -> u32,
     pub(crate) words_left: unsafe extern "C" fn(*mut R) -> Ran,
     pub(crate) power: unsafe extern "C" fn(*mut R) -> PowerState,
@@ -82,19 +83,19 @@ impl<R: Raw> Session<R> {
         Ok(session)
     }
 
-    /// Returns another session, which `fork` opens in the state of this one, with a copy of the record.
-    pub(crate) fn forked(
-        &mut self,
-        fork: impl FnOnce(&mut R, &mut R) -> u32,
-    ) -> Result<Session<R>, Error> {
+    /// Returns another session in the state of this one, with a copy of the record.
+    pub(crate) fn fork(&mut self) -> Result<Session<R>, Error> {
         let mut other = Session {
             raw: R::CLOSED,
             reply: Vec::new(),
             record: self.record.clone(),
             has_lost: self.has_lost,
         };
-        let status = fork(&mut self.raw, &mut other.raw);
-        (status == DONE).then_some(other).ok_or(Error::OutOfMemory)
+        // SAFETY: the first session is open, the second is closed, and both are borrowed for the call.
+        match unsafe { (R::FUNCTIONS.fork)(&mut self.raw, &mut other.raw) } {
+            DONE => Ok(other),
+            status => Err(Error::of(status, "")),
+        }
     }
 
     /// Inserts words before those that the generator gives next.

@@ -1,7 +1,9 @@
 pub mod CallLines
 pub mod Calls
+pub mod Copies
 pub mod Effects
 pub mod Exports
+pub mod Forks
 pub mod Held
 pub mod Kinds
 pub mod LastParts

@@ -26,6 +26,12 @@ impl Files {
         }
     }
 
+    pub fn is_open(&self) -> bool
+        ensures { result ≡ is_some (files_of self.now) }
+    {
+        self.is_open
+    }
+
     /// Opens closed files with a file system.
     pub fn put(&mut self, kept: Box<KeptFiles>)
         requires { files_of self.old ≡ None }

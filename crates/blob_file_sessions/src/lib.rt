@@ -4,8 +4,10 @@
 
 mod by_kind;
 pub mod call;
+mod copies;
 pub mod effects;
 pub mod files;
+mod forks;
 pub mod kept;
 pub mod kinds;
 pub mod line_text;

@@ -113,7 +113,7 @@ fn copied_names(names: &Vec<Vec<u8>>) -> Result<Vec<Vec<u8>>, Error>
 }
 
 /// Returns a copy of the choices of a crash. The only error is `Memory`.
-fn copied_selections(alloc: Global, selections: &Selections) -> Result<Selections, Error>
+pub fn copied_selections(alloc: Global, selections: &Selections) -> Result<Selections, Error>
     ensures ok { IfOk result (λ copy. table_of copy ≡ table_of selections.now) }
     ensures err { OnErr result (IsMemory result) }
 {

@@ -5,7 +5,7 @@
 pub mod debts;
 mod durable;
 pub mod effects;
-mod forks;
+pub mod forks;
 pub mod headers;
 mod kept;
 pub mod kinds;

@@ -64,6 +64,7 @@ unsafe extern "C" {
         preamble: *const u8,
         preamble_len: usize,
     ) -> ScriptRan;
+    pub(crate) fn blobcrash_files_fork(files: *mut RawFiles, fork: *mut RawFiles) -> u32;
     pub(crate) fn blobcrash_files_configure(
         files: *mut RawFiles,
         setting: *const u8,

@@ -21,6 +21,7 @@ impl Raw for RawFiles {
     };
     const FUNCTIONS: Functions<RawFiles> = Functions {
         open: blobcrash_files_open,
+        fork: blobcrash_files_fork,
         push_words: blobcrash_files_push_words,
         words_left: blobcrash_files_words_left,
         power: blobcrash_files_power,

@@ -32,6 +32,13 @@ impl State {
         }
     }
 
+    /// Returns another state, over a fork of the session. It isn't that of a search's run.
+    pub(crate) fn fork(&mut self) -> Result<State, Error> {
+        let mut fork = State::new(self.session.fork()?, self.config, Limits::default());
+        (fork.is_unset, fork.syncs_lie) = (self.is_unset, self.syncs_lie);
+        Ok(fork)
+    }
+
     /// Does what precedes a call: sets the faults if they aren't complete, and follows the path of an explored run.
     pub(crate) fn permit(&mut self, kind: Kind) -> Result<(), Error> {
         self.limits.count_call()?;
