@@ -1,5 +1,6 @@
 pub mod Checkpoints
 pub mod Copied
+pub mod Indexes
 pub mod Counts
 pub mod Fitting
 pub mod Journals

@@ -13,3 +13,5 @@ pub mod Settled
 pub mod Paths
 pub mod Presets
 pub mod Copies
+pub mod Indexes
+pub mod UnsettledEdits

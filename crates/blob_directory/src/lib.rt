@@ -13,6 +13,7 @@ mod rule;
 pub mod table;
 pub mod tree;
 pub mod unsettled;
+pub mod unsettled_edits;
 mod wanted;
 
 pub use edit::{Binding, Change, Edit, Kind};

@@ -1,6 +1,6 @@
 //! The edits that a crash may lose, and which of them a sync settles.
-ghost use Rattle.std.specs.Prelude.{◌≡◌, map, OnErr, OnOk};
-ghost use Rattle.blob_directory.specs.Syncs.{Marks, is_in, is_number, is_of, is_one_of, is_settled_in, makes, moved_into, of_name, of_truncation, touches, unbound};
+ghost use Rattle.std.specs.Prelude.{◌≡◌, false, map, OnErr, OnOk};
+ghost use Rattle.blob_directory.specs.Syncs.{Marks, is_in, is_number, is_of, is_one_of, is_settled_in, makes, marked, moved_into, of_name, of_truncation, touches, unbound};
 
 use crate::edit::Edit;
 use crate::profile::Settles;
@@ -44,6 +44,14 @@ impl Unsettled {
         ensures { result ≡ makes inode self.now }
     {
         self.about.is_one_of(inode) && self.edit.is_binding()
+    }
+
+    /// Notes that a sync has seen the edit and doesn't want it.
+    pub(crate) fn pass_over(&mut self)
+        ensures { self.new ≡ marked (λ _. false) self.old }
+    {
+        self.is_wanted = false;
+        self.is_seen = true;
     }
 
     fn note_bound(&mut self, directory: u64)
