@@ -125,11 +125,11 @@ kept_copied store fork journal copy es xs finds at bytes same h k = record {
 
 -- the invariant of names with their journal
 pub holds_forked : {R : Type 0} (j : Journaled R) (fork : OverMemory R) (copy : Journal) (xs : List Unsettled) → IsSameStore j.store fork → FindsNoMore j.store fork
-    → place (inside copy.blob) ≡ place_of j → bytes_in copy ≡ bytes_in j.journal → copy ≡ record j.journal { blob = copy.blob } → AreCopies j.unsettled.items xs → Holds fork copy j.opened xs
+    → place (inside copy.blob) ≡ place_of j → bytes_in copy ≡ bytes_in j.journal → copy ≡ record j.journal { blob = copy.blob } → AreCopies j.unsettled.edits.items xs → Holds fork copy j.opened xs
 holds_forked j fork copy xs store finds at bytes same copies =
     holds_written j fork copy xs
     (record { beside = λ given o test other k. finds o test k; directory = store.directory; generation = ap (λ (m : Journal). m.generation) same; place = at })
-    (∥∥₁_map j.kept (λ k. kept_copied j.store fork j.journal copy j.unsettled.items xs (λ test f. finds (place_of j) test f) at bytes same copies k))
+    (∥∥₁_map j.kept (λ k. kept_copied j.store fork j.journal copy j.unsettled.edits.items xs (λ test f. finds (place_of j) test f) at bytes same copies k))
 
 -- What a recovery finds.
 

@@ -45,8 +45,8 @@ settled_after R settles synced a b c h s =
       wants = s.wants;
       exactly = subst (λ (l : List Unsettled). Wants settles synced l s.wants) h.unsettled s.exactly;
       journal = subst (λ (l : List Unsettled). Changes (store_of a) (store_of c) o (change l)) h.unsettled
-          (changes_before (store_of a) (store_of b) (store_of c) o (change b.unsettled.items) h.durable h.pending h.files now
-          (subst (λ (p : Place). Changes (store_of b) (store_of c) p (change b.unsettled.items)) h.place s.journal));
+          (changes_before (store_of a) (store_of b) (store_of c) o (change b.unsettled.edits.items) h.durable h.pending h.files now
+          (subst (λ (p : Place). Changes (store_of b) (store_of c) p (change b.unsettled.edits.items)) h.place s.journal));
       told = s.told ∙ ap₂ (λ (l : List Unsettled) (told : List Found). settled_in (is_marked_in (map (marked s.wants) l)) 0 told) h.unsettled h.told;
     }
 
@@ -57,6 +57,6 @@ settled_before R settles synced a b c s k =
       place = k.place ∙ s.place;
       wants = s.wants;
       exactly = s.exactly;
-      journal = changes_then (store_of a) (store_of b) (store_of c) (place_of a) (all_settled (map (marked s.wants) a.unsettled.items)) x.durable x.pending k.files s.journal;
+      journal = changes_then (store_of a) (store_of b) (store_of c) (place_of a) (all_settled (map (marked s.wants) a.unsettled.edits.items)) x.durable x.pending k.files s.journal;
       told = k.told ∙ s.told;
     }

@@ -4,6 +4,7 @@ pub mod Again
 pub mod Told
 pub mod Growing
 pub mod Unsettled
+pub mod Unwanted
 pub mod Lasting
 pub mod Bindings
 pub mod Draws

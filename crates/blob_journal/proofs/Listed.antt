@@ -90,16 +90,3 @@ last_is l xs x y is at = let same : Some y ≡ Some x = at ∙ last_here l xs x 
 
 pub has_last : (l xs : List Unsettled) (x : Unsettled) → l ≡ xs ++ x ∷ [] → None ≡ slice_get l (length l - 1) → ⊥
 has_last l xs x is at = let none : None ≡ Some x = at ∙ last_here l xs x is in cc
-
--- a slice of the whole list, written back
-pub whole : (new old : List Unsettled) (n : ℕ) → length new ≡ length old → n ≡ length old → take n (new ++ drop (length new) old) ≡ new
-whole new old n same all =
-    ap (λ (l : List Unsettled). take n (new ++ l)) (drop_all (length new) old (omega (arith, same)))
-    ∙ ap (λ (l : List Unsettled). take n l) (append-nil new)
-    ∙ take_all n new (omega (arith, same, all))
-
--- the same with some of its edits marked
-pub whole_marked : (new old edits : List Unsettled) (n : ℕ) (wants : Unsettled → Bool) → new ≡ map (marked wants) old → old ≡ edits → n ≡ length edits → take n (new ++ drop (length new) edits) ≡ map (marked wants) edits
-whole_marked new old edits n wants is value all =
-    let same = is ∙ ap (map (marked wants)) value in
-    whole new edits n (ap (λ (l : List Unsettled). length l) same ∙ length-map edits (marked wants)) all ∙ same

@@ -12,6 +12,7 @@ use Rattle.blob_draws.specs.Rows.{table_of}
 use Rattle.blob_draws.specs.declared.config.Config.{Config}
 use Rattle.blob_memory.specs.Store.{directory, durable, place}
 use Rattle.blob_memory.specs.declared.storage.Storage as memory
+use Rattle.blob_directory.specs.UnsettledEdits.{edits_of}
 use Rattle.blob_directory.specs.declared.unsettled.Unsettled.{Unsettled}
 use Rattle.blob_faulty.specs.Keeps.{IsFor, OverMemory}
 use Rattle.blob_faulty.specs.Leaves.{Test}
@@ -116,7 +117,7 @@ Holds store journal opened edits = record {
 
 -- the journal's blob is current, and no more may be found of it
 pub holds_after : {R : Type 0} (j : Journaled R) (new : OverMemory R) → is_current (directory (inner_of new)) (place_of j) ≡ true → KeepsNext j.store new → KeepsAccepted j.store new
-    → ((test : Test) → FindsOnly j.store (place_of j) test → FindsOnly new (place_of j) test) → Holds new j.journal j.opened j.unsettled.items
+    → ((test : Test) → FindsOnly j.store (place_of j) test → FindsOnly new (place_of j) test) → Holds new j.journal j.opened j.unsettled.edits.items
 holds_after j new current next accepted finds = record {
   partition = j.partition;
   name = j.name;
@@ -124,16 +125,16 @@ holds_after j new current next accepted finds = record {
   numbered = j.numbered;
   given = still_given j.store new j.opened next j.given;
   accepted = accepted j.accepted;
-  kept = still_kept j.store new j.journal j.unsettled.items finds j.kept;
+  kept = still_kept j.store new j.journal j.unsettled.edits.items finds j.kept;
 }
 
 -- a call that leaves the directory as it is
 pub holds_same : {R : Type 0} (j : Journaled R) (new : OverMemory R) → SameDirectory j.store new
-    → ((test : Test) → FindsOnly j.store (place_of j) test → FindsOnly new (place_of j) test) → Holds new j.journal j.opened j.unsettled.items
+    → ((test : Test) → FindsOnly j.store (place_of j) test → FindsOnly new (place_of j) test) → Holds new j.journal j.opened j.unsettled.edits.items
 holds_same j new same finds = holds_after j new (ap (λ (d : Directory). is_current d (place_of j)) same ∙ j.current)
     (same_next (directory (inner_of j.store)) (directory (inner_of new)) same) (still_accepted j.store new same) finds
 
-pub holds_kept : {R : Type 0} (j : Journaled R) (new : OverMemory R) → KeepsStore j.store new → Holds new j.journal j.opened j.unsettled.items
+pub holds_kept : {R : Type 0} (j : Journaled R) (new : OverMemory R) → KeepsStore j.store new → Holds new j.journal j.opened j.unsettled.edits.items
 holds_kept j new keeps = holds_after j new (keeps.current (place_of j) j.current) keeps.next keeps.accepted (λ test k. keeps.left (place_of j) test k)
 
 -- a call on the journal's blob
@@ -150,7 +151,7 @@ holds_written j new journal edits w kept = record {
 }
 
 -- other rates, and then a call
-pub holds_set : {R : Type 0} (j : Journaled R) (mid new : OverMemory R) (config : Config) → mid ≡ with_config j.store config → KeepsStore mid new → Holds new j.journal j.opened j.unsettled.items
+pub holds_set : {R : Type 0} (j : Journaled R) (mid new : OverMemory R) (config : Config) → mid ≡ with_config j.store config → KeepsStore mid new → Holds new j.journal j.opened j.unsettled.edits.items
 holds_set {R} j mid new config set keeps =
     let same : SameDirectory j.store mid = ap (λ (s : OverMemory R). directory (inner_of s)) set in
     holds_after j new (keeps.current (place_of j) (ap (λ (d : Directory). is_current d (place_of j)) same ∙ j.current))
@@ -159,7 +160,7 @@ holds_set {R} j mid new config set keeps =
     (λ test k. keeps.left (place_of j) test (no_more_set j.store mid config set (place_of j) test k))
 
 -- another generator
-pub holds_drawn : {R : Type 0} (j : Journaled R) (new : OverMemory R) (rng : R) → new ≡ with_rng j.store rng → Holds new j.journal j.opened j.unsettled.items
+pub holds_drawn : {R : Type 0} (j : Journaled R) (new : OverMemory R) (rng : R) → new ≡ with_rng j.store rng → Holds new j.journal j.opened j.unsettled.edits.items
 holds_drawn {R} j new rng set =
     let same : SameDirectory j.store new = ap (λ (s : OverMemory R). directory (inner_of s)) set in
     record {
@@ -169,7 +170,7 @@ holds_drawn {R} j new rng set =
       numbered = j.numbered;
       given = still_given j.store new j.opened (same_next (directory (inner_of j.store)) (directory (inner_of new)) same) j.given;
       accepted = still_accepted j.store new same j.accepted;
-      kept = subst (λ (s : OverMemory R). ∥ IsKept s j.journal j.unsettled.items ∥₁) (sym set) (with_kept j.store rng j.journal j.unsettled.items j.kept);
+      kept = subst (λ (s : OverMemory R). ∥ IsKept s j.journal j.unsettled.edits.items ∥₁) (sym set) (with_kept j.store rng j.journal j.unsettled.edits.items j.kept);
     }
 
 -- Open files.
@@ -229,7 +230,7 @@ pub edits_same : {R : Type 0} (a b : Journaled R) → b.journal ≡ a.journal �
 edits_same a b journal names edits log = record {
   names = names;
   told = ap told_by journal;
-  unsettled = ap (λ (v : Vec Unsettled Global). v.items) edits;
+  unsettled = ap edits_of edits;
   log = log;
 }
 

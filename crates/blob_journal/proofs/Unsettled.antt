@@ -4,6 +4,7 @@ use Rattle.std.specs.Prelude.{filter, nat_eq, slice_get, if◌then◌else◌}
 use Rattle.std.specs.Coded.{Coded-set, Unit-prop, ×_prop, coded_bool}
 use Rattle.std.proofs.lemmas.Bool.Decides.{nat_tests}
 use Rattle.blob_directory.specs.declared.unsettled.Unsettled.{Unsettled}
+pub use Rattle.blob_directory.specs.Indexes.{unwanted}
 use Rattle.blob_directory.specs.Records.{Found}
 use Rattle.blob_directory.specs.Settled.{AreSettled}
 use Rattle.blob_directory.specs.Syncs.{marked}
@@ -48,9 +49,6 @@ same_records wants (e ∷ edits) i = ap (λ (b : Bool). nat_eq e.record i || b) 
 
 pub listed_marked : (wants : Unsettled → Bool) (n : ℕ) (told : List Found) (edits : List Unsettled) → AreListed n told edits → AreListed n told (map (marked wants) edits)
 listed_marked wants n told edits h = listed_by edits (map (marked wants) edits) (λ i is. same_records wants edits i ∙ is) n told h
-
-abbrev pub unwanted : Unsettled → Bool
-unwanted e = not e.is_wanted
 
 any_if : (i : ℕ) (t : Bool) (e : Unsettled) (rest : List Unsettled) → is_listed (if t then e ∷ rest else rest) i ≡ (if t then (nat_eq e.record i || is_listed rest i) else is_listed rest i)
 any_if i true e rest = refl

@@ -47,13 +47,13 @@ durable_file j inode = logical_blob (inner_of (store_of j)) (codes "f") (to_le_b
 pub record FindsNames {R : Type 0} (j : Journaled R) (keeps : Keeps) (names : Names) : Type 0 where
   pub journal : List ℕ
   pub is : IsJournal (store_of j) (generation_of j) journal
-  pub finds : Finds names (names_told (rule_of keeps j.unsettled.items) journal)
+  pub finds : Finds names (names_told (rule_of keeps j.unsettled.edits.items) journal)
 
 -- the same after a crash: the journal has those of its pending records that the crash kept
 pub record FindsKept {R : Type 0} (j : Journaled R) (kept : Selections) (keeps : Keeps) (names : Names) : Type 0 where
   pub journal : List ℕ
   pub is : IsJournalAfter (store_of j) (generation_of j) kept journal
-  pub finds : Finds names (names_told (rule_of keeps j.unsettled.items) journal)
+  pub finds : Finds names (names_told (rule_of keeps j.unsettled.edits.items) journal)
 
 -- whatever names are found after a crash that kept these rows, the journal before it gives them
 abbrev pub CrashKeeps : {R : Type 0} → Journaled R → Selections → Journaled R → Type 0

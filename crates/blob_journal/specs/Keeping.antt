@@ -33,7 +33,7 @@ generator_in j = rng_of j.store
 
 -- with another generator; all else stays
 abbrev pub with_generator : {R : Type 0} → Journaled R → R → Journaled R
-with_generator j rng = record j { store = with_rng j.store rng; current = j.current; given = j.given; accepted = j.accepted; kept = with_kept j.store rng j.journal j.unsettled.items j.kept }
+with_generator j rng = record j { store = with_rng j.store rng; current = j.current; given = j.given; accepted = j.accepted; kept = with_kept j.store rng j.journal j.unsettled.edits.items j.kept }
 
 -- nothing has happened to the names
 abbrev pub KeepsTable : {R : Type 0} → Journaled R → Journaled R → Type 0
@@ -82,7 +82,7 @@ SettlesSome j j' = OnlySettles (told_in j) (told_in j')
 -- The names are those that a recovery finds by the edits that were told: by all that were settled, and by some of the others, as the profile keeps them.
 pub record FindsTold {R : Type 0} (j : Journaled R) (keeps : Keeps) (names : Names) : Type 0 where
   pub chosen : ℕ → Bool
-  pub finds : Finds names (names_kept (rule_of keeps j.unsettled.items) chosen (told_in j))
+  pub finds : Finds names (names_kept (rule_of keeps j.unsettled.edits.items) chosen (told_in j))
 
 -- all edits that were told are settled, and they give the names that calls see, by every rule, whatever a crash loses
 pub record GivesTold {R : Type 0} (j : Journaled R) : Type 0 where

@@ -21,7 +21,8 @@ use blob_directory::laws as directory;
 use blob_directory::log::Log;
 use blob_directory::profile::Settles;
 use blob_directory::table::Table;
-use blob_directory::unsettled::{About, Synced, Unsettled, want};
+use blob_directory::unsettled::{About, Synced, Unsettled};
+use blob_directory::unsettled_edits::UnsettledEdits;
 use blob_faulty::Config;
 use blob_packed::laws::records;
 use rand_core::Rng;
@@ -77,7 +78,7 @@ impl<R: Rng + Drop> Journaled<R> {
             store,
             journal,
             names: Table::new(alloc),
-            unsettled: Vec::new(alloc),
+            unsettled: UnsettledEdits::new(alloc),
             log: Log::new(alloc),
             next_edit: 0,
             opened: 0,
@@ -135,7 +136,7 @@ impl<R: Rng + Drop> Journaled<R> {
     pub fn unsettled(&self) -> &[Unsettled]
         ensures { result.now ≡ unsettled_of self.now }
     {
-        &self.unsettled
+        self.unsettled.as_slice()
     }
 
     /// Returns how many edits the journal has.
@@ -150,7 +151,7 @@ impl<R: Rng + Drop> Journaled<R> {
     pub fn settled_edits(&self) -> u64
         ensures { AreSettled (take result (told_in self.now)) }
     {
-        match self.unsettled.first() {
+        match self.unsettled.as_slice().first() {
             None => self.journal.records,
             Some(edit) => edit.record,
         }
@@ -194,7 +195,7 @@ impl<R: Rng + Drop> Journaled<R> {
         if !edit.fits() {
             return Err(Error::OffsetOverflow);
         }
-        self.unsettled.reserve(1)?;
+        self.unsettled.reserve()?;
         let number = self.next_edit;
         let Some(next) = number.checked_add(1) else {
             return Err(Error::OffsetOverflow);
@@ -234,7 +235,7 @@ impl<R: Rng + Drop> Journaled<R> {
         self.names.prepare(&edit)?;
         let is_followed = self.log.prepare(&edit)?;
         self.add_edit(edit, about, rate, is_followed)?;
-        let Some(added) = self.unsettled.last() else {
+        let Some(added) = self.unsettled.as_slice().last() else {
             return Ok(());
         };
         self.names.apply(&added.edit);
@@ -272,15 +273,14 @@ impl<R: Rng + Drop> Journaled<R> {
         ensures still { KeepsOpen self.old self.new }
     {
         records();
-        want(self.alloc, &mut self.unsettled, settles, synced)?;
-        self.log.note(settles, &self.unsettled)?;
-        settle_marked(
-            self.alloc,
-            &mut self.store,
-            &mut self.journal,
-            &self.unsettled,
-        )?;
-        self.unsettled.retain(|edit| !edit.is_wanted);
+        if !self.unsettled.want(settles, synced)? {
+            self.log.note(settles, &[])?;
+            return Ok(());
+        }
+        let edits = self.unsettled.as_slice();
+        self.log.note(settles, edits)?;
+        settle_marked(self.alloc, &mut self.store, &mut self.journal, edits)?;
+        self.unsettled.drop_wanted();
         Ok(())
     }
 }

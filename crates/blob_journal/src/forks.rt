@@ -44,7 +44,7 @@ impl<R> Journaled<R> {
         leaves::same_bytes::<blob_memory::Storage, R>();
         let journal = self.journal.copy()?;
         let names = self.names.copy()?;
-        let unsettled = self.unsettled.clone()?;
+        let unsettled = self.unsettled.copy()?;
         let log = self.log.copy()?;
         let store = self.store.fork(rng)?;
         Ok(Journaled {

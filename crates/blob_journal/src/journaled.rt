@@ -4,6 +4,7 @@ ghost use Rattle.std.specs.Int.{w64, to_be_bytes};
 ghost use Rattle.blob_model.specs.Directory.{is_current};
 ghost use Rattle.blob_memory.specs.Store.{directory, place};
 ghost use Rattle.blob_faulty.specs.Wrapper.{inner_of, inside};
+ghost use Rattle.blob_directory.specs.UnsettledEdits.{edits_of};
 ghost use Rattle.blob_journal.specs.Found.{IsKept};
 ghost use Rattle.blob_journal.specs.Limits.{AcceptsOpens};
 
@@ -11,7 +12,7 @@ use crate::journal::Journal;
 use crate::store::Store;
 use blob_directory::log::Log;
 use blob_directory::table::Table;
-use blob_directory::unsettled::Unsettled;
+use blob_directory::unsettled_edits::UnsettledEdits;
 use std::alloc::Global;
 
 /// The names that calls see, the journal of their edits, and the store that has it beside the blobs of files.
@@ -21,7 +22,7 @@ pub struct Journaled<R> {
     pub(crate) store: Store<R>,
     pub(crate) journal: Journal,
     pub(crate) names: Table,
-    pub(crate) unsettled: Vec<Unsettled>,
+    pub(crate) unsettled: UnsettledEdits,
     /// The names that the syncs since the last commit have settled.
     pub(crate) log: Log,
     /// The number of the next edit, counted from the start.
@@ -40,5 +41,5 @@ pub struct Journaled<R> {
     ghost accepted: { AcceptsOpens (directory (inner_of store)) },
     // of the journal's blob no more may be found than its records, each whole or lost, the settled ones always;
     // each listed edit has a record of its own, in order, and each edit that nothing settled is listed
-    ghost kept: { ∥ IsKept store journal unsettled.items ∥₁ },
+    ghost kept: { ∥ IsKept store journal (edits_of unsettled) ∥₁ },
 }

@@ -5,7 +5,7 @@ ghost use Rattle.blob_journal.specs.Moves.{view_name};
 use crate::journaled::Journaled;
 use blob_base::{Error, Probability};
 use blob_directory::edit::{Binding, Edit};
-use blob_directory::unsettled::{About, note_bound};
+use blob_directory::unsettled::About;
 use rand_core::Rng;
 
 /// Returns whether both are of the same file or directory.
@@ -51,7 +51,7 @@ impl<R: Rng + Drop> Journaled<R> {
         ensures told { TellsAgain self.old self.new }
         ensures bound { OnOk result (BindsMovedAt at directory self.old self.new) }
     {
-        let Some(edit) = self.unsettled.get(at) else {
+        let Some(edit) = self.unsettled.as_slice().get(at) else {
             return Ok(());
         };
         if !edit.about.moved_into(directory) {
@@ -74,10 +74,13 @@ impl<R: Rng + Drop> Journaled<R> {
         ensures told { TellsAgain self.old self.new }
         ensures bound { OnOk result (BindsMoved directory self.old self.new) }
     {
-        for at in 0..self.unsettled.len() {
+        if !self.unsettled.concerns(directory)? {
+            return Ok(());
+        }
+        for at in 0..self.unsettled.as_slice().len() {
             self.bind_one(at, directory, rate)?;
         }
-        note_bound(&mut self.unsettled, directory);
+        self.unsettled.note_bound(directory);
         Ok(())
     }
 }

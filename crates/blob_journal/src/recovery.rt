@@ -92,7 +92,7 @@ impl<R: Rng + Drop> Journaled<R> {
         self.store.set_config(Config::default());
         let generation = self.journal.generation;
         let (_, bytes) = Journal::open(self.alloc, &mut self.store, generation)?;
-        let (names, kept) = kept_names(self.alloc, &bytes, keeps, &self.unsettled)?;
+        let (names, kept) = kept_names(self.alloc, &bytes, keeps, self.unsettled.as_slice())?;
         let edits = self.kept_edits(&kept)?;
         let tree = reached(self.alloc, &names)?;
         Ok((tree, edits))
@@ -103,7 +103,7 @@ impl<R: Rng + Drop> Journaled<R> {
         ensures { IfOk result (λ edits. edits.items ≡ counted kept.now (unsettled_of self.now)) }
     {
         let mut edits = Vec::new(self.alloc);
-        for edit in &self.unsettled {
+        for edit in self.unsettled.as_slice() {
             let is_kept = kept.get(edit.record as usize).copied().unwrap_or(false);
             edits.push(is_kept)?;
         }
@@ -169,7 +169,7 @@ impl<R: Rng + Drop> Journaled<R> {
         ensures untold { OnErr result (KeepsTold self.old self.new) }
         ensures still { KeepsOpen self.old self.new }
     {
-        if !self.unsettled.is_empty() {
+        if !self.unsettled.as_slice().is_empty() {
             return Ok(());
         }
         let (tree, _) = self.find_names(Keeps::Any)?;

@@ -21,11 +21,11 @@ use Rattle.blob_journal.specs.Unchanged.{KeepsNamesAndEdits}
 use Rattle.blob_journal.proofs.journaled.Journaled.add_edit.Goals as goal
 
 pub invariant_of-self-in-Break-branch-2 : goal.invariant_of-self-in-Break-branch-2
-invariant_of-self-in-Break-branch-2 g c = holds_written c.args.self.now c.add.new.store c.add.new.self _ c.add.ensures.writes (∥∥₁_map c.args.self.now.kept (λ k. refused_add c.args.self.now.store c.add.new.store c.args.self.now.journal c.add.new.self c.args.self.now.unsettled.items c.reserve.new.self.items
+invariant_of-self-in-Break-branch-2 g c = holds_written c.args.self.now c.add.new.store c.add.new.self _ c.add.ensures.writes (∥∥₁_map c.args.self.now.kept (λ k. refused_add c.args.self.now.store c.add.new.store c.args.self.now.journal c.add.new.self c.args.self.now.unsettled.edits.items c.reserve.new.self.edits.items
     c.reserve.ensures.items c.in_err-record.ensures.same k))
 
 pub invariant_of-self-2 : goal.invariant_of-self-2
-invariant_of-self-2 g c = holds_written c.args.self.now c.add.new.store c.add.new.self _ c.add.ensures.writes (∥∥₁_map c.args.self.now.kept (λ k. done_add c.args.self.now.store c.add.new.store c.args.self.now.journal c.add.new.self c.args.self.now.unsettled.items _ c.push_reserved.new.self.items _
+invariant_of-self-2 g c = holds_written c.args.self.now c.add.new.store c.add.new.self _ c.add.ensures.writes (∥∥₁_map c.args.self.now.kept (λ k. done_add c.args.self.now.store c.add.new.store c.args.self.now.journal c.add.new.self c.args.self.now.unsettled.edits.items _ c.push_reserved.new.self.edits.items _
     c.push_reserved.ensures.items c.reserve.ensures.items
     c.in_ok-record.ensures.number c.in_ok-record.ensures.offset c.in_ok-record.ensures.left c.records-2.ensures.found k))
 

@@ -8,18 +8,18 @@ use Rattle.blob_journal.proofs.journaled.Journaled.bind_one.Goals as goal
 
 pub returns-in_default-clause-bound : goal.returns-in_default-clause-bound
 returns-in_default-clause-bound g c =
-    let edits = c.args.self.now.unsettled.items in
+    let edits = c.args.self.now.unsettled.edits.items in
     record {
       more = [];
       adds = adds_none _ _ refl;
-      bound = λ e low is. absurd (false≢true (c.in_default.ensures.lookup.0 ∙ ap (λ (l : List Unsettled). nat_lt c.args.at (length l)) c.deref.ensures.value ∙ lt-ltb c.args.at (length edits) low));
+      bound = λ e low is. absurd (false≢true (c.in_default.ensures.lookup.0 ∙ ap (λ (l : List Unsettled). nat_lt c.args.at (length l)) c.as_slice.ensures ∙ lt-ltb c.args.at (length edits) low));
     }
 
 pub returns-then-not-moved_into-clause-bound : goal.returns-then-not-moved_into-clause-bound
 returns-then-not-moved_into-clause-bound g c =
-    let edits = c.args.self.now.unsettled.items in
+    let edits = c.args.self.now.unsettled.edits.items in
     let edit = c.in-Some.edit.now in
-    let here : edit ≡ get_or edits c.args.at edit = c.in-Some.ensures.lookup.1 ∙ ap (λ (l : List Unsettled). get_or l c.args.at edit) c.deref.ensures.value in
+    let here : edit ≡ get_or edits c.args.at edit = c.in-Some.ensures.lookup.1 ∙ ap (λ (l : List Unsettled). get_or l c.args.at edit) c.as_slice.ensures in
     record {
       more = [];
       adds = adds_none _ _ refl;
@@ -30,7 +30,7 @@ returns-then-not-moved_into-clause-bound g c =
 
 pub returns-clause-bound : goal.returns-clause-bound
 returns-clause-bound g c =
-    let edits = c.args.self.now.unsettled.items in
+    let edits = c.args.self.now.unsettled.edits.items in
     let edit = c.in-Some.edit.now in
-    let here : edit ≡ get_or edits c.args.at edit = c.in-Some.ensures.lookup.1 ∙ ap (λ (l : List Unsettled). get_or l c.args.at edit) c.deref.ensures.value in
+    let here : edit ≡ get_or edits c.args.at edit = c.in-Some.ensures.lookup.1 ∙ ap (λ (l : List Unsettled). get_or l c.args.at edit) c.as_slice.ensures in
     binds_at c.add_name.result c.args.self.now c.add_name.new.self c.args.at c.args.directory edit _ here c.in_ok-name.ensures c.add_name.ensures.added

@@ -29,8 +29,8 @@ some_same e = cc
 pub returns-clause-found : goal.returns-clause-found
 returns-clause-found g c =
     let self = c.args.self.now in
-    let rule : Rule = rule_of c.args.keeps self.unsettled.items in
-    let by : rule_of c.args.keeps c.deref-2.result.now ≡ rule = ap (rule_of c.args.keeps) c.deref-2.ensures.value in
+    let rule : Rule = rule_of c.args.keeps self.unsettled.edits.items in
+    let by : rule_of c.args.keeps c.as_slice.result.now ≡ rule = ap (rule_of c.args.keeps) c.as_slice.ensures in
     let at : Place = place (inside self.journal.blob) in
     let name : List ℕ = to_be_bytes w64 self.journal.generation in
     let here : current (directory (inner_of self.store)) (codes "j") name ≡ Some at =
@@ -50,8 +50,8 @@ returns-clause-found g c =
 pub returns-clause-edits : goal.returns-clause-edits
 returns-clause-edits g c =
     let self = c.args.self.now in
-    let rule : Rule = rule_of c.args.keeps self.unsettled.items in
-    let by : rule_of c.args.keeps c.deref-2.result.now ≡ rule = ap (rule_of c.args.keeps) c.deref-2.ensures.value in
+    let rule : Rule = rule_of c.args.keeps self.unsettled.edits.items in
+    let by : rule_of c.args.keeps c.as_slice.result.now ≡ rule = ap (rule_of c.args.keeps) c.as_slice.ensures in
     let at : Place = place (inside self.journal.blob) in
     let name : List ℕ = to_be_bytes w64 self.journal.generation in
     let bytes : List ℕ = c.in_ok-bytes.bytes.items in
@@ -60,12 +60,12 @@ returns-clause-edits g c =
     let inner : inner_of c.set_config.new.self ≡ inner_of self.store = ap (λ (s : OverMemory g.row.R.Denot). inner_of s) c.set_config.ensures.set in
     let found : durable (inner_of c.set_config.new.self) at ≡ Some bytes =
     c.in_ok-bytes.ensures.found at (ap (λ (s : memory.Storage). current (directory s) (codes "j") name) inner ∙ here) in
-    let counts : c.deref-3.result.now ≡ counts_in rule bytes =
-    c.deref-3.ensures.value ∙ c.in_ok-names.ensures.kept ∙ ap (λ r. counts_in r c.deref.result.now) by ∙ ap (λ l. counts_in rule l) c.deref.ensures.value in
+    let counts : c.deref-2.result.now ≡ counts_in rule bytes =
+    c.deref-2.ensures.value ∙ c.in_ok-names.ensures.kept ∙ ap (λ r. counts_in r c.deref.result.now) by ∙ ap (λ l. counts_in rule l) c.deref.ensures.value in
     record {
       journal = bytes;
       is = record { place = at; current = here; durable = sym (ap (λ (s : memory.Storage). durable s at) inner) ∙ found };
-      found = c.in_ok-edits.ensures ∙ ap (λ (l : List Bool). counted l self.unsettled.items) counts;
+      found = c.in_ok-edits.ensures ∙ ap (λ (l : List Bool). counted l self.unsettled.edits.items) counts;
     }
 
 pub returns-clause-fits : goal.returns-clause-fits
@@ -79,8 +79,8 @@ returns-clause-fits g c =
 pub returns-clause-again : goal.returns-clause-again
 returns-clause-again g c = λ gives.
     let self = c.args.self.now in
-    let rule : Rule = rule_of c.args.keeps self.unsettled.items in
-    let by : rule_of c.args.keeps c.deref-2.result.now ≡ rule = ap (rule_of c.args.keeps) c.deref-2.ensures.value in
+    let rule : Rule = rule_of c.args.keeps self.unsettled.edits.items in
+    let by : rule_of c.args.keeps c.as_slice.result.now ≡ rule = ap (rule_of c.args.keeps) c.as_slice.ensures in
     let at : Place = place (inside self.journal.blob) in
     let name : List ℕ = to_be_bytes w64 self.journal.generation in
     let here : current (directory (inner_of self.store)) (codes "j") name ≡ Some at =
@@ -105,8 +105,8 @@ invariant_of-self g c = holds_set c.args.self.now c.set_config.new.self c.open.n
 pub returns-clause-kept : goal.returns-clause-kept
 returns-clause-kept g c =
     let self = c.args.self.now in
-    let rule : Rule = rule_of c.args.keeps self.unsettled.items in
-    let by : rule_of c.args.keeps c.deref-2.result.now ≡ rule = ap (rule_of c.args.keeps) c.deref-2.ensures.value in
+    let rule : Rule = rule_of c.args.keeps self.unsettled.edits.items in
+    let by : rule_of c.args.keeps c.as_slice.result.now ≡ rule = ap (rule_of c.args.keeps) c.as_slice.ensures in
     let at : Place = place (inside self.journal.blob) in
     let name : List ℕ = to_be_bytes w64 self.journal.generation in
     let bytes : List ℕ = c.in_ok-bytes.bytes.items in
@@ -116,7 +116,7 @@ returns-clause-kept g c =
     let found : durable (inner_of c.set_config.new.self) at ≡ Some bytes =
     c.in_ok-bytes.ensures.found at (ap (λ (s : memory.Storage). current (directory s) (codes "j") name) inner ∙ here) in
     let there : durable (inner_of self.store) at ≡ Some bytes = sym (ap (λ (s : memory.Storage). durable s at) inner) ∙ found in
-    let edits = found_now c.records.ensures.kept c.records.ensures.found rule self.store self.journal self.unsettled.items bytes self.kept there in
+    let edits = found_now c.records.ensures.kept c.records.ensures.found rule self.store self.journal self.unsettled.edits.items bytes self.kept there in
     let told : Same (bound c.in_ok-names.names) (names_told rule c.deref.result.now) =
     λ e. c.in_ok-names.ensures.names e ∙ ap (λ r. names_told r c.deref.result.now e) by in
     let chosen = chosen_of (found_in bytes) in

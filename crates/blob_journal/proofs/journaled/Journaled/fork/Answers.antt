@@ -26,10 +26,10 @@ invariant_of-result g c =
     let self = c.args.self.now in
     let s = c.in_ok-store.ensures in
     let m = c.in_ok-journal.ensures in
-    holds_forked self c.in_ok-store.store c.in_ok-journal.journal c.in_ok-unsettled.unsettled.items
+    holds_forked self c.in_ok-store.store c.in_ok-journal.journal c.in_ok-unsettled.unsettled.edits.items
     (record { directory = s.directory; durable = s.durable; records = s.records })
     (λ o test k. c.same_bytes.ensures.unrecorded self.store c.in_ok-store.store o test s.directory s.durable s.records k)
-    m.place m.bytes m.same c.in_ok-unsettled.ensures.cases.0
+    m.place m.bytes m.same c.in_ok-unsettled.ensures
 
 pub returns-clause-fork : goal.returns-clause-fork
 returns-clause-fork g c =
@@ -39,7 +39,7 @@ returns-clause-fork g c =
       store = record { directory = s.directory; durable = s.durable; records = s.records };
       names = c.in_ok-names.ensures;
       told = ap found_in m.bytes;
-      unsettled = c.in_ok-unsettled.ensures.cases.0;
+      unsettled = c.in_ok-unsettled.ensures;
       log = c.in_ok-log.ensures;
       place = m.place;
       generation = ap (λ (j : Journal). j.generation) m.same;
@@ -51,7 +51,7 @@ pub returns-clause-finds : goal.returns-clause-finds
 returns-clause-finds g c =
     let s = c.in_ok-store.ensures in
     let m = c.in_ok-journal.ensures in
-    finds_same c.args.self.now _ (record { directory = s.directory; durable = s.durable; records = s.records }) (ap (λ (j : Journal). j.generation) m.same) c.in_ok-unsettled.ensures.cases.0 (ap found_in m.bytes)
+    finds_same c.args.self.now _ (record { directory = s.directory; durable = s.durable; records = s.records }) (ap (λ (j : Journal). j.generation) m.same) c.in_ok-unsettled.ensures (ap found_in m.bytes)
 
 pub returns-clause-crashes : goal.returns-clause-crashes
 returns-clause-crashes g c =

@@ -21,7 +21,7 @@ returns-clause-made g c =
     let added : Unsettled = c.in-Some.added.now in
     let names : c.add_edit.new.self.names ≡ room = c.add_edit.ensures.names.table in
     let is : edit_of added.edit ≡ edit =
-    ap (λ (u : Unsettled). edit_of u.edit) (last_is c.deref.result.now _ noted.last added (c.deref.ensures.value ∙ noted.is) c.in-Some.ensures.value) ∙ noted.edit in
+    ap (λ (u : Unsettled). edit_of u.edit) (last_is c.as_slice.result.now _ noted.last added (c.as_slice.ensures ∙ noted.is) c.in-Some.ensures.value) ∙ noted.edit in
     let has : HasRoomFor room (edit_of added.edit) = subst (HasRoomFor room) (sym is) c.in_ok-prepare.ensures.room in
     λ e.
     c.apply.ensures (subst (λ (t : Table). HasRoomFor t (edit_of added.edit)) (sym names) has) e
@@ -56,7 +56,7 @@ returns-clause-followed g c =
     let marked = c.in_ok-add_edit.ensures.marked in
     let added : Unsettled = c.in-Some.added.now in
     let is : edit_of added.edit ≡ edit =
-    ap (λ (u : Unsettled). edit_of u.edit) (last_is c.deref.result.now _ noted.last added (c.deref.ensures.value ∙ noted.is) c.in-Some.ensures.value) ∙ noted.edit in
+    ap (λ (u : Unsettled). edit_of u.edit) (last_is c.as_slice.result.now _ noted.last added (c.as_slice.ensures ∙ noted.is) c.in-Some.ensures.value) ∙ noted.edit in
     let has : follows ≡ true → HasRoomFor c.add_edit.new.self.log.names (edit_of added.edit) =
     λ y. subst (λ (l : Log). HasRoomFor l.names (edit_of added.edit)) (sym log) (subst (HasRoomFor room.names) (sym is) (c.in_ok-is_followed.ensures.room y)) in
     record {

@@ -42,7 +42,7 @@ invariant_of-self g c =
       numbered = self.numbered;
       given = still_given self.store fresh self.opened c.next_journal.ensures.keeps.next self.given;
       accepted = c.next_journal.ensures.keeps.accepted self.accepted;
-      kept = still_kept self.store fresh self.journal self.unsettled.items (λ test k. c.next_journal.ensures.keeps.left was test aside k) self.kept;
+      kept = still_kept self.store fresh self.journal self.unsettled.edits.items (λ test k. c.next_journal.ensures.keeps.left was test aside k) self.kept;
     }
 
 pub invariant_of-self-in-Break-branch-3 : goal.invariant_of-self-in-Break-branch-3
@@ -66,7 +66,7 @@ invariant_of-self-in-Break-branch-3 g c =
       numbered = self.numbered;
       given = still_given self.store new self.opened later self.given;
       accepted = still_accepted fresh new c.begin.ensures.writes.directory (c.next_journal.ensures.keeps.accepted self.accepted);
-      kept = still_kept self.store new self.journal self.unsettled.items
+      kept = still_kept self.store new self.journal self.unsettled.edits.items
           (λ test k. c.begin.ensures.writes.beside c.in_ok-journal.ensures.given was test other (c.next_journal.ensures.keeps.left was test aside k)) self.kept;
     }
 
