@@ -1,10 +1,12 @@
 /*
  * Makes calls on files, or with `below-` on one blob, for benches/files.sh: files WHAT FILES CALLS. A tree of FILES files of 100 bytes, a
- * thousand in each directory, is durable before. Valgrind counts the calls alone. With WHAT `memory` prints the peak of its memory in KB.
+ * thousand in each directory, is durable before. With WHAT `beside-PROFILE` there are FILES files whose names no sync has settled. Valgrind
+ * counts the calls alone. With WHAT `memory` prints the peak of its memory in KB.
  */
 #include "blobcrash_calls.h"
 #include "blobcrash_files.h"
 
+#include <stdbool.h>
 #include <stdio.h>
 #include <stdlib.h>
 #include <string.h>
@@ -44,6 +46,30 @@ static void make_tree(unsigned long count) {
         if (at % IN_ONE == IN_ONE - 1) call(BLOBCRASH_F_SETTLE, 0, 0, "", "");
     }
     call(BLOBCRASH_F_SETTLE, 0, 0, "", "");
+}
+
+/* Makes files whose names no sync settles. */
+static void make_unsettled(unsigned long count) {
+    char path[64];
+    call(BLOBCRASH_F_MAKE_DIRECTORY, 0, 0, "/new", "");
+    for (unsigned long at = 0; at < count; at++) {
+        snprintf(path, sizeof path, "/new/%lu", at);
+        call(BLOBCRASH_F_CLOSE, call(BLOBCRASH_F_CREATE, 0, 0, path, ""), 0, "", "");
+    }
+}
+
+/* Writes and syncs of a durable file next to this many unsettled edits. The first sync notes what they are about. */
+static void work_beside(unsigned long count, unsigned long calls) {
+    make_tree(10);
+    make_unsettled(count);
+    uint64_t descriptor = call(BLOBCRASH_F_OPEN, 0, 0, "/0/7", "");
+    call(BLOBCRASH_F_SYNC, descriptor, 0, "", "");
+    CALLGRIND_START_INSTRUMENTATION;
+    for (unsigned long at = 0; at < calls; at++) {
+        need(blobcrash_files_write(&files, descriptor, 0, data, SMALL));
+        call(BLOBCRASH_F_SYNC, descriptor, 0, "", "");
+    }
+    CALLGRIND_STOP_INSTRUMENTATION;
 }
 
 /* Calls on one of the files of the tree. */
@@ -113,10 +139,16 @@ int main(int argc, char **argv) {
         work_below(what + 6, calls);
         return 0;
     }
-    const char *preamble = "words 0\nconfig write 0 1 1 2 sectors 512\n";
+    char preamble[128];
+    bool is_beside = !strncmp(what, "beside-", 7);
+    snprintf(preamble, sizeof preamble, "words 0\n%s%s\nconfig write 0 1 1 2 sectors 512\n", is_beside ? "profile " : "", is_beside ? what + 7 : "");
     need(blobcrash_files_open(&files, (const uint8_t *)preamble, strlen(preamble)).status);
-    make_tree(count);
-    work(what, calls);
+    if (is_beside) {
+        work_beside(count, calls);
+    } else {
+        make_tree(count);
+        work(what, calls);
+    }
     if (!strcmp(what, "memory")) {
         struct rusage usage;
         getrusage(RUSAGE_SELF, &usage);

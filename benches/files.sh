@@ -1,7 +1,8 @@
 #!/bin/sh
 # Counts the instructions of calls on files from C, by `valgrind --tool=callgrind`: those of a call on a file and of the same call on a blob,
-# with their ratio; and those of calls on names, and of a crash, in trees of a hundredth of FILES, a tenth and FILES (100000 if it isn't set;
-# at least 1000), with the ratio of the last to the first. Then the memory of a small file. Prints to standard error. A test runs it, and
+# with their ratio; those of calls on names, and of a crash, in trees of a hundredth of FILES, a tenth and FILES (100000 if it isn't set;
+# at least 1000), with the ratio of the last to the first; and those of a write and a sync on btrfs and posix next to a fiftieth, a twelfth
+# and a third of FILES names that no sync has settled. Then the memory of a small file. Prints to standard error. A test runs it, and
 # compares no count.
 set -eu
 
@@ -45,6 +46,17 @@ for what in open rename unlink fsync fsyncdir crash; do
         counts="$counts $each"
     done
     echo "$what:$counts, ratio $(ratio "$first" "$each")" >&2
+done
+calls=100
+for profile in btrfs posix; do
+    counts=
+    first=
+    for files in $((most / 50)) $((most / 12)) $((most / 3)); do
+        each=$(count "beside-$profile" "$files")
+        first=${first:-$each}
+        counts="$counts $each"
+    done
+    echo "write, sync on $profile next to unsettled edits:$counts, ratio $(ratio "$first" "$each")" >&2
 done
 few=$("$work/files" memory $((most / 100)) 0)
 many=$("$work/files" memory "$most" 0)

@@ -3,8 +3,8 @@ use Rattle.std.specs.Prelude.{◌<◌, List, vec_capacity, vec_len}
 use Rattle.blob_directory.specs.declared.unsettled.Unsettled.{Unsettled}
 use Rattle.blob_directory.specs.declared.unsettled_edits.UnsettledEdits.{UnsettledEdits}
 
-abbrev pub edits_of : UnsettledEdits → List Unsettled
-edits_of list = list.edits.items
+abbrev pub edits_listed : UnsettledEdits → List Unsettled
+edits_listed list = list.edits.items
 
 -- there is space for one more
 abbrev pub HasSpace : UnsettledEdits → Type 0

@@ -112,11 +112,11 @@ fn pass_over(edits: &mut [Unsettled], from: usize)
 }
 
 impl UnsettledEdits {
-    ghost use Rattle.blob_directory.specs.UnsettledEdits.{HasSpace, edits_of};
+    ghost use Rattle.blob_directory.specs.UnsettledEdits.{HasSpace, edits_listed};
 
     /// Returns a list without edits. Doesn't allocate.
     pub fn new(alloc: Global) -> UnsettledEdits
-        ensures { edits_of result ≡ [] }
+        ensures { edits_listed result ≡ [] }
     {
         UnsettledEdits {
             alloc,
@@ -129,7 +129,7 @@ impl UnsettledEdits {
 
     /// Returns a copy of the edits. The only error is out of memory.
     pub fn copy(&self) -> Result<UnsettledEdits, AllocError>
-        ensures { IfOk result (λ copy. AreCopies (edits_of self.now) (edits_of copy)) }
+        ensures { IfOk result (λ copy. AreCopies (edits_listed self.now) (edits_listed copy)) }
     {
         let edits = self.edits.clone()?;
         Ok(UnsettledEdits {
@@ -143,14 +143,14 @@ impl UnsettledEdits {
 
     /// Returns the edits.
     pub fn as_slice(&self) -> &[Unsettled]
-        ensures { result.now ≡ edits_of self.now }
+        ensures { result.now ≡ edits_listed self.now }
     {
         &self.edits
     }
 
     /// Reserves space for one more edit. The only error is out of memory.
     pub fn reserve(&mut self) -> Result<(), AllocError>
-        ensures items { edits_of self.new ≡ edits_of self.old }
+        ensures items { edits_listed self.new ≡ edits_listed self.old }
         ensures ok { OnOk result (HasSpace self.new) }
     {
         self.edits.reserve(1)
@@ -159,14 +159,14 @@ impl UnsettledEdits {
     /// Appends an edit.
     pub fn push_reserved(&mut self, edit: Unsettled)
         requires { HasSpace self.old }
-        ensures items { edits_of self.new ≡ edits_of self.old ++ edit ∷ [] }
+        ensures items { edits_listed self.new ≡ edits_listed self.old ++ edit ∷ [] }
     {
         self.edits.push_reserved(edit);
     }
 
     /// Drops all edits.
     pub fn clear(&mut self)
-        ensures { edits_of self.new ≡ [] }
+        ensures { edits_listed self.new ≡ [] }
     {
         self.edits.clear();
         self.index = BTreeSet::new(self.alloc);
@@ -177,7 +177,7 @@ impl UnsettledEdits {
     /// Notes that the new name of each file that moved into this directory has an edit of its own. The moves are then in the old
     /// directory alone.
     pub fn note_bound(&mut self, directory: u64)
-        ensures { edits_of self.new ≡ map (unbound directory) (edits_of self.old) }
+        ensures { edits_listed self.new ≡ map (unbound directory) (edits_listed self.old) }
     {
         note_bound(&mut self.edits, directory);
     }
@@ -185,8 +185,8 @@ impl UnsettledEdits {
     /// Returns whether a sync of an inode or a directory has to look at each edit, since one of them is about it or there are few. The
     /// only error is out of memory. No edit changes.
     pub fn concerns(&mut self, number: u64) -> Result<bool, AllocError>
-        ensures none { IfOk result (λ some. some ≡ false → about_any number (edits_of self.old) ≡ false) }
-        ensures same { edits_of self.new ≡ edits_of self.old }
+        ensures none { IfOk result (λ some. some ≡ false → about_any number (edits_listed self.old) ≡ false) }
+        ensures same { edits_listed self.new ≡ edits_listed self.old }
     {
         if self.edits.len() < MANY {
             return Ok(true);
@@ -205,7 +205,7 @@ impl UnsettledEdits {
 
     /// Notes that a sync has seen the edits and wants none.
     fn pass_over(&mut self)
-        ensures { edits_of self.new ≡ map (marked (λ _. false)) (edits_of self.old) }
+        ensures { edits_listed self.new ≡ map (marked (λ _. false)) (edits_listed self.old) }
     {
         pass_over(&mut self.edits, self.noted);
         self.noted = self.edits.len();
@@ -213,14 +213,10 @@ impl UnsettledEdits {
 
     /// Marks the edits that a sync settles, and no other, and all as seen by a sync. Returns whether one may be marked. The only error is
     /// out of memory, and then none is marked.
-    pub fn want(
-        &mut self,
-        settles: Settles,
-        synced: Synced,
-    ) -> Result<bool, AllocError>
-        ensures marks { OnOk result (Marks settles synced (edits_of self.old) (edits_of self.new)) }
-        ensures none { IfOk result (λ some. some ≡ false → list_all unwanted (edits_of self.new) ≡ true) }
-        ensures refused { OnErr result (edits_of self.new ≡ edits_of self.old) }
+    pub fn want(&mut self, settles: Settles, synced: Synced) -> Result<bool, AllocError>
+        ensures marks { OnOk result (Marks settles synced (edits_listed self.old) (edits_listed self.new)) }
+        ensures none { IfOk result (λ some. some ≡ false → list_all unwanted (edits_listed self.new) ≡ true) }
+        ensures refused { OnErr result (edits_listed self.new ≡ edits_listed self.old) }
     {
         if let Some(number) = decisive(settles, synced) {
             if !self.concerns(number)? {
@@ -234,8 +230,8 @@ impl UnsettledEdits {
 
     /// Marks the edits that a sync settles, and looks at each.
     fn mark(&mut self, settles: Settles, synced: Synced) -> Result<(), AllocError>
-        ensures marks { OnOk result (Marks settles synced (edits_of self.old) (edits_of self.new)) }
-        ensures refused { OnErr result (edits_of self.new ≡ edits_of self.old) }
+        ensures marks { OnOk result (Marks settles synced (edits_listed self.old) (edits_listed self.new)) }
+        ensures refused { OnErr result (edits_listed self.new ≡ edits_listed self.old) }
     {
         self.noted = 0;
         want(self.alloc, &mut self.edits, settles, synced)?;
@@ -244,7 +240,7 @@ impl UnsettledEdits {
 
     /// Drops the marked edits.
     pub fn drop_wanted(&mut self)
-        ensures { edits_of self.new ≡ filter unwanted (edits_of self.old) }
+        ensures { edits_listed self.new ≡ filter unwanted (edits_listed self.old) }
     {
         let is_indexed = self.indexed == self.edits.len();
         self.edits.retain(|edit| !edit.is_wanted);

@@ -12,7 +12,7 @@ use Rattle.blob_draws.specs.Rows.{table_of}
 use Rattle.blob_draws.specs.declared.config.Config.{Config}
 use Rattle.blob_memory.specs.Store.{directory, durable, place}
 use Rattle.blob_memory.specs.declared.storage.Storage as memory
-use Rattle.blob_directory.specs.UnsettledEdits.{edits_of}
+use Rattle.blob_directory.specs.UnsettledEdits.{edits_listed}
 use Rattle.blob_directory.specs.declared.unsettled.Unsettled.{Unsettled}
 use Rattle.blob_faulty.specs.Keeps.{IsFor, OverMemory}
 use Rattle.blob_faulty.specs.Leaves.{Test}
@@ -230,7 +230,7 @@ pub edits_same : {R : Type 0} (a b : Journaled R) → b.journal ≡ a.journal �
 edits_same a b journal names edits log = record {
   names = names;
   told = ap told_by journal;
-  unsettled = ap edits_of edits;
+  unsettled = ap edits_listed edits;
   log = log;
 }
 

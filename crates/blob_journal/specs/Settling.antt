@@ -20,7 +20,7 @@ use Rattle.blob_directory.specs.Names.{Edit, edit_of}
 use Rattle.blob_directory.specs.Profiles.{counts_in}
 use Rattle.blob_directory.specs.Records.{record_of}
 use Rattle.blob_directory.specs.Syncs.{Wants, marked}
-use Rattle.blob_directory.specs.UnsettledEdits.{edits_of}
+use Rattle.blob_directory.specs.UnsettledEdits.{edits_listed}
 use Rattle.blob_journal.specs.declared.journaled.Journaled.{Journaled}
 use Rattle.blob_journal.specs.Currents.{KeepsFiles, LeftAs, Represents, pending_at}
 use Rattle.blob_journal.specs.Draws.{EndsWithEdit}
@@ -30,7 +30,7 @@ use Rattle.blob_journal.specs.Told.{is_marked_in, settled_in}
 
 -- the edits that nothing settled
 abbrev pub unsettled_of : {R : Type 0} → Journaled R → List Unsettled
-unsettled_of j = edits_of j.unsettled
+unsettled_of j = edits_listed j.unsettled
 
 -- the same edits are unsettled
 abbrev pub KeepsUnsettled : {R : Type 0} → Journaled R → Journaled R → Type 0

@@ -4,7 +4,7 @@ ghost use Rattle.std.specs.Int.{w64, to_be_bytes};
 ghost use Rattle.blob_model.specs.Directory.{is_current};
 ghost use Rattle.blob_memory.specs.Store.{directory, place};
 ghost use Rattle.blob_faulty.specs.Wrapper.{inner_of, inside};
-ghost use Rattle.blob_directory.specs.UnsettledEdits.{edits_of};
+ghost use Rattle.blob_directory.specs.UnsettledEdits.{edits_listed};
 ghost use Rattle.blob_journal.specs.Found.{IsKept};
 ghost use Rattle.blob_journal.specs.Limits.{AcceptsOpens};
 
@@ -41,5 +41,5 @@ pub struct Journaled<R> {
     ghost accepted: { AcceptsOpens (directory (inner_of store)) },
     // of the journal's blob no more may be found than its records, each whole or lost, the settled ones always;
     // each listed edit has a record of its own, in order, and each edit that nothing settled is listed
-    ghost kept: { ∥ IsKept store journal (edits_of unsettled) ∥₁ },
+    ghost kept: { ∥ IsKept store journal (edits_listed unsettled) ∥₁ },
 }

@@ -5,7 +5,7 @@ use Rattle.std.specs.Prelude.{filter}
 use Rattle.blob_directory.specs.Indexes.{unwanted}
 use Rattle.blob_directory.specs.Logs.{logged_after}
 use Rattle.blob_directory.specs.Syncs.{marked}
-use Rattle.blob_directory.specs.UnsettledEdits.{edits_of}
+use Rattle.blob_directory.specs.UnsettledEdits.{edits_listed}
 use Rattle.blob_directory.specs.declared.unsettled.Unsettled.{Unsettled}
 use Rattle.blob_memory.specs.Store.{place}
 use Rattle.blob_faulty.specs.Wrapper.{inside}
@@ -46,7 +46,7 @@ invariant_of-self-then-not-branch g c =
       given = self.given;
       numbered = self.numbered;
       accepted = self.accepted;
-      kept = ∥∥₁_map self.kept (λ k. marked_kept self.store self.journal (edits_of self.unsettled) (edits_of c.want.new.self) m.wants m.is k);
+      kept = ∥∥₁_map self.kept (λ k. marked_kept self.store self.journal (edits_listed self.unsettled) (edits_listed c.want.new.self) m.wants m.is k);
     }
 
 pub invariant_of-self-in-Break-branch-3 : goal.invariant_of-self-in-Break-branch-3
@@ -60,13 +60,13 @@ invariant_of-self-in-Break-branch-3 g c =
       given = self.given;
       numbered = self.numbered;
       accepted = self.accepted;
-      kept = ∥∥₁_map self.kept (λ k. marked_kept self.store self.journal (edits_of self.unsettled) (edits_of c.want.new.self) m.wants m.is k);
+      kept = ∥∥₁_map self.kept (λ k. marked_kept self.store self.journal (edits_listed self.unsettled) (edits_listed c.want.new.self) m.wants m.is k);
     }
 
 pub invariant_of-self-in-Break-branch-4 : goal.invariant_of-self-in-Break-branch-4
 invariant_of-self-in-Break-branch-4 g c =
     let self = c.args.self.now in
-    let edits : List Unsettled = edits_of self.unsettled in
+    let edits : List Unsettled = edits_listed self.unsettled in
     let m = c.in_ok-want.ensures.marks in
     let same : c.as_slice-edits.result.now ≡ map (marked m.wants) edits = c.as_slice-edits.ensures ∙ m.is in
     let new = c.settle_marked.new.store in
@@ -77,7 +77,7 @@ invariant_of-self-in-Break-branch-4 g c =
 pub invariant_of-self-2 : goal.invariant_of-self-2
 invariant_of-self-2 g c =
     let self = c.args.self.now in
-    let edits : List Unsettled = edits_of self.unsettled in
+    let edits : List Unsettled = edits_listed self.unsettled in
     let m = c.in_ok-want.ensures.marks in
     let same : c.as_slice-edits.result.now ≡ map (marked m.wants) edits = c.as_slice-edits.ensures ∙ m.is in
     let new = c.settle_marked.new.store in
@@ -91,8 +91,8 @@ pub returns-then-not-branch-clause-settled : goal.returns-then-not-branch-clause
 returns-then-not-branch-clause-settled g c =
     let self = c.args.self.now in
     let m = c.in_ok-want.ensures.marks in
-    let none : list_all unwanted (map (marked m.wants) (edits_of self.unsettled)) ≡ true = ap (list_all unwanted) (sym m.is) ∙ c.in_ok-want.ensures.none (search rules) in
-    let all : List Unsettled = map (marked m.wants) (edits_of self.unsettled) in
+    let none : list_all unwanted (map (marked m.wants) (edits_listed self.unsettled)) ≡ true = ap (list_all unwanted) (sym m.is) ∙ c.in_ok-want.ensures.none (search rules) in
+    let all : List Unsettled = map (marked m.wants) (edits_listed self.unsettled) in
     record {
       place = refl;
       wants = m.wants;
@@ -108,17 +108,17 @@ pub returns-then-not-branch-clause-log : goal.returns-then-not-branch-clause-log
 returns-then-not-branch-clause-log g c =
     let self = c.args.self.now in
     let m = c.in_ok-want.ensures.marks in
-    let none : list_all unwanted (map (marked m.wants) (edits_of self.unsettled)) ≡ true = ap (list_all unwanted) (sym m.is) ∙ c.in_ok-want.ensures.none (search rules) in
+    let none : list_all unwanted (map (marked m.wants) (edits_listed self.unsettled)) ≡ true = ap (list_all unwanted) (sym m.is) ∙ c.in_ok-want.ensures.none (search rules) in
     record {
       wants = m.wants;
       exactly = m.exactly;
-      log = λ e. c.in_ok-note.ensures e ∙ logged_none c.args.settles (map (marked m.wants) (edits_of self.unsettled)) (logged_in self) none e;
+      log = λ e. c.in_ok-note.ensures e ∙ logged_none c.args.settles (map (marked m.wants) (edits_listed self.unsettled)) (logged_in self) none e;
     }
 
 pub returns-clause-settled : goal.returns-clause-settled
 returns-clause-settled g c =
     let self = c.args.self.now in
-    let edits : List Unsettled = edits_of self.unsettled in
+    let edits : List Unsettled = edits_listed self.unsettled in
     let m = c.in_ok-want.ensures.marks in
     let same : c.as_slice-edits.result.now ≡ map (marked m.wants) edits = c.as_slice-edits.ensures ∙ m.is in
     record {
@@ -142,7 +142,7 @@ returns-in_err-note-2-clause-some g c = record { grows = grows_same (told_by c.a
 pub returns-in_err-settle_marked-clause-some : goal.returns-in_err-settle_marked-clause-some
 returns-in_err-settle_marked-clause-some g c =
     let self = c.args.self.now in
-    let edits : List Unsettled = edits_of self.unsettled in
+    let edits : List Unsettled = edits_listed self.unsettled in
     let m = c.in_ok-want.ensures.marks in
     let same : c.as_slice-edits.result.now ≡ map (marked m.wants) edits = c.as_slice-edits.ensures ∙ m.is in
     record {
@@ -154,7 +154,7 @@ returns-in_err-settle_marked-clause-some g c =
 pub returns-clause-some : goal.returns-clause-some
 returns-clause-some g c =
     let self = c.args.self.now in
-    let edits : List Unsettled = edits_of self.unsettled in
+    let edits : List Unsettled = edits_listed self.unsettled in
     let m = c.in_ok-want.ensures.marks in
     let same : c.as_slice-edits.result.now ≡ map (marked m.wants) edits = c.as_slice-edits.ensures ∙ m.is in
     record {
@@ -173,7 +173,7 @@ pub returns-clause-log : goal.returns-clause-log
 returns-clause-log g c =
     let self = c.args.self.now in
     let m = c.in_ok-want.ensures.marks in
-    let same : c.as_slice-edits.result.now ≡ map (marked m.wants) (edits_of self.unsettled) = c.as_slice-edits.ensures ∙ m.is in
+    let same : c.as_slice-edits.result.now ≡ map (marked m.wants) (edits_listed self.unsettled) = c.as_slice-edits.ensures ∙ m.is in
     record {
       wants = m.wants;
       exactly = m.exactly;
