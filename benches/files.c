@@ -1,6 +1,6 @@
 /*
  * Makes calls on files, or with `below-` on one blob, for benches/files.sh: files WHAT FILES CALLS. A tree of FILES files of 100 bytes, a
- * thousand in each directory, is durable before. With WHAT `beside-PROFILE` there are FILES files whose names no sync has settled. Valgrind
+ * thousand in each directory, is durable before. With WHAT `beside-PROFILE` no sync has settled the names of FILES files. Valgrind
  * counts the calls alone. With WHAT `memory` prints the peak of its memory in KB.
  */
 #include "blobcrash_calls.h"
@@ -48,7 +48,7 @@ static void make_tree(unsigned long count) {
     call(BLOBCRASH_F_SETTLE, 0, 0, "", "");
 }
 
-/* Makes files whose names no sync settles. */
+/* Makes files, and settles none of their names. */
 static void make_unsettled(unsigned long count) {
     char path[64];
     call(BLOBCRASH_F_MAKE_DIRECTORY, 0, 0, "/new", "");

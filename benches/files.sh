@@ -30,34 +30,36 @@ ratio() {
     awk -v first="$1" -v last="$2" 'BEGIN { printf "%.2f", last / first }'
 }
 
+# compare LABEL WHAT FILES ..: the instructions of one call for each number of files, and the ratio of the last to the first.
+compare() {
+    label=$1
+    what=$2
+    shift 2
+    counts=
+    first=
+    for files; do
+        each=$(count "$what" "$files")
+        first=${first:-$each}
+        counts="$counts $each"
+    done
+    echo "$label:$counts, ratio $(ratio "$first" "$each")" >&2
+}
+
 for what in size read8 write8 write4096 writesync; do
     below=$(count "below-$what" 1)
     file=$(count "$what" 10)
     echo "$what: $file, of a blob $below, ratio $(ratio "$below" "$file")" >&2
 done
-for what in open rename unlink fsync fsyncdir crash; do
-    counts=
-    first=
-    # A crash of many files takes long, and each finds the same files.
-    if [ "$what" = crash ]; then calls=2; fi
-    for files in $((most / 100)) $((most / 10)) "$most"; do
-        each=$(count "$what" "$files")
-        first=${first:-$each}
-        counts="$counts $each"
-    done
-    echo "$what:$counts, ratio $(ratio "$first" "$each")" >&2
+for what in open rename unlink fsync fsyncdir; do
+    compare "$what" "$what" $((most / 100)) $((most / 10)) "$most"
 done
 calls=100
 for profile in btrfs posix; do
-    counts=
-    first=
-    for files in $((most / 50)) $((most / 12)) $((most / 3)); do
-        each=$(count "beside-$profile" "$files")
-        first=${first:-$each}
-        counts="$counts $each"
-    done
-    echo "write, sync on $profile next to unsettled edits:$counts, ratio $(ratio "$first" "$each")" >&2
+    compare "write, sync on $profile next to unsettled names" "beside-$profile" $((most / 50)) $((most / 12)) $((most / 3))
 done
+# A crash of many files takes long, and each finds the same files.
+calls=2
+compare crash crash $((most / 100)) $((most / 10)) "$most"
 few=$("$work/files" memory $((most / 100)) 0)
 many=$("$work/files" memory "$most" 0)
 echo "memory of a file of 100 bytes: $(((many - few) * 1024 / (most - most / 100))) bytes" >&2
