@@ -84,7 +84,8 @@ static bool has_tree_of(struct blobcrash_files *one, struct blobcrash_files *oth
     bool alike = count == again && replied_alike(one, other);
     for (size_t i = 0; alike && i < count; i++) {
         struct blobcrash_file_reply found = blobcrash_files_path_found(one, i);
-        struct blobcrash_ran ran = blobcrash_files_durable(one, found.number, a, LARGE), same = blobcrash_files_durable(other, found.number, b, LARGE);
+        struct blobcrash_ran ran = blobcrash_files_durable(one, found.number, a, LARGE);
+        struct blobcrash_ran same = blobcrash_files_durable(other, found.number, b, LARGE);
         alike = ran.status == same.status && ran.len == same.len && (ran.status != BLOBCRASH_DONE || memcmp(a, b, ran.len) == 0);
     }
     return alike;

@@ -54,7 +54,7 @@ class _Run:
         self.close = self._session.close
 
     def inode_of(self, descriptor: int) -> int:
-        return int(self._session._files.inode_at(descriptor))
+        return self._session.inode_at(descriptor)
 
     def make(self, call: FileCall) -> Any:
         """Makes a call with its numbers as they are. Returns its reply."""

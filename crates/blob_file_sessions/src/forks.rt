@@ -58,11 +58,15 @@ impl KeptFiles {
         ensures ok { IfOk result (λ fork. IsKeptFork self.now fork.value) }
         ensures errors { IfErr result (λ e. (e ≡ Crashed) ⊎ IsOutOfMemory e) }
     {
-        let rng = self.fs().rng().copy()?;
-        let fs = self.fs().fork(rng)?;
-        let mut fork = KeptFiles::new(alloc, fs);
-        fork.last = copied_last(alloc, &self.last)?;
-        fork.power = self.power;
+        let last = copied_last(alloc, &self.last)?;
+        let rng = self.fs.rng().copy()?;
+        let fs = self.fs.fork(rng)?;
+        let fork = KeptFiles {
+            alloc,
+            fs,
+            last,
+            power: self.power,
+        };
         Ok(Box::new(alloc, fork)?)
     }
 }

@@ -22,8 +22,8 @@ use std::alloc::Global;
 
 /// A file system, and the reply to its last call.
 pub struct KeptFiles {
-    alloc: Global,
-    fs: FileSystem<ScriptedRng>,
+    pub(crate) alloc: Global,
+    pub(crate) fs: FileSystem<ScriptedRng>,
     pub(crate) last: Option<Reply>,
     pub(crate) power: Power,
 }
