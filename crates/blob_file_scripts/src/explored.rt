@@ -1,5 +1,5 @@
 //! The distinct outcomes of a script of files.
-use crate::scripts::{Run, Stop};
+use crate::shared::Shared;
 use blob_tree::Explorer;
 use indexmap::IndexMap;
 use std::alloc::{AllocError, AllocFailed, Global};
@@ -31,61 +31,18 @@ struct Outcome {
     words: Vec<u64>,
 }
 
-/// A run of the script over given words.
+/// The words that a run took, each 0 or the greatest word, and the text of its replies after that of the shared lines.
 #[derive(Drop)]
 struct Leaf {
     text: String,
     words: Vec<u64>,
 }
 
-/// Whether a line is one of words or of a seed.
-fn is_generator(line: &[u8]) -> bool {
-    let start = line
-        .iter()
-        .position(|byte| *byte != b' ')
-        .unwrap_or(line.len());
-    let text = &line[start.min(line.len())..];
-    text.starts_with(b"words ") || text.starts_with(b"seed ")
-}
-
-fn run(
-    alloc: Global,
-    script: &[u8],
-    words: &[u64],
-    last: bool,
-) -> Result<(String, Option<usize>), RefusedFiles> {
-    let mut run = Run::new(alloc);
-    let mut text = String::new(alloc);
-    match run.push_words(words) {
-        Ok(()) => {}
-        Err(_) => return Err(RefusedFiles::NoMemory),
-    }
-    let mut number = 0u64;
-    for line in script.split(|byte| *byte == b'\n') {
-        number = number.saturating_add(1);
-        if is_generator(line) {
-            return Err(RefusedFiles::BadLine(number));
-        }
-        match run.take(line) {
-            Ok(true) => {
-                if last {
-                    text.clear();
-                }
-                text.push_str(run.reply.as_str())?;
-            }
-            Ok(false) => {}
-            Err(Stop::BadCall) => return Err(RefusedFiles::BadLine(number)),
-            Err(Stop::NoMemory) => return Err(RefusedFiles::NoMemory),
-        }
-    }
-    let left = run.words_left();
-    Ok((text, left))
-}
-
-/// Runs the script along the explorer's path, with `spare` zeros after its words. Returns `None` if these weren't enough.
+/// Takes the lines after the shared ones along the explorer's path, with `spare` zeros after its words. Returns `None` if these weren't
+/// enough.
 fn visit_within(
     alloc: Global,
-    script: &[u8],
+    shared: &Shared<'_>,
     explorer: &Explorer,
     spare: usize,
     last: bool,
@@ -96,25 +53,24 @@ fn visit_within(
     };
     words.resize(len, 0)?;
     words.push(u64::MAX)?;
-    let (text, left) = run(alloc, script, &words, last)?;
-    match left {
-        Some(left) if left > 0 => {
-            words.truncate(len.saturating_sub(left - 1));
-            Ok(Some(Leaf { text, words }))
-        }
-        _ => Ok(None),
+    let (text, left) = shared.run(alloc, words.clone()?, last)?;
+    if left == 0 {
+        return Ok(None);
     }
+    words.truncate(len.saturating_sub(left - 1));
+    Ok(Some(Leaf { text, words }))
 }
 
+/// The same. Doubles `spare` until the run leaves some of them.
 fn visit(
     alloc: Global,
-    script: &[u8],
+    shared: &Shared<'_>,
     explorer: &Explorer,
     spare: &mut usize,
     last: bool,
 ) -> Result<Leaf, RefusedFiles> {
     for _ in 0..64 {
-        match visit_within(alloc, script, explorer, *spare, last)? {
+        match visit_within(alloc, shared, explorer, *spare, last)? {
             Some(leaf) => return Ok(leaf),
             None => *spare = spare.saturating_mul(2),
         }
@@ -148,6 +104,7 @@ fn print_words(words: &[u64], printed: &mut String) -> Result<(), AllocError> {
 }
 
 fn print_outcomes(
+    shared: &str,
     outcomes: &IndexMap<String, Outcome>,
     printed: &mut String,
 ) -> Result<(), AllocError> {
@@ -157,6 +114,7 @@ fn print_outcomes(
         write!(printed, "# {leaves} {word}")?;
         print_words(&outcome.words, printed)?;
         printed.push('\n')?;
+        printed.push_str(shared)?;
         printed.push_str(text.as_str())?;
     }
     Ok(())
@@ -179,35 +137,83 @@ fn print_end(
     write!(printed, "# {leaves} {word}, {all}; {count} {outcome}\n")
 }
 
+/// What an exploration found: each distinct outcome by its text after the shared one, in the order of their first leaves.
+#[derive(Drop)]
+struct Found {
+    outcomes: IndexMap<String, Outcome>,
+    leaves: u64,
+    is_complete: bool,
+}
+
+/// Visits the leaves, at most `limit`.
+fn visit_leaves(
+    alloc: Global,
+    shared: &Shared<'_>,
+    limit: u64,
+    last: bool,
+) -> Result<Found, RefusedFiles> {
+    let mut explorer = Explorer::new(alloc);
+    let mut outcomes = IndexMap::new(alloc);
+    let mut spare = 64;
+    let mut leaves = 0u64;
+    for _ in 0..limit {
+        let leaf = visit(alloc, shared, &explorer, &mut spare, last)?;
+        let taken = leaf.words.len();
+        tally(&mut outcomes, leaf)?;
+        leaves = leaves.saturating_add(1);
+        if !explorer.advance(taken)? {
+            return Ok(Found {
+                outcomes,
+                leaves,
+                is_complete: true,
+            });
+        }
+    }
+    Ok(Found {
+        outcomes,
+        leaves,
+        is_complete: false,
+    })
+}
+
+/// Prints what was found. `shared` is the text with which each outcome begins.
+fn print_found(alloc: Global, shared: &str, found: &Found) -> Result<String, RefusedFiles> {
+    let mut printed = String::new(alloc);
+    print_outcomes(shared, &found.outcomes, &mut printed)?;
+    print_end(
+        &found.outcomes,
+        found.leaves,
+        found.is_complete,
+        &mut printed,
+    )?;
+    Ok(printed)
+}
+
 /// Runs a script of files once for each leaf of the tree of its draws, at most `limit` leaves, and prints its distinct outcomes: the
 /// replies to all calls, or with `last` the reply to the last one. Lines that aren't replies begin with `#`.
 ///
+/// The lines before the first draw are taken once, and each run starts from a fork of the files after them. Memory grows with the number
+/// of distinct outcomes, not with that of leaves.
+///
 /// # Errors
 ///
-/// `BadLine` of a line that isn't allowed, `NoMemory`.
+/// `BadLine` of a line that isn't allowed, `NoMemory`. With the limit 0 no line is read.
 pub fn explore_files(
     alloc: Global,
     script: &[u8],
     limit: u64,
     last: bool,
 ) -> Result<String, RefusedFiles> {
-    let mut explorer = Explorer::new(alloc);
-    let mut outcomes = IndexMap::new(alloc);
-    let mut spare = 64;
-    let mut leaves = 0u64;
-    let mut is_complete = false;
-    for _ in 0..limit {
-        let leaf = visit(alloc, script, &explorer, &mut spare, last)?;
-        let taken = leaf.words.len();
-        tally(&mut outcomes, leaf)?;
-        leaves = leaves.saturating_add(1);
-        if !explorer.advance(taken)? {
-            is_complete = true;
-            break;
-        }
+    if limit == 0 {
+        let none = Found {
+            outcomes: IndexMap::new(alloc),
+            leaves: 0,
+            is_complete: false,
+        };
+        return print_found(alloc, "", &none);
     }
-    let mut printed = String::new(alloc);
-    print_outcomes(&outcomes, &mut printed)?;
-    print_end(&outcomes, leaves, is_complete, &mut printed)?;
-    Ok(printed)
+    let shared = Shared::new(alloc, script, last)?;
+    let found = visit_leaves(alloc, &shared, limit, last)?;
+    let front = if last { "" } else { shared.text.as_str() };
+    print_found(alloc, front, &found)
 }

@@ -17,6 +17,8 @@ mod rates;
 mod remarks;
 pub mod reply_line;
 pub mod scripts;
+mod shared;
+mod taking;
 mod watch;
 
 pub use explored::{RefusedFiles, explore_files};

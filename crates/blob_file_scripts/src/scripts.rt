@@ -10,20 +10,19 @@ use blob_lab::script::RefusedLine;
 use blob_lab::scripts::Ahead;
 use blob_lab::{Ending, Output};
 use blob_script::script::read_through;
-use blob_sessions::ran::DONE;
 use memchr::memchr;
 use std::alloc::{AllocError, AllocFailed, Global};
 use std::io::{ErrorKind, Write};
 
 /// A run of a script: the reader of the lines before its files, and its files once a call or a setting has come.
-pub(crate) struct Run {
+struct Run {
     alloc: Global,
     reader: FileReader,
     files: Option<KeptFiles>,
     /// How many lines were taken.
     lines: u64,
     /// The line of the last reply.
-    pub(crate) reply: String,
+    reply: String,
     /// What the remarks need, if the run is explained.
     watch: Option<Watch>,
     /// Whether the run is explained as objects.
@@ -81,7 +80,7 @@ pub(crate) enum Stop {
 }
 
 impl Run {
-    pub(crate) fn new(alloc: Global) -> Run {
+    fn new(alloc: Global) -> Run {
         Run {
             alloc,
             reader: FileReader::new(alloc),
@@ -142,7 +141,7 @@ impl Run {
     }
 
     /// Does what a line says. Returns whether there is a reply, in `reply`, with its line feed.
-    pub(crate) fn take(&mut self, line: &[u8]) -> Result<bool, Stop> {
+    fn take(&mut self, line: &[u8]) -> Result<bool, Stop> {
         self.lines = self.lines.saturating_add(1);
         let Ok(text) = std::str::from_utf8(line) else {
             return Err(Stop::BadCall);
@@ -190,29 +189,6 @@ impl Run {
         }
         output.write_all(self.reply.as_bytes())?;
         output.write_all(&self.remarks)
-    }
-
-    /// Inserts words before those that the generator gives next. Begins the files.
-    pub(crate) fn push_words(&mut self, words: &[u64]) -> Result<(), Stop> {
-        self.begin()?;
-        let Some(files) = &mut self.files else {
-            return Err(Stop::NoMemory);
-        };
-        match files.push_words(words) {
-            DONE => Ok(()),
-            _ => Err(Stop::NoMemory),
-        }
-    }
-
-    /// Returns how many words are left, up to the last one that isn't zero. `None` if a seed gives the rest.
-    pub(crate) fn words_left(&self) -> Option<usize> {
-        let files = self.files.as_ref()?;
-        let ran = files.words_left();
-        if ran.status == DONE {
-            Some(ran.len)
-        } else {
-            None
-        }
     }
 }
 
