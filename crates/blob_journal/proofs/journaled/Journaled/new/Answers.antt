@@ -38,7 +38,7 @@ invariant_of-result g c =
       given = omega arith;
       numbered = omega (arith, o.generation);
       accepted = c.open.ensures.keeps.accepted (subst (λ (d : Directory). AcceptsOpens d) (sym (ap directory c.new-store.ensures.inner ∙ c.new-memory.ensures.directory)) (λ p n. refl));
-      kept = ∣ fixed_kept c.records.ensures.left opened journal _ [] 0 files o.current o.given fixed (o.bytes ∙ none) packed o.records o.end tt c.new-2.ensures.items ∣₁;
+      kept = ∣ fixed_kept c.records.ensures.left opened journal _ [] 0 files o.current o.given fixed (o.bytes ∙ none) packed o.records o.end tt c.new-2.ensures ∣₁;
     }
 
 pub returns-clause-told : goal.returns-clause-told

@@ -118,7 +118,7 @@ invariant_of-self-2 g c =
           let fixed_then : IsFixed begun at bytes = subst (λ (x : List ℕ). IsFixed begun at x) c.deref.ensures.value (subst (λ (o : Place). IsFixed begun o c.deref.result.now) (sym same) fixed) in
           fixed_kept c.records.ensures.left new journal _ bytes c.in_ok-bytes.count (c.remove.ensures.keeps.files (two.files, two.stands)) there (still_above begun new at.number removed given_then)
           (fixed_same begun new at bytes (c.remove.ensures.bytes at other) (c.remove.ensures.pending at other) fixed_then)
-          (b.live c.in_ok-journal.ensures.live ∙ c.deref.ensures.value) c.in_ok-bytes.ensures.packed b.records (b.end ∙ ap (λ (l : List ℕ). length l) c.deref.ensures.value) c.in_ok-bytes.ensures.settled c.clear.ensures.items);
+          (b.live c.in_ok-journal.ensures.live ∙ c.deref.ensures.value) c.in_ok-bytes.ensures.packed b.records (b.end ∙ ap (λ (l : List ℕ). length l) c.deref.ensures.value) c.in_ok-bytes.ensures.settled c.clear.ensures);
     }
 
 pub returns-clause-gives : goal.returns-clause-gives
