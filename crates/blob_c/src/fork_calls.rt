@@ -1,4 +1,4 @@
-//! A second session in the same state, and files. What they are and do is `blob_sessions` and `blob_file_sessions`.
+//! A second session in the same state, of a store or of files. What a session is and does is `blob_sessions` and `blob_file_sessions`.
 ghost use Rattle.std.specs.Prelude.{◌≡◌, ◌≢◌, ◌⊎◌, None, IsSome};
 ghost use Rattle.blob_file_sessions.specs.Forks as of_files;
 ghost use Rattle.blob_file_sessions.specs.Held.{files_of};
@@ -6,7 +6,6 @@ ghost use Rattle.blob_sessions.specs.Forks.{HasForkIn};
 ghost use Rattle.blob_sessions.specs.Sessions.{kept_of};
 
 use blob_file_sessions::Files;
-use blob_file_sessions::refusals::CRASHED;
 use blob_sessions::Session;
 use blob_sessions::ran::{BAD_CALL, CLOSED, DONE, NO_MEMORY};
 use std::alloc::Global;
@@ -35,8 +34,8 @@ pub extern "C" fn blobcrash_fork_session(
     session.fork(alloc, fork)
 }
 
-/// Opens the closed files `fork` in the state of `files`: the same names, bytes, settings and descriptors, words of the generator, supply of
-/// power and last reply. `files` stays as it is, and no call in one changes the other.
+/// Opens the closed files `fork` in the state of `files`: the same names, bytes, settings and descriptors, words of the
+/// generator, supply of power and last reply. `files` stays as it is, and no call in one changes the other.
 ///
 /// Errors, with nothing changed:
 /// - `BAD_CALL` if `fork` is open. Checked first.
@@ -50,7 +49,7 @@ pub extern "C" fn blobcrash_files_fork(alloc: Global, files: &mut Files, fork: &
     ensures refused { result ≢ DONE → files_of fork.new ≡ files_of fork.old }
     ensures open { result ≡ BAD_CALL → IsSome (files_of fork.old) }
     ensures closed { result ≡ CLOSED → files_of files.old ≡ None }
-    ensures status { (result ≡ DONE) ⊎ (result ≡ BAD_CALL) ⊎ (result ≡ CLOSED) ⊎ (result ≡ CRASHED) ⊎ (result ≡ NO_MEMORY) }
+    ensures status { of_files.IsForkStatus result }
 {
     files.fork(alloc, fork)
 }

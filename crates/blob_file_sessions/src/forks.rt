@@ -2,7 +2,7 @@
 ghost use Rattle.std.specs.Prelude.{◌≡◌, ◌≢◌, ◌⊎◌, None, IfErr, IfOk, IsSome};
 ghost use Rattle.blob_fs.specs.Errors.{IsOutOfMemory};
 ghost use Rattle.blob_fs.specs.declared.error.FsError.TheVariants.{Crashed};
-ghost use Rattle.blob_file_sessions.specs.Forks.{HasForkIn, IsKeptFork};
+ghost use Rattle.blob_file_sessions.specs.Forks.{HasForkIn, IsForkStatus, IsKeptFork};
 ghost use Rattle.blob_file_sessions.specs.Held.{files_of};
 
 use crate::copies::copied_last;
@@ -27,7 +27,7 @@ impl Files {
         ensures refused { result ≢ DONE → files_of fork.new ≡ files_of fork.old }
         ensures open { result ≡ BAD_CALL → IsSome (files_of fork.old) }
         ensures closed { result ≡ CLOSED → files_of self.old ≡ None }
-        ensures status { (result ≡ DONE) ⊎ (result ≡ BAD_CALL) ⊎ (result ≡ CLOSED) ⊎ (result ≡ CRASHED) ⊎ (result ≡ NO_MEMORY) }
+        ensures status { IsForkStatus result }
     {
         if fork.is_open() {
             return BAD_CALL;
