@@ -311,7 +311,7 @@ pub links_known : {R : Type 0} (law : KeptMayName) (j : Journaled R) (m : BTreeM
 links_known law j m keeps tree told named h inode linked =
     ∥∥₁_elim h (Coded-set coded_bool (is_some (get nat_cmp m inode)) true) (λ t.
     let name = named inode linked in
-    t.found inode (law (rule_of keeps j.unsettled.items) told.chosen (told_in j) name.0 inode (told.finds.within name.0 (file inode) name.1).0))
+    t.found inode (law (rule_of keeps j.unsettled.edits.items) told.chosen (told_in j) name.0 inode (told.finds.within name.0 (file inode) name.1).0))
 
 -- a journal that gives its names still does after a call that keeps both
 pub gives_told_after : {R : Type 0} {j j' : Journaled R} → KeepsNamesAndEdits j j' → GivesTold j → GivesTold j'

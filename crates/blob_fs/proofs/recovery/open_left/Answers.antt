@@ -44,7 +44,7 @@ returns-in_err-blob-clause-errors g c = λ q sizes.
 
 pub returns-in_err-sync_file-clause-errors : goal.returns-in_err-sync_file-clause-errors
 returns-in_err-sync_file-clause-errors g c = λ q sizes.
-    let said : error_of c.from_residual-in_err-sync_file.result ≡ error_of c.sync_file.result = search rules in
+    let said : error_of c.from_residual-in_err-sync_file.result ≡ error_of c.sync_file.result = search (rules, c.from_residual-in_err-sync_file.ensures, c.in_err-sync_file.was, c.in_err-sync_file.is, c.branch-sync_file.ensures) in
     subst (IsLimit _) (sym said) (c.sync_file.ensures.errors (c.in_ok-blob.ensures.ready q))
 
 pub returns-clause-faultless : goal.returns-clause-faultless
