@@ -8,7 +8,7 @@ use Rattle.blob_file_sessions.specs.declared.kept.KeptFiles.{KeptFiles}
 use Rattle.blob_file_sessions.proofs.kept.KeptFiles.push_words.Goals as goal
 
 -- Two file systems that differ only in the proofs of their invariants are the same.
-alike : (x : FileSystem Left) (k k' : ∥ IsKept x.store.store x.store.journal x.store.unsettled.items ∥₁) (o : ∥ AllOpen (record (x.store) { kept = k }) x.files ∥₁) (o' : ∥ AllOpen (record (x.store) { kept = k' }) x.files ∥₁)
+alike : (x : FileSystem Left) (k k' : ∥ IsKept x.store.store x.store.journal x.store.unsettled.edits.items ∥₁) (o : ∥ AllOpen (record (x.store) { kept = k }) x.files ∥₁) (o' : ∥ AllOpen (record (x.store) { kept = k' }) x.files ∥₁)
     → ◌≡◌ {A = FileSystem Left} (record x { store = record (x.store) { kept = k }; opened = o }) (record x { store = record (x.store) { kept = k' }; opened = o' })
 alike x k k' o o' =
     subst (λ kk. (oo : ∥ AllOpen (record (x.store) { kept = kk }) x.files ∥₁)
