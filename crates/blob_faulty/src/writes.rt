@@ -71,8 +71,8 @@ impl<B> Blob<B> {
         if store.next_write == u64::MAX {
             return Err(Error::GenerationsExhausted);
         }
-        let copy = Content::from_slice(store.alloc, bytes)?;
         let list = store.lists.room_for(&self.inner, self.list, Room::Entry)?;
+        let copy = Content::from_slice(store.alloc, bytes)?;
         self.write_unrecorded(store, offset, end, bytes)?;
         let number = store.next_write;
         store.next_write = number + 1;

@@ -3,7 +3,7 @@ use Rattle.std.proofs.Common.{◌≡◌, ◌∙◌, refl, sym, ap, ap₂, ℕ, z
 use Rattle.std.proofs.lemmas.Bool.{and_parts, cond-true, eqb-true}
 use Rattle.std.proofs.lemmas.List.{take-append-drop, take-take, drop-take, drop-drop, length-replicate}
 use Rattle.std.proofs.lemmas.List.Folds.{list_all-append}
-use Rattle.blob_pending.specs.Contents.{are_zeros, zeros_in}
+use Rattle.blob_pending.specs.Contents.{are_zeros, bytes_of, zeros_in}
 
 zeros_are : (n : ℕ) → are_zeros (replicate n 0) ≡ true
 zeros_are zero = refl
@@ -17,6 +17,11 @@ zeros_of [] all = refl
 zeros_of (b ∷ bytes) all =
     let both = and_parts (eqb b 0) (are_zeros bytes) all in
     ap₂ (λ (x : ℕ) (xs : List ℕ). x ∷ xs) (sym (eqb-true b 0 both.0)) (zeros_of bytes both.1)
+
+-- bytes that are held whole
+pub held_whole : (bytes : List ℕ) → bytes_of bytes (length bytes) ≡ bytes
+held_whole [] = refl
+held_whole (b ∷ bytes) = refl
 
 -- a front, and what follows it
 parts : (n : ℕ) (bytes : List ℕ) → are_zeros bytes ≡ (are_zeros (take n bytes) && are_zeros (drop n bytes))

@@ -1,20 +1,19 @@
 -- The bytes of a pending write, of which zeros are held as their number.
-use Rattle.std.specs.Prelude.{◌≡◌, ◌≤◌, ℕ, Bool, false, ◌==◌, List, length, replicate, if◌then◌else◌}
+use Rattle.std.specs.Prelude.{◌≡◌, ◌≤◌, ℕ, Bool, false, ◌==◌, List, [], ◌∷◌, length, replicate, if◌then◌else◌}
 use Rattle.std.specs.List.{list_all}
-use Rattle.blob_pending.specs.declared.content.Held.{Held}
-use Rattle.blob_pending.specs.declared.content.Held.TheVariants.{Bytes, Zeros}
-
-abbrev pub bytes_of : Held → List ℕ
-bytes_of (Bytes v) = v.items
-bytes_of (Zeros n) = replicate n 0
 
 abbrev pub are_zeros : List ℕ → Bool
 are_zeros bytes = list_all (λ byte. byte == 0) bytes
 
--- zeros are held as their number
-abbrev pub IsShort : Held → Type 0
-IsShort (Bytes v) = are_zeros v.items ≡ false
-IsShort (Zeros n) = Unit {0}
+-- the bytes of a content, by the bytes that it holds and their number
+abbrev pub bytes_of : List ℕ → ℕ → List ℕ
+bytes_of [] len = replicate len 0
+bytes_of (byte ∷ bytes) len = byte ∷ bytes
+
+-- no bytes are held of zeros, and otherwise all
+abbrev pub IsShort : List ℕ → ℕ → Type 0
+IsShort [] len = Unit {0}
+IsShort (byte ∷ bytes) len = (length (byte ∷ bytes) ≡ len) × (are_zeros (byte ∷ bytes) ≡ false)
 
 -- as many zeros as these bytes are, none if one isn't zero
 abbrev pub zeros_in : List ℕ → ℕ

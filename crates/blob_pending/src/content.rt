@@ -6,19 +6,14 @@ ghost use Rattle.blob_pending.specs.Contents.{are_zeros, zeros_in, HasZeros};
 use std::alloc::{AllocError, Global};
 use std::marker::Model;
 
-/// What is held of the bytes.
-#[derive(Drop)]
-enum Held {
-    Bytes(Vec<u8>),
-    /// As many zeros.
-    Zeros(usize),
-}
-
 /// The bytes of a pending write. Contracts see them as a list. Of zeros only the number is held: a file system may write zeros first
 /// wherever a file grows.
 #[derive(Drop)]
 pub struct Content {
-    held: Held,
+    /// The bytes, or none if all are zeros.
+    held: Vec<u8>,
+    /// How many bytes there are, so that asking for it takes no branch.
+    len: usize,
 }
 
 impl Model for Content {
@@ -28,9 +23,9 @@ impl Model for Content {
 
     ghost use Rattle.blob_pending.specs.Contents.{bytes_of, IsShort};
 
-    ghost view = { λ c. bytes_of c.held };
+    ghost view = { λ c. bytes_of c.held.items c.len };
 
-    ghost invariant = { λ c. IsShort c.held };
+    ghost invariant = { λ c. IsShort c.held.items c.len };
 }
 
 /// Returns whether the eight bytes from an index on are zeros.
@@ -102,13 +97,14 @@ impl Content {
     pub fn from_slice(alloc: Global, bytes: &[u8]) -> Result<Content, AllocError>
         ensures { IfOk result (λ made. made ≡ bytes.now) }
     {
-        if may_be_zeros(bytes) && is_of_zeros(bytes) {
-            return Ok(Content {
-                held: Held::Zeros(bytes.len()),
-            });
-        }
+        let held = if may_be_zeros(bytes) && is_of_zeros(bytes) {
+            Vec::new(alloc)
+        } else {
+            Vec::from_slice(alloc, bytes)?
+        };
         Ok(Content {
-            held: Held::Bytes(Vec::from_slice(alloc, bytes)?),
+            held,
+            len: bytes.len(),
         })
     }
 
@@ -116,20 +112,14 @@ impl Content {
     pub fn len(&self) -> usize
         ensures { result ≡ length self.now }
     {
-        match &self.held {
-            Held::Bytes(bytes) => bytes.len(),
-            Held::Zeros(count) => *count,
-        }
+        self.len
     }
 
     /// Returns how many zeros `as_slice` needs: all bytes of a content of zeros, and none of another.
     pub fn zeros(&self) -> usize
         ensures { result ≡ zeros_in self.now }
     {
-        match &self.held {
-            Held::Bytes(_) => 0,
-            Held::Zeros(count) => *count,
-        }
+        if self.held.is_empty() { self.len } else { 0 }
     }
 
     /// Returns the bytes. Those of a content of zeros are the first of `zeros`.
@@ -137,20 +127,20 @@ impl Content {
         requires { HasZeros (zeros_in self.now) zeros.now }
         ensures { result.now ≡ self.now }
     {
-        match &self.held {
-            Held::Bytes(bytes) => bytes,
-            Held::Zeros(count) => &zeros[..*count],
+        if self.held.is_empty() {
+            return &zeros[..self.len];
         }
+        &self.held
     }
 
     /// Copies the bytes into a vector. The only error is out of memory.
     pub fn to_vec(&self, alloc: Global) -> Result<Vec<u8>, AllocError>
         ensures { IfOk result (λ made. made.items ≡ self.now) }
     {
-        match &self.held {
-            Held::Bytes(bytes) => Vec::from_slice(alloc, bytes),
-            Held::Zeros(count) => vec![in alloc; 0; *count],
+        if self.held.is_empty() {
+            return vec![in alloc; 0; self.len];
         }
+        Vec::from_slice(alloc, &self.held)
     }
 }
 
@@ -159,13 +149,9 @@ impl Clone for Content {
 
     /// Returns a copy. The only error is out of memory.
     fn clone(&self) -> Result<Content, AllocError> {
-        Ok(match &self.held {
-            Held::Bytes(bytes) => Content {
-                held: Held::Bytes(Vec::from_slice(*bytes.allocator(), bytes)?),
-            },
-            Held::Zeros(count) => Content {
-                held: Held::Zeros(*count),
-            },
+        Ok(Content {
+            held: Vec::from_slice(*self.held.allocator(), &self.held)?,
+            len: self.len,
         })
     }
 }

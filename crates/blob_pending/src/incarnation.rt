@@ -1,5 +1,5 @@
 //! The pending list of one incarnation, with its markers.
-ghost use Rattle.std.specs.Prelude.{◌≡◌, ◌≤◌, vec_len};
+ghost use Rattle.std.specs.Prelude.{◌≡◌, ◌<◌, ◌≤◌, vec_len};
 ghost use Rattle.blob_model.specs.Pending.{has_barrier};
 ghost use Rattle.blob_pending.specs.Blocks.{AreBounded};
 ghost use Rattle.blob_pending.specs.Marks.{marks_of, left_marks, barriers_in};
@@ -12,6 +12,17 @@ use crate::marks::Marks;
 use crate::room::Room;
 use crate::write::PendingWrite;
 use std::alloc::{AllocError, Global};
+
+/// How many entries a list grows by at most, unless an eighth of it is more.
+const SHORT: usize = 512;
+
+/// Returns how many entries a full list of this length grows by. A short one triples, and a long one grows by an eighth: pending writes
+/// are what its memory is used for.
+fn growth(len: usize) -> usize
+    ensures { 0 < result }
+{
+    len.saturating_mul(2).min(SHORT).max(len / 8) + 4
+}
 
 /// The pending list of one incarnation.
 #[derive(Drop)]
@@ -78,8 +89,7 @@ impl<O> Incarnation<O> {
         self.ends = ends;
     }
 
-    /// Reserves capacity. For one more entry it grows by an eighth, not to its double: pending writes are what a list's memory is
-    /// used for. After an error the list is unchanged.
+    /// Reserves capacity. After an error the list is unchanged.
     pub fn reserve(&mut self, room: Room) -> Result<(), AllocError>
         ensures same { Becomes self.old self.new (left_in self.old.entries.items) }
         ensures ok { OnOk result (HasRoom room self.new) }
@@ -95,7 +105,7 @@ impl<O> Incarnation<O> {
         if self.entries.len() < self.entries.capacity() {
             return Ok(());
         }
-        self.entries.reserve_exact(self.entries.len() / 8 + 4)
+        self.entries.reserve_exact(growth(self.entries.len()))
     }
 
     /// Appends a write without holes. The list has capacity for it.

@@ -170,6 +170,9 @@ impl<S: Durable> Lists<S> {
         if self.searched {
             return find_by_steps::<S>(&self.all.lists, origin);
         }
+        if self.all.lists.is_empty() {
+            return None;
+        }
         let number = S::number_of(origin);
         let Some(i) = self.numbers.get_index_of(&number) else {
             return None;

@@ -53,14 +53,14 @@ returns-in_err-write_unrecorded-clause-recorded g c =
 pub returns-then-store-clause-recorded : goal.returns-then-store-clause-recorded
 returns-then-store-clause-recorded g c = unasked _ _ _ _ _ _ refl refl (same_view _)
 
-pub returns-in_err-copy-clause-recorded : goal.returns-in_err-copy-clause-recorded
-returns-in_err-copy-clause-recorded g c =
-    let some : IsSome (error_of c.from_residual.result) = first_of (search rules, grind (arith, common_steps)) in
-    unasked _ _ _ _ _ _ some (unwritten _ _ _ _ some) (same_view _)
-
 pub returns-in_err-list-clause-recorded : goal.returns-in_err-list-clause-recorded
 returns-in_err-list-clause-recorded g c =
-    let some : IsSome (error_of c.from_residual-in_err-list.result) = first_of (search rules, grind (arith, common_steps)) in
+    let some : IsSome (error_of c.from_residual.result) = first_of (search rules, grind (arith, common_steps)) in
+    unasked _ _ _ _ _ _ some (unwritten _ _ _ _ some) (relisted g.S.Durable g.B.Blob c.args.self.now c.args.self.now c.args.store.now (record c.args.store.now { lists = c.room_for.new.self }) refl refl refl c.room_for.ensures.same)
+
+pub returns-in_err-copy-clause-recorded : goal.returns-in_err-copy-clause-recorded
+returns-in_err-copy-clause-recorded g c =
+    let some : IsSome (error_of c.from_residual-in_err-copy.result) = first_of (search rules, grind (arith, common_steps)) in
     unasked _ _ _ _ _ _ some (unwritten _ _ _ _ some) (relisted g.S.Durable g.B.Blob c.args.self.now c.args.self.now c.args.store.now (record c.args.store.now { lists = c.room_for.new.self }) refl refl refl c.room_for.ensures.same)
 
 -- What it may return, and what was asked.
