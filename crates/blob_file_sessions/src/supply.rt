@@ -18,12 +18,12 @@ impl KeptFiles {
     pub fn supplied_apply(&mut self, asked: &FileCall, path: &[u8], to: &[u8]) -> FileReply
         ensures { AnswersSupplied self.old asked.now path.now to.now self.new result }
     {
-        let effect = effect_of_kind(asked.kind);
-        if !self.power.permits(effect) {
+        if self.power.is_off && !self.power.permits(effect_of_kind(asked.kind)) {
             return FileReply::stopped(POWER_LOSS);
         }
         let reply = self.apply(asked, path, to);
-        self.power.follow(effect, reply.status == DONE);
+        self.power
+            .follow(effect_of_kind(asked.kind), reply.status == DONE);
         reply
     }
 

@@ -8,7 +8,7 @@ use std::alloc::{AllocError, Global};
 use std::mem;
 
 /// How many slots are empty at least before they are dropped.
-const MANY: usize = 32;
+const MANY: usize = 128;
 
 /// The slots of values. A slot is empty from when its value is taken until it is dropped with others.
 #[derive(Drop)]
@@ -43,6 +43,7 @@ impl<T> Slots<T> {
     }
 
     /// Reserves a slot and a number for one more value.
+    #[inline(always)]
     pub(crate) fn reserve(&mut self) -> Result<(), AllocError>
         ensures values { values_of self.new ≡ values_of self.old }
         ensures room { OnOk result (HasRoom self.new) }
@@ -59,6 +60,7 @@ impl<T> Slots<T> {
     }
 
     /// Adds a value and returns its number.
+    #[inline(always)]
     pub(crate) fn add(&mut self, value: T) -> usize
         requires { HasRoom self.old }
         ensures number { result ≡ length (values_of self.old) }

@@ -7,14 +7,17 @@ ghost use Rattle.blob_script.specs.Readers.{IfCall, IfNoCall, SaysCall, config_o
 use crate::debts::{DebtCall, DebtReply, Debts};
 use crate::effect::Effect;
 use crate::effects::effect_of;
-use crate::kinds::{ADMIT, OPEN, OPEN_LOOSE, REMOVE_BLOB, REMOVE_PARTITION, SCAN};
+use crate::kinds::{
+    ADMIT, CLOSE, CRASH, FINISH, OPEN, OPEN_LOOSE, REMOVE_BLOB, REMOVE_PARTITION, REOPEN, RESIZE,
+    SCAN, SIZE, START_SYNC, SYNC,
+};
 use crate::power::Power;
 use crate::ran::{
-    BAD_CALL, BAD_LINE, DONE, ENDLESS, NO_MEMORY, NO_ROOM, POWER_LOSS, Ran, UNPRINTED,
+    BAD_CALL, BAD_LINE, DONE, ENDLESS, NO_MEMORY, NO_ROOM, OTHER_REPLY, POWER_LOSS, Ran, UNPRINTED,
 };
 use crate::refusals::{refused_status, write_status};
 use crate::reply_text::{line_len, write_line};
-use crate::typed::{TypedCall, TypedReply, numbered_call, versions};
+use crate::typed::{TypedCall, TypedReply, versions};
 use blob_faulty::Config;
 use blob_lab::script::{Reader, RefusedLine, read_line};
 use blob_lab::{Call, Lab, Reply};
@@ -141,18 +144,22 @@ impl Kept {
         ensures applies { Applies self.old self.new asked.now partition.now name.now result }
         ensures power { self.new.power ≡ self.old.power }
     {
-        match asked.kind {
-            OPEN | OPEN_LOOSE | ADMIT | REMOVE_BLOB | REMOVE_PARTITION | SCAN => {
-                self.apply_named(asked, partition, name)
-            }
-            _ => match numbered_call(asked) {
-                Some(call) => {
-                    self.make(&call);
-                    self.last()
-                }
-                None => TypedReply::stopped(BAD_CALL),
-            },
+        if let OPEN | OPEN_LOOSE | ADMIT | REMOVE_BLOB | REMOVE_PARTITION | SCAN = asked.kind {
+            return self.apply_named(asked, partition, name);
         }
+        let reply = match asked.kind {
+            CLOSE => self.lab.close(asked.number),
+            RESIZE => self.lab.resize(asked.number, asked.first),
+            SIZE => self.lab.size(asked.number),
+            SYNC => self.lab.sync(asked.number),
+            START_SYNC => self.lab.start_sync(asked.number),
+            FINISH => self.lab.finish(asked.number),
+            CRASH => self.lab.apply(&Call::Crash),
+            REOPEN => self.lab.reopen(),
+            _ => return TypedReply::stopped(BAD_CALL),
+        };
+        self.last = Some(reply);
+        self.last()
     }
 
     /// Makes a typed call by partition and name. It isn't inlined, since a function clears its locals each time.
@@ -207,10 +214,17 @@ impl Kept {
         ensures writes { AnswersWrite self.old self.new handle offset bytes.now sync result }
         ensures power { self.new.power ≡ self.old.power }
     {
-        let reply = self.lab.write(handle, offset, bytes, sync);
-        let status = write_status(&reply);
-        self.last = Some(reply);
-        status
+        match self.lab.write(handle, offset, bytes, sync) {
+            Reply::Done => {
+                self.last = Some(Reply::Done);
+                DONE
+            }
+            refused => {
+                let status = write_status(&refused);
+                self.last = Some(refused);
+                status
+            }
+        }
     }
 
     /// Reads as many bytes through a handle as `into` has.
@@ -218,16 +232,21 @@ impl Kept {
         ensures reads { AnswersRead self.old self.new handle offset result into.old into.new }
         ensures power { self.new.power ≡ self.old.power }
     {
-        let reply = self.lab.read(handle, offset, into.len());
-        let status = match &reply {
-            Reply::Bytes(bytes) if bytes.len() == into.len() => {
-                into.copy_from_slice(bytes);
-                DONE
+        match self.lab.read(handle, offset, into.len()) {
+            Reply::Bytes(bytes) => {
+                let is_whole = bytes.len() == into.len();
+                if is_whole {
+                    into.copy_from_slice(&bytes);
+                }
+                self.last = Some(Reply::Bytes(bytes));
+                if is_whole { DONE } else { OTHER_REPLY }
             }
-            _ => refused_status(&reply),
-        };
-        self.last = Some(reply);
-        status
+            refused => {
+                let status = refused_status(&refused);
+                self.last = Some(refused);
+                status
+            }
+        }
     }
 
     /// Returns how many words of the generator are left, up to the last one that isn't zero. `ENDLESS` if a seed gives the words

@@ -58,12 +58,12 @@ impl Kept {
     pub fn supplied_apply(&mut self, asked: &TypedCall, partition: &[u8], name: &[u8]) -> TypedReply
         ensures { AppliesSupplied self.old self.new asked.now partition.now name.now result }
     {
-        let effect = effect_of_kind(asked.kind);
-        if !self.power.permits(effect) {
+        if self.power.is_off && !self.power.permits(effect_of_kind(asked.kind)) {
             return TypedReply::stopped(POWER_LOSS);
         }
         let reply = self.apply(asked, partition, name);
-        self.power.follow(effect, reply.status == DONE);
+        self.power
+            .follow(effect_of_kind(asked.kind), reply.status == DONE);
         reply
     }
 

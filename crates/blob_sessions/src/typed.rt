@@ -1,13 +1,12 @@
 // Calls and replies without text.
 ghost use Rattle.std.specs.Prelude.{◌≡◌, Some, None, IfSome, IfNone};
-ghost use Rattle.blob_script.specs.Acts.{act_of, versions_of};
-ghost use Rattle.blob_sessions.specs.Typed.{by_kind, numbered_acts, sized, typed_reply, typed_versions, without_reply};
+ghost use Rattle.blob_script.specs.Acts.{versions_of};
+ghost use Rattle.blob_sessions.specs.Typed.{sized, typed_reply, typed_versions, without_reply};
 
-use crate::kinds::{CLOSE, CRASH, FINISH, REOPEN, RESIZE, SIZE, START_SYNC, SYNC};
 use crate::ran::DONE;
 use crate::refusals::{EMPTY_RANGE, NO_HANDLE, status_of};
 use blob_base::BlobVersion;
-use blob_lab::{Call, Reply};
+use blob_lab::Reply;
 use std::ops::RangeInclusive;
 
 /// A call's kind and numbers. A kind ignores the numbers that it doesn't name.
@@ -94,27 +93,6 @@ impl TypedReply {
             Reply::NoHandle => TypedReply::stopped(NO_HANDLE),
             Reply::EmptyRange => TypedReply::stopped(EMPTY_RANGE),
         }
-    }
-}
-
-/// Returns a call that has numbers alone. `None` if the kind is of a call by partition and name, or unknown.
-pub fn numbered_call(asked: &TypedCall) -> Option<Call>
-    ensures some { IfSome result (λ call. by_kind asked.now.kind (numbered_acts asked.now) ≡ Some (act_of call)) }
-    ensures none { IfNone result (by_kind asked.now.kind (numbered_acts asked.now) ≡ None) }
-{
-    match asked.kind {
-        CLOSE => Some(Call::Close(asked.number)),
-        RESIZE => Some(Call::Resize {
-            handle: asked.number,
-            len: asked.first,
-        }),
-        SIZE => Some(Call::Size(asked.number)),
-        SYNC => Some(Call::Sync(asked.number)),
-        START_SYNC => Some(Call::StartSync(asked.number)),
-        FINISH => Some(Call::Finish(asked.number)),
-        CRASH => Some(Call::Crash),
-        REOPEN => Some(Call::Reopen),
-        _ => None,
     }
 }
 

@@ -84,7 +84,8 @@ impl Lab {
         }
     }
 
-    pub(crate) fn resize(&mut self, number: usize, len: u64) -> Reply
+    /// Makes the call `Call::Resize`.
+    pub fn resize(&mut self, number: usize, len: u64) -> Reply
         ensures { Performs self.old (Through number (Resize len)) result self.new }
     {
         let Some(i) = self.handles.index(number) else {
@@ -109,7 +110,8 @@ impl Lab {
         }
     }
 
-    pub(crate) fn sync(&mut self, number: usize) -> Reply
+    /// Makes the call `Call::Sync`.
+    pub fn sync(&mut self, number: usize) -> Reply
         ensures { Performs self.old (Through number Sync) result self.new }
     {
         let Some(i) = self.handles.index(number) else {
@@ -124,7 +126,8 @@ impl Lab {
         }
     }
 
-    pub(crate) fn start_sync(&mut self, number: usize) -> Reply
+    /// Makes the call `Call::StartSync`.
+    pub fn start_sync(&mut self, number: usize) -> Reply
         ensures { Performs self.old (Through number StartSync) result self.new }
     {
         let Some(i) = self.handles.index(number) else {
@@ -136,8 +139,8 @@ impl Lab {
         }
     }
 
-    /// Completes a started sync and returns its outcome.
-    pub(crate) fn finish(&mut self, number: usize) -> Reply
+    /// Makes the call `Call::Finish`: completes a started sync and returns its outcome. Makes no draw.
+    pub fn finish(&mut self, number: usize) -> Reply
         ensures { Performs self.old (Finish number) result self.new }
     {
         let Some(started) = self.syncs.take(number) else {

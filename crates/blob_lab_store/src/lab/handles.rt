@@ -108,6 +108,7 @@ impl Handles {
     }
 
     /// Reserves capacity and a number for one more handle. The only error is `Memory`.
+    #[inline(always)]
     pub(crate) fn reserve(&mut self) -> Result<(), Error>
         ensures handles { handles_of self.new ≡ handles_of self.old }
         ensures room { OnOk result (HasFreeSlot self.new) }
@@ -118,6 +119,7 @@ impl Handles {
     }
 
     /// Adds a handle and returns its number. The table has capacity for it.
+    #[inline(always)]
     pub(crate) fn add(&mut self, handle: Handle) -> usize
         requires { HasFreeSlot self.old }
         ensures number { result ≡ length (handles_of self.old) }

@@ -87,7 +87,7 @@ impl Lab {
     }
 
     /// Closes a handle. If it has the name open, the name is no longer open.
-    pub(crate) fn close(&mut self, number: usize) -> Reply
+    pub fn close(&mut self, number: usize) -> Reply
         ensures { Performs self.old (Close number) result self.new }
     {
         match self.handles.take(number) {

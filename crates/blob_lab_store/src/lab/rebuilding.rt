@@ -40,7 +40,7 @@ fn placeholder(alloc: Global) -> Wrapper {
 impl Lab {
     /// Rebuilds the store from a snapshot and wraps it again. All opens end and all started syncs are dropped. Handles stay and
     /// are stale.
-    pub(crate) fn reopen(&mut self) -> Reply
+    pub fn reopen(&mut self) -> Reply
         ensures { Performs self.old Reopen result self.new }
     {
         let wrapper = mem::replace(&mut self.wrapper, placeholder(self.alloc));
