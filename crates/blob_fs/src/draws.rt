@@ -1,5 +1,5 @@
 //! Failures of writes and truncations that are drawn before anything is done.
-ghost use Rattle.std.specs.Prelude.{◌≡◌, ◌≤◌, IfOk, OnOk, false, true};
+ghost use Rattle.std.specs.Prelude.{◌≡◌, ◌≤◌, IfOk, IfSome, false, true};
 ghost use Rattle.blob_fs.specs.declared.switches.FailedWrite.TheVariants.{ByMode};
 ghost use Rattle.blob_model.specs.Rates.{sample};
 ghost use Rattle.blob_fs.specs.Draws.{OnlyDraws};
@@ -68,56 +68,50 @@ impl<R: Rng + Drop> FileSystem<R> {
     }
 
     /// Draws whether a write fails, if the file has a truncation that no sync made durable: then a failed write leaves nothing,
-    /// since its bytes couldn't be told from those that the truncation cut. Returns how to make the write.
-    ///
-    /// # Errors
-    ///
-    /// `Injected`: it fails.
-    pub(crate) fn draw_write(&mut self, is_cut: bool) -> Result<FailedWrite, FsError>
-        ensures how { IfOk result (λ how. failed_write_of self.old ≡ ByMode → how ≡ ByMode) }
+    /// since its bytes couldn't be told from those that the truncation cut. Returns how to make the write, or `None` if it fails.
+    #[inline(always)]
+    fn draw_write(&mut self, is_cut: bool) -> Option<FailedWrite>
+        ensures how { IfSome result (λ how. failed_write_of self.old ≡ ByMode → how ≡ ByMode) }
         ensures drawn { OnlyDraws self.old self.new }
-        ensures rates { OnOk result (KeepsAsSet self.old → KeepsAsSet self.new) }
+        ensures rates { IfSome result (λ how. KeepsAsSet self.old → KeepsAsSet self.new) }
     {
         if !is_cut {
-            return Ok(self.options.failed_write);
+            return Some(self.options.failed_write);
         }
         let Some(writes) = self.options.faults.write_rate else {
-            return Ok(self.options.failed_write);
+            return Some(self.options.failed_write);
         };
         if self.draws(writes.failure_rate) {
-            return Err(Error::Injected.into());
+            return None;
         }
         let config = with_writes(&self.options.faults, Probability::ZERO, writes);
         self.store.set_config(config);
-        Ok(FailedWrite::ByMode)
+        Some(FailedWrite::ByMode)
     }
 
     /// Draws as `draw_write`. If the write makes the file longer by zeros and bytes, it draws whether the write fails too: then it writes
-    /// no zeros. Returns how to make the write, and whether to write zeros.
-    ///
-    /// # Errors
-    ///
-    /// Those of `draw_write`.
+    /// no zeros. Returns how to make the write, and whether to write zeros, or `None` if it fails.
+    #[inline(always)]
     pub(crate) fn draw_growth(
         &mut self,
         is_cut: bool,
         is_plain: bool,
-    ) -> Result<(FailedWrite, bool), FsError>
-        ensures how { IfOk result (λ r. failed_write_of self.old ≡ ByMode → r.0 ≡ ByMode) }
+    ) -> Option<(FailedWrite, bool)>
+        ensures how { IfSome result (λ r. failed_write_of self.old ≡ ByMode → r.0 ≡ ByMode) }
         ensures drawn { OnlyDraws self.old self.new }
-        ensures rates { OnOk result (is_plain ≡ true → KeepsAsSet self.old → KeepsAsSet self.new) }
+        ensures rates { IfSome result (λ r. is_plain ≡ true → KeepsAsSet self.old → KeepsAsSet self.new) }
     {
         if is_plain || is_cut {
             let how = self.draw_write(is_cut)?;
-            return Ok((how, true));
+            return Some((how, true));
         }
         let Some(writes) = self.options.faults.write_rate else {
-            return Ok((self.options.failed_write, false));
+            return Some((self.options.failed_write, false));
         };
         let is_failed = self.draws(writes.failure_rate);
         let how = self.options.failed_write;
         self.store
             .set_config(decided(&self.options.faults, how, writes, is_failed));
-        Ok((FailedWrite::ByMode, !is_failed))
+        Some((FailedWrite::ByMode, !is_failed))
     }
 }

@@ -16,6 +16,7 @@ use crate::error::FsError;
 use crate::file_system::{Descriptor, File, FileSystem};
 use crate::writes::{chosen, write_grown, zeros_end};
 use crate::zeros::Zeros;
+use blob_base::Error;
 use blob_directory::edit::Kind;
 use blob_journal::FileBlob;
 use rand_core::Rng;
@@ -347,7 +348,9 @@ impl<R: Rng + Drop> FileSystem<R> {
         let end = offset.saturating_add(bytes.len() as u64);
         self.check_room(extent.size, end)?;
         let zeros = self.zeros_from(extent.end, offset, end)?;
-        let (how, is_zeroed) = self.draw_growth(extent.is_cut, zeros.is_empty())?;
+        let Some((how, is_zeroed)) = self.draw_growth(extent.is_cut, zeros.is_empty()) else {
+            return Err(Error::Injected.into());
+        };
         let zeros = chosen(is_zeroed, zeros.as_slice());
         let next_edit = self.store.next_edit();
         let Some(found) = self.files.get_mut(&inode) else {

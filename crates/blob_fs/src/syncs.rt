@@ -70,19 +70,6 @@ impl<R: Rng + Drop> FileSystem<R> {
         Ok(())
     }
 
-    /// Returns the number of the next edit after a file's size last changed.
-    fn sized(&self, inode: u64) -> Result<u64, FsError>
-        ensures { OnOk result (inode < fresh_inode self.now) }
-    {
-        if inode >= self.next_inode {
-            return Err(FsError::Stale);
-        }
-        let Some(file) = self.files.get(&inode) else {
-            return Err(FsError::Stale);
-        };
-        Ok(file.as_ref().sized)
-    }
-
     /// Syncs an inode's bytes. Returns the number of the next edit after its size last changed.
     fn sync_bytes(&mut self, inode: u64) -> Result<u64, FsError>
         ensures keeps { KeepsState self.old self.new }
@@ -91,11 +78,14 @@ impl<R: Rng + Drop> FileSystem<R> {
         ensures seen { OnOk result (KeepsSeen self.old self.new) }
         ensures uncut { OnOk result (IsUncut self.new inode) }
     {
-        let sized = self.sized(inode)?;
+        if inode >= self.next_inode {
+            return Err(FsError::Stale);
+        }
         let Some(file) = self.files.get_mut(&inode) else {
             return Err(FsError::Stale);
         };
         let file = file.as_mut();
+        let sized = file.sized;
         if let Err(error) = self.store.sync_file(&mut file.blob) {
             return Err(self.fail_sync(inode, error));
         }

@@ -1,4 +1,4 @@
-use Rattle.std.proofs.Common.{refl, ◌<◌, ◌≤◌, ◌^◌, inr, arith, ◌∙◌, Some, ap, ◌≡◌, [], subst}
+use Rattle.std.proofs.Common.{rules, refl, ◌<◌, ◌≤◌, ◌^◌, inr, arith, ◌∙◌, Some, ap, ◌≡◌, [], subst}
 use Rattle.blob_fs.specs.declared.file_system.File.{File}
 use Rattle.blob_faulty.specs.Wrapper.{size_of}
 use Rattle.blob_fs.proofs.Fixed.{fixed_changed, sets_through}
@@ -71,7 +71,7 @@ returns-clause-fixes g c =
     let was = c.as_mut-file.result.now in
     let there = ap Some c.as_mut-file.ensures.value ∙ c.in-Some.ensures.value in
     let new : File = record was { blob = c.sync_file.new.file; synced = c.size-file.result; truncations = c.clear.new.self } in
-    fixes_synced fs _ c.args.inode was new c.in_ok-sized.ensures there
+    fixes_synced fs _ c.args.inode was new (first_of (search rules, omega arith)) there
     (sets_through fs.files (c.get_mut.follows.lender new) c.args.inode was new there (c.get_mut.follows.holds new))
     c.in_default-sync_file.ensures.fixes c.size-file.ensures c.clear.ensures.items fs.opened
 

@@ -51,8 +51,8 @@ returns-in_err-extent-clause-fixed g c = λ inode at byte below spared f. c.begi
 pub returns-in_err-check_room-clause-fixed : goal.returns-in_err-check_room-clause-fixed
 returns-in_err-check_room-clause-fixed g c = λ inode at byte below spared f. c.begin_call.ensures.keeps.fixed inode at byte below f
 
-pub returns-in_err-how-clause-fixed : goal.returns-in_err-how-clause-fixed
-returns-in_err-how-clause-fixed g c = λ inode at byte below spared f. c.draw_growth.ensures.drawn.fixed inode at byte below (c.begin_call.ensures.keeps.fixed inode at byte below f)
+pub returns-in_default-clause-fixed : goal.returns-in_default-clause-fixed
+returns-in_default-clause-fixed g c = λ inode at byte below spared f. c.draw_growth.ensures.drawn.fixed inode at byte below (c.begin_call.ensures.keeps.fixed inode at byte below f)
 
 pub returns-in_err-zeros-clause-fixed : goal.returns-in_err-zeros-clause-fixed
 returns-in_err-zeros-clause-fixed g c = λ inode at byte below spared f. c.begin_call.ensures.keeps.fixed inode at byte below f
@@ -65,19 +65,19 @@ invariant_of-self g c =
     let one = c.draw_growth.new.self in
     standing_none one c.get_mut.follows.lender-at-none c.get_mut.follows.holds-at-none
 
-pub returns-in_default-clause-fixed : goal.returns-in_default-clause-fixed
-returns-in_default-clause-fixed g c =
+pub returns-in_default-get_mut-clause-fixed : goal.returns-in_default-get_mut-clause-fixed
+returns-in_default-get_mut-clause-fixed g c =
     let one = c.draw_growth.new.self in
     let more : one.next_inode ≤ one.next_inode = omega arith in
     λ inode at byte below spared f.
     fixed_after one _ more (contents_same one.files c.get_mut.follows.lender-at-none c.get_mut.follows.holds-at-none) (still_self one.store) inode at byte below
     (c.draw_growth.ensures.drawn.fixed inode at byte below (c.begin_call.ensures.keeps.fixed inode at byte below f))
 
-pub invariant_of-self-in-Break-branch-7 : goal.invariant_of-self-in-Break-branch-7
-invariant_of-self-in-Break-branch-7 g c =
+pub invariant_of-self-in-Break-branch-6 : goal.invariant_of-self-in-Break-branch-6
+invariant_of-self-in-Break-branch-6 g c =
     let one = c.draw_growth.new.self in
     let was = c.as_mut-found.result.now in
-    let there = ap Some c.as_mut-found.ensures.value ∙ c.in-Some.ensures.value in
+    let there = ap Some c.as_mut-found.ensures.value ∙ c.in-Some-get_mut.ensures.value in
     let new : File = c.reserve_shown.new.self in
     standing_through one (c.get_mut.follows.lender new) c.in_ok-inode.inode was new there (c.get_mut.follows.holds new) c.reserve_shown.ensures.content (same_at_most (sym c.reserve_shown.ensures.links)) c.reserve_shown.ensures.gone
 
@@ -88,14 +88,14 @@ returns-in_err-reserve_shown-clause-fixed g c =
     let new : File = c.reserve_shown.new.self in
     let more : one.next_inode ≤ one.next_inode = omega arith in
     λ inode at byte below spared f.
-    fixed_after one _ more (contents_through one.files (c.get_mut.follows.lender new) c.in_ok-inode.inode was new (ap Some c.as_mut-found.ensures.value ∙ c.in-Some.ensures.value) (c.get_mut.follows.holds new) c.reserve_shown.ensures.content)
+    fixed_after one _ more (contents_through one.files (c.get_mut.follows.lender new) c.in_ok-inode.inode was new (ap Some c.as_mut-found.ensures.value ∙ c.in-Some-get_mut.ensures.value) (c.get_mut.follows.holds new) c.reserve_shown.ensures.content)
     (still_self one.store) inode at byte below (c.draw_growth.ensures.drawn.fixed inode at byte below (c.begin_call.ensures.keeps.fixed inode at byte below f))
 
 pub invariant_of-self-2 : goal.invariant_of-self-2
 invariant_of-self-2 g c =
     let one = c.draw_growth.new.self in
     let was = c.as_mut-found.result.now in
-    let there = ap Some c.as_mut-found.ensures.value ∙ c.in-Some.ensures.value in
+    let there = ap Some c.as_mut-found.ensures.value ∙ c.in-Some-get_mut.ensures.value in
     let new : File = c.end_write-now.new.self in
     let spares = IsBeside c.args.offset (length c.args.bytes.now) in
     let changes : ChangesOpen spares one.store was.blob c.write_grown-written.new.store new.blob =
@@ -114,7 +114,7 @@ returns-in-Ok-clause-recorded g c = λ by_mode no_zeros.
     let crashes = c.in_ok-begin_call.ensures.crashes in
     let inode = c.in_ok-inode.inode in
     let found : File = c.as_mut-found.result.now in
-    let there = ap Some c.as_mut-found.ensures.value ∙ c.in-Some.ensures.value in
+    let there = ap Some c.as_mut-found.ensures.value ∙ c.in-Some-get_mut.ensures.value in
     let small : inode < 2 ^ 64 = omega arith in
     let opened = ap (λ (m : BTreeMap ℕ ℕ). get nat_cmp m (descriptor_number c.args.file)) (sym same.opens) ∙ c.in_ok-inode.ensures in
     let filed = ap (λ (m : BTreeMap ℕ File). get nat_cmp m inode) (sym (drawn.files.files ∙ same.files)) ∙ sym there in
@@ -124,11 +124,11 @@ returns-in-Ok-clause-recorded g c = λ by_mode no_zeros.
     let none : length c.in_ok-zeros.zeros ≡ 0 = c.in_ok-zeros.ensures.none
     (none_below (profile_of begun) c.in_ok-extent.extent.end c.args.offset (c.args.offset + length c.args.bytes.now) c.saturating_add-end.result (omega (arith, c.saturating_add-end.ensures)) plain) in
     let empty_zeros : c.is_empty.result ≡ true = grind (arith, none, c.is_empty.ensures) in
-    let how = c.in_ok-how.ensures.how (ap (λ (o : Options). o.failed_write) same.options ∙ by_mode) in
+    let how = c.in-Some.ensures.how (ap (λ (o : Options). o.failed_write) same.options ∙ by_mode) in
     let offset = c.args.offset in
     let bytes = c.args.bytes.now in
     let set : KeepsAsSet begun = ap (λ (r : Config). retention r.write_rate) (c.in_ok-begin_call.ensures.rates ∙ sym (ap (λ (o : Options). o.faults) same.options)) in
-    let kept : retention (rates_of one).write_rate ≡ retention (faults_of fs).write_rate = c.in_ok-how.ensures.rates empty_zeros set ∙ ap (λ (o : Options). retention o.faults.write_rate) (drawn.files.options ∙ same.options) in
+    let kept : retention (rates_of one).write_rate ≡ retention (faults_of fs).write_rate = c.in-Some.ensures.rates empty_zeros set ∙ ap (λ (o : Options). retention o.faults.write_rate) (drawn.files.options ∙ same.options) in
     let entries : journal_entries (store_of one.store) offset bytes ≡ entries_of_write fs offset bytes =
     ap₂ (λ (k : Option (PartialWriteMode × Rate)) (n : ℕ). loose k n offset bytes) kept (drawn.crashes.next_write ∙ crashes.next_write) in
     was_ok c.write_grown-written.result _ c.in-Ok.is c.write_grown-written.ensures.recorded (λ recorded.
@@ -157,7 +157,7 @@ pub returns-clause-fixed : goal.returns-clause-fixed
 returns-clause-fixed g c =
     let one = c.draw_growth.new.self in
     let was = c.as_mut-found.result.now in
-    let there = ap Some c.as_mut-found.ensures.value ∙ c.in-Some.ensures.value in
+    let there = ap Some c.as_mut-found.ensures.value ∙ c.in-Some-get_mut.ensures.value in
     let new : File = c.end_write-now.new.self in
     let spares = IsBeside c.args.offset (length c.args.bytes.now) in
     let sets = sets_through one.files (c.get_mut.follows.lender new) c.in_ok-inode.inode was new there (c.get_mut.follows.holds new) in
@@ -174,7 +174,7 @@ pub returns-in-Ok-clause-fixed : goal.returns-in-Ok-clause-fixed
 returns-in-Ok-clause-fixed g c =
     let one = c.draw_growth.new.self in
     let was = c.as_mut-found.result.now in
-    let there = ap Some c.as_mut-found.ensures.value ∙ c.in-Some.ensures.value in
+    let there = ap Some c.as_mut-found.ensures.value ∙ c.in-Some-get_mut.ensures.value in
     let new : File = c.end_write-now.new.self in
     let spares = IsBeside c.args.offset (length c.args.bytes.now) in
     let sets = sets_through one.files (c.get_mut.follows.lender new) c.in_ok-inode.inode was new there (c.get_mut.follows.holds new) in
@@ -199,11 +199,11 @@ returns-in_err-extent-clause-cuts g c = cuts_same c.args.self.now.files c.begin_
 pub returns-in_err-check_room-clause-cuts : goal.returns-in_err-check_room-clause-cuts
 returns-in_err-check_room-clause-cuts g c = cuts_same c.args.self.now.files c.begin_call.new.self.files c.begin_call.ensures.files.files
 
-pub returns-in_err-how-clause-cuts : goal.returns-in_err-how-clause-cuts
-returns-in_err-how-clause-cuts g c = cuts_same c.args.self.now.files c.draw_growth.new.self.files (c.draw_growth.ensures.drawn.files.files ∙ c.begin_call.ensures.files.files)
-
 pub returns-in_default-clause-cuts : goal.returns-in_default-clause-cuts
-returns-in_default-clause-cuts g c =
+returns-in_default-clause-cuts g c = cuts_same c.args.self.now.files c.draw_growth.new.self.files (c.draw_growth.ensures.drawn.files.files ∙ c.begin_call.ensures.files.files)
+
+pub returns-in_default-get_mut-clause-cuts : goal.returns-in_default-get_mut-clause-cuts
+returns-in_default-get_mut-clause-cuts g c =
     let one = c.draw_growth.new.self in
     cuts_from c.args.self.now.files one.files c.get_mut.follows.lender-at-none (c.draw_growth.ensures.drawn.files.files ∙ c.begin_call.ensures.files.files)
     (cuts_same one.files c.get_mut.follows.lender-at-none c.get_mut.follows.holds-at-none)
@@ -214,13 +214,13 @@ returns-in_err-reserve_shown-clause-cuts g c =
     let was = c.as_mut-found.result.now in
     let new : File = c.reserve_shown.new.self in
     cuts_from c.args.self.now.files one.files (c.get_mut.follows.lender new) (c.draw_growth.ensures.drawn.files.files ∙ c.begin_call.ensures.files.files)
-    (cuts_of one.files (c.get_mut.follows.lender new) (contents_through one.files (c.get_mut.follows.lender new) c.in_ok-inode.inode was new (ap Some c.as_mut-found.ensures.value ∙ c.in-Some.ensures.value) (c.get_mut.follows.holds new) c.reserve_shown.ensures.content))
+    (cuts_of one.files (c.get_mut.follows.lender new) (contents_through one.files (c.get_mut.follows.lender new) c.in_ok-inode.inode was new (ap Some c.as_mut-found.ensures.value ∙ c.in-Some-get_mut.ensures.value) (c.get_mut.follows.holds new) c.reserve_shown.ensures.content))
 
 pub returns-clause-cuts : goal.returns-clause-cuts
 returns-clause-cuts g c =
     let one = c.draw_growth.new.self in
     let was = c.as_mut-found.result.now in
-    let there = ap Some c.as_mut-found.ensures.value ∙ c.in-Some.ensures.value in
+    let there = ap Some c.as_mut-found.ensures.value ∙ c.in-Some-get_mut.ensures.value in
     let new : File = c.end_write-now.new.self in
     let sets = sets_through one.files (c.get_mut.follows.lender new) c.in_ok-inode.inode was new there (c.get_mut.follows.holds new) in
     cuts_from c.args.self.now.files one.files c.count.new.self.files (c.draw_growth.ensures.drawn.files.files ∙ c.begin_call.ensures.files.files)
@@ -234,7 +234,7 @@ pub returns-in-Ok-clause-cuts : goal.returns-in-Ok-clause-cuts
 returns-in-Ok-clause-cuts g c =
     let one = c.draw_growth.new.self in
     let was = c.as_mut-found.result.now in
-    let there = ap Some c.as_mut-found.ensures.value ∙ c.in-Some.ensures.value in
+    let there = ap Some c.as_mut-found.ensures.value ∙ c.in-Some-get_mut.ensures.value in
     let new : File = c.end_write-now.new.self in
     let sets = sets_through one.files (c.get_mut.follows.lender new) c.in_ok-inode.inode was new there (c.get_mut.follows.holds new) in
     cuts_from c.args.self.now.files one.files c.count.new.self.files (c.draw_growth.ensures.drawn.files.files ∙ c.begin_call.ensures.files.files)
@@ -248,7 +248,7 @@ pub write_grown-written-requires : goal.write_grown-written-requires
 write_grown-written-requires g c =
     let fs = c.args.self.now in
     let found : File = c.as_mut-found.result.now in
-    let there = ap Some c.as_mut-found.ensures.value ∙ c.in-Some.ensures.value in
+    let there = ap Some c.as_mut-found.ensures.value ∙ c.in-Some-get_mut.ensures.value in
     let end = c.in_ok-extent.ensures found (ap (λ (m : BTreeMap ℕ File). get nat_cmp m c.in_ok-inode.inode) (sym c.draw_growth.ensures.drawn.files.files) ∙ sym there) in
     let same : size_of c.reserve_shown.new.self.blob.blob ≡ size_of found.blob.blob = ap (λ (b : FileBlob). size_of b.blob) c.reserve_shown.ensures.content.blob in
     omega (arith, same, end)
@@ -261,7 +261,7 @@ returns-in-Ok-clause-shows g c = λ by_mode.
     let drawn = c.draw_growth.ensures.drawn in
     let inode = c.in_ok-inode.inode in
     let found : File = c.as_mut-found.result.now in
-    let there = ap Some c.as_mut-found.ensures.value ∙ c.in-Some.ensures.value in
+    let there = ap Some c.as_mut-found.ensures.value ∙ c.in-Some-get_mut.ensures.value in
     let small : inode < 2 ^ 64 = omega arith in
     let new : File = c.end_write-now.new.self in
     let blob = c.reserve_shown.new.self.blob in
@@ -269,7 +269,7 @@ returns-in-Ok-clause-shows g c = λ by_mode.
     let bytes = c.args.bytes.now in
     let from = c.in_ok-extent.extent.end in
     let size : size_of found.blob.blob ≡ from = c.in_ok-extent.ensures found (ap (λ (m : BTreeMap ℕ File). get nat_cmp m inode) (sym drawn.files.files) ∙ sym there) in
-    let how = c.in_ok-how.ensures.how (ap (λ (o : Options). o.failed_write) same.options ∙ by_mode) in
+    let how = c.in-Some.ensures.how (ap (λ (o : Options). o.failed_write) same.options ∙ by_mode) in
     let less : from + length c.in_ok-zeros.zeros ≤ max from (offset + length bytes) = omega (arith, c.in_ok-zeros.ensures.within, c.saturating_add-end.ensures) in
     let sets = sets_through one.files (c.get_mut.follows.lender new) inode found new there (c.get_mut.follows.holds new) in
     was_ok c.write_grown-written.result _ c.in-Ok.is c.write_grown-written.ensures.shows (λ shows. record {
