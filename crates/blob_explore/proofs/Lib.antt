@@ -1,9 +1,7 @@
 pub mod Runs
 pub mod SharedRuns
 pub mod Visiting
-pub mod Distinct
-pub mod Table
-pub mod Behind
+pub mod LastReply
 pub mod Exploring
 pub mod Adding
 pub mod Reading

@@ -1,26 +1,15 @@
 -- One run over given words.
 use Rattle.std.proofs.Common.{◌≡◌, ◌<◌, ℕ, ◌+◌, ◌-◌, Bool, List, [], ◌∷◌, ◌++◌, length, take, Option, Some, sym, ap, ◌∙◌, subst, arith}
-use Rattle.std.specs.Prelude.{Vec, String}
-use Rattle.std.specs.Global.{Global}
-use Rattle.std.proofs.lemmas.List.{map-append}
 use Rattle.blob_script.specs.declared.reply.Reply.{Reply}
-use Rattle.blob_lab_store.specs.Tables.{images_of}
-use Rattle.blob_lab_model.specs.States.{Image}
 use Rattle.blob_tree.specs.Trees.{extend_path, words_of}
 use Rattle.blob_choices.specs.Explored.{LeftCountsTaken, sentinel_words}
 use Rattle.blob_choices.specs.Outcomes.{NoneOutOfMemory}
-use Rattle.blob_explore.specs.Explorations.{Images, Ran, TakesPath, image_of, start_of}
+use Rattle.blob_explore.specs.Explorations.{Ran, TakesPath, start_of}
 use Rattle.blob_explore.specs.declared.script.Script.{Script}
 
 pub none_both : (replies more : List Reply) → NoneOutOfMemory replies → NoneOutOfMemory more → NoneOutOfMemory (replies ++ more)
 none_both [] more all rest = rest
 none_both (x ∷ replies) more all rest = (all.0, none_both replies more all.1 rest)
-
-pub images_more : (xs all new : Images) (x y : String Global × Vec ℕ Global × Vec ℕ Global) (i : ℕ) → images_of all ≡ images_of (take i xs) → new ≡ all ++ y ∷ [] → image_of y ≡ image_of x
-    → take (i + 1) xs ≡ take i xs ++ x ∷ [] → images_of new ≡ images_of (take (i + 1) xs)
-images_more xs all new x y i before now same more =
-    ap images_of now ∙ map-append image_of all (y ∷ []) ∙ ap (λ (is : List Image). is ++ image_of y ∷ []) before ∙ ap (λ (im : Image). images_of (take i xs) ++ im ∷ []) same
-    ∙ sym (ap images_of more ∙ map-append image_of (take i xs) (x ∷ []))
 
 -- the words that a run took of those that were given
 pub takes : LeftCountsTaken → (script : Script) (path : List Bool) (spare left taken : ℕ) (replies : List Reply) (given words : List ℕ) (found : Option ℕ)

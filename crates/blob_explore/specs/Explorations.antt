@@ -1,5 +1,5 @@
 -- An exploration of a script, and the leaves that it visits.
-use Rattle.std.specs.Prelude.{◌≡◌, ℕ, Bool, List, [], ◌∷◌, ◌++◌, if◌then◌else◌, Option, Some, None, IfSome, Vec, String, string_bytes}
+use Rattle.std.specs.Prelude.{◌≡◌, ℕ, Bool, List, [], ◌∷◌, ◌++◌, if◌then◌else◌, Option, Some, None, IfSome, Vec, String}
 use Rattle.std.specs.Global.{Global}
 use Rattle.blob_script.specs.declared.call.Call.{Call}
 use Rattle.blob_script.specs.declared.reply.Reply.{Reply}
@@ -8,7 +8,7 @@ use Rattle.blob_lab_store.specs.Tables.{images_of}
 use Rattle.blob_tree.specs.WordsLeft.{EndsAfter}
 use Rattle.blob_lab_model.specs.Runs.{LeadsTo}
 use Rattle.blob_lab_model.specs.Scripted.{only}
-use Rattle.blob_lab_model.specs.States.{Image, State, start}
+use Rattle.blob_lab_model.specs.States.{State, start}
 use Rattle.blob_tree.specs.Trees.{DecisionTree, depth, extend_path, leaves, left_after, words_of}
 use Rattle.blob_choices.specs.Decided.{Decides}
 use Rattle.blob_choices.specs.Explored.{RunsAlong}
@@ -22,9 +22,6 @@ use Rattle.blob_explore.specs.SharedCalls.{HasShared, IsShared, replies_of}
 -- images by partition, name and bytes
 abbrev pub Images : Type 0
 Images = List (String Global × Vec ℕ Global × Vec ℕ Global)
-
-abbrev pub image_of : String Global × Vec ℕ Global × Vec ℕ Global → Image
-image_of image = (string_bytes image.0, image.1.items, image.2.items)
 
 -- the state in which each run of a script starts, except the words
 abbrev pub start_of : Script → State

@@ -7,12 +7,13 @@ use Rattle.blob_tree.specs.Trees.{DecisionTree, leaves, words_of}
 use Rattle.blob_choices.specs.Decided.{Decides}
 use Rattle.blob_choices.specs.Explored.{HoldEveryRun, RunsAlong}
 use Rattle.blob_choices.specs.Outcomes.{SetNoPartialResize, acts_of, run_outcome}
-use Rattle.blob_explore.specs.Distinct.{Distinct, LeafText, outcomes_of}
+use Rattle.blob_distinct.specs.Distinct.{Distinct, LeafText, outcomes_of}
+use Rattle.blob_distinct.specs.Explored.{HasCounted, outcomes_found}
+use Rattle.blob_distinct.specs.Printed.{exploration_text}
+use Rattle.blob_distinct.specs.declared.explored.Explored.{Explored}
 use Rattle.blob_explore.specs.Explorations.{remaining_leaves, explored_script, start_of}
-use Rattle.blob_explore.specs.Printed.{exploration_text, outcomes_found}
 use Rattle.blob_explore.specs.ScriptTexts.{IsScriptOf}
 use Rattle.blob_explore.specs.declared.exploration.Exploration.{Exploration}
-use Rattle.blob_explore.specs.declared.outcomes.Explored.{Explored}
 use Rattle.blob_explore.specs.declared.script.Script.{Script}
 
 -- the lines of these replies
@@ -76,10 +77,9 @@ pub record PrintsExploration (script : List ℕ) (limit : ℕ) (last : Bool) (te
   pub prints : text ≡ exploration_text found count is_complete
 
 -- an exploration after some leaves: the others are left
-pub record Exploring (script : Script) (last : Bool) (e : Exploration) (count : ℕ) (found : List Distinct) (t : DecisionTree) : Type 0 where
+pub record Exploring (script : Script) (last : Bool) (e : Exploration) (found : Explored) (t : DecisionTree) : Type 0 where
   pub explored : explored_script e ≡ script
   pub visited : List Visited
-  pub many : length visited ≡ count
   pub paths : map path_to visited ++ remaining_leaves e t ≡ leaves t
   pub replies : AllByRecursion (RunsAlongPath script) visited
-  pub outcomes : found ≡ outcomes_of (map (shown_leaf last) visited)
+  pub counted : HasCounted found (map (shown_leaf last) visited)

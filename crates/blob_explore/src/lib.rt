@@ -7,10 +7,10 @@ mod print;
 mod run;
 pub mod script;
 mod shared;
-mod tally;
 
+pub use blob_distinct::Outcome;
+pub use blob_distinct::explored::print_explored;
 pub use exploration::{Exploration, Leaf};
 pub use outcomes::{Explored, explore};
-pub use print::{explore_text, print_explored};
+pub use print::explore_text;
 pub use script::{RefusedScript, Script, read_script};
-pub use tally::Outcome;

@@ -6,26 +6,13 @@ ghost use Rattle.blob_explore.specs.Outcomes.{IsExplored, replies_text, reply_li
 
 use crate::exploration::Exploration;
 use crate::script::Script;
-use crate::tally::{Outcome, tally};
 use blob_base::Error;
 use blob_choices::laws::{every_run, outcomes};
+pub use blob_distinct::Explored;
 use blob_distinct::limit::may_try;
 use blob_script::Reply;
 use blob_script::script::print_reply;
-use indexmap::IndexMap;
 use std::alloc::Global;
-
-/// What an exploration found: each distinct outcome, in the order of their first leaves, and the number of leaves.
-#[derive(Drop)]
-pub struct Explored {
-    /// The text that each outcome begins with: the replies to the shared calls, a line each. Empty with `last`.
-    pub shared: String,
-    /// Each outcome by its text after the shared one.
-    pub outcomes: IndexMap<String, Outcome>,
-    pub leaves: u64,
-    /// Whether these are all leaves.
-    pub is_complete: bool,
-}
 
 /// Explores a script, at most `limit` leaves of it. An outcome is the replies to all calls, a line each, or with
 /// `last` the reply to the last call. Memory grows with the number of distinct outcomes, not with that of leaves.
@@ -59,28 +46,17 @@ fn visit_leaves(
     outcomes();
     every_run();
     let shared = print_shared(alloc, exploration.shared(), last)?;
-    let mut found = IndexMap::new(alloc);
-    let mut leaves = 0;
-    'visits: while may_try(leaves, limit) {
+    let mut found = Explored::new(alloc, shared);
+    'visits: while may_try(found.leaves, limit) {
         let Some(leaf) = exploration.next()? else {
-            return Ok(Explored {
-                shared,
-                outcomes: found,
-                leaves,
-                is_complete: true,
-            });
+            found.is_complete = true;
+            return Ok(found);
         };
         let text = print_own(alloc, exploration.shared(), &leaf.replies, last)?;
-        tally(&mut found, text, leaf.words)?;
-        leaves += 1;
+        found.add(text, leaf.words)?;
     }
-    let is_complete = exploration.is_done();
-    Ok(Explored {
-        shared,
-        outcomes: found,
-        leaves,
-        is_complete,
-    })
+    found.is_complete = exploration.is_done();
+    Ok(found)
 }
 
 /// Returns the lines of the shared replies, or none if only the last reply is printed.

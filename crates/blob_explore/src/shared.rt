@@ -3,14 +3,14 @@ ghost use Rattle.std.specs.Prelude.{◌≡◌, ◌≤◌, ◌++◌, ◌∷◌, �
 ghost use Rattle.blob_header.specs.Refusals.{IsMemory};
 ghost use Rattle.blob_lab_store.specs.LabRuns.{StartsAt};
 ghost use Rattle.blob_lab_store.specs.LabStands.{LabStandsFor};
-ghost use Rattle.blob_lab_store.specs.Tables.{images_of};
 ghost use Rattle.blob_choices.specs.Outcomes.{SetNoPartialResize, acts_of};
-ghost use Rattle.blob_explore.specs.Explorations.{Ran, image_of};
+ghost use Rattle.blob_explore.specs.Explorations.{Ran};
 ghost use Rattle.blob_explore.specs.SharedCalls.{AreShared, IsShared, start_with};
 
 use crate::script::{Script, draws_size};
 use blob_base::Error;
 use blob_choices::laws::{leaves, outcomes, seeds, taken_words};
+use blob_distinct::images::copies;
 use blob_distinct::short::is_short;
 use blob_faulty::Config;
 use blob_lab_model::laws::runs_go_on;
@@ -152,27 +152,4 @@ fn draws(lab: &mut Lab, call: &Call) -> bool {
         Some(1) => false,
         _ => true,
     }
-}
-
-fn copies(
-    alloc: Global,
-    images: &[(String, Vec<u8>, Vec<u8>)],
-) -> Result<Vec<(String, Vec<u8>, Vec<u8>)>, Error>
-    ensures ok { IfOk result (λ all. images_of all.items ≡ images_of images.now) }
-    ensures memory { OnErr result (IsMemory result) }
-{
-    let mut all = Vec::with_capacity(alloc, images.len())?;
-    for image in images {
-        let copy = copied(image)?;
-        all.push(copy)?;
-    }
-    Ok(all)
-}
-
-fn copied(image: &(String, Vec<u8>, Vec<u8>)) -> Result<(String, Vec<u8>, Vec<u8>), Error>
-    ensures ok { IfOk result (λ copy. image_of copy ≡ image_of image.now) }
-    ensures memory { OnErr result (IsMemory result) }
-{
-    let (partition, name, bytes) = image;
-    Ok((partition.clone()?, name.clone()?, bytes.clone()?))
 }

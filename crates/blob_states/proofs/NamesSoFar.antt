@@ -10,7 +10,8 @@ use Rattle.blob_script.specs.Acts.{Act, act_of}
 use Rattle.blob_script.specs.Preambles.{Image, images_of}
 use Rattle.blob_lab_model.specs.Accepted.{opened_name}
 use Rattle.blob_choices.specs.Outcomes.{acts_of}
-use Rattle.blob_states.specs.Recorded.{HasImage, HasOpened, HaveNames, KeepsNames, Name, first_images, image_of, name_of, names_of}
+use Rattle.blob_distinct.specs.Images.{image_of}
+use Rattle.blob_states.specs.Recorded.{HasImage, HasOpened, HaveNames, KeepsNames, Name, first_images, name_of, names_of}
 use Rattle.blob_states.specs.declared.recorded.Recorded.{Recorded}
 
 pub acts_more : (calls : List Call) (call : Call) → acts_of (calls ++ call ∷ []) ≡ acts_of calls ++ act_of call ∷ []

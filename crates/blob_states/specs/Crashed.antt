@@ -1,6 +1,5 @@
 -- What a crash leaves, by the words that it draws, and how it is printed.
-use Rattle.std.specs.Prelude.{◌≡◌, ℕ, List, ◌++◌, codes, Option, Some, None, String, string_bytes}
-use Rattle.std.specs.Global.{Global}
+use Rattle.std.specs.Prelude.{ℕ, List, ◌++◌, codes, Option, Some, None}
 use Rattle.std.specs.List.{flat_map}
 use Rattle.rand_core.specs.Stream.{Stream}
 use Rattle.blob_model.specs.Draws.{Row, draw_rows}
@@ -40,7 +39,3 @@ image_lines bytes names = flat_map (λ name. file_line name (bytes name.0 name.1
 -- the lines of what a crash leaves
 abbrev pub lines_left : State → List Name → Stream → List ℕ
 lines_left v names s = image_lines (durable_file (crashed v s)) names
-
--- a text grew by these bytes
-abbrev pub Appends : String Global → String Global → List ℕ → Type 0
-Appends old new bytes = string_bytes new ≡ string_bytes old ++ bytes

@@ -2,8 +2,8 @@
 use Rattle.std.specs.Prelude.{◌≡◌, ◌≤◌, ◌<◌, ◌+◌, ◌-◌, ◌==◌, ◌&&◌, ℕ, zero, suc, Bool, true, false, List, [], ◌∷◌, ◌++◌, length, map, fold, codes, if◌then◌else◌, Option, Some, None}
 use Rattle.std.specs.List.{AllByRecursion, flat_map}
 use Rattle.std.specs.Fmt.{decimal}
-pub use Rattle.blob_states.specs.Crashed.{Appends}
 use Rattle.blob_distinct.specs.Found.{LeftState, states_in}
+use Rattle.blob_distinct.specs.Printed.{limit_text, word_text}
 use Rattle.blob_states.specs.CrashStates.{AreAllLeft}
 use Rattle.blob_states.specs.Recorded.{state_after}
 use Rattle.blob_states.specs.ScriptTexts.{IsBadAt, IsScriptOf}
@@ -23,9 +23,6 @@ pub record Point : Type 0 where
 abbrev pub point_of : ℕ → CrashStates → Point
 point_of calls found = record { calls = calls; states = states_in found.states; outcomes = found.outcomes; is_complete = found.is_complete }
 
-abbrev pub word_text : ℕ → List ℕ
-word_text word = if word == 0 then codes " 0" else codes " max"
-
 abbrev pub words_text : List ℕ → List ℕ
 words_text [] = codes ", no words"
 words_text (word ∷ words) = codes ", words" ++ flat_map word_text (word ∷ words)
@@ -43,9 +40,6 @@ point_text point = flat_map (state_text point.calls) point.states
 -- a number of things, and a comma
 abbrev pub counted : ℕ → List ℕ → List ℕ → List ℕ
 counted count one many = decimal count ++ codes " " ++ (if count == 1 then one else many) ++ codes ", "
-
-abbrev pub limit_text : Bool → List ℕ
-limit_text is_complete = if is_complete then codes "all of them" else codes "not all of them: the limit was reached"
 
 -- the counts of all crashes: of the crashes, of the outcomes that were tried and of the states, and whether these are all
 abbrev pub with_point : Total → Point → Total

@@ -26,9 +26,6 @@ first_acts run count = acts_of (take count run.calls.items)
 abbrev pub state_after : Recorded → ℕ → State
 state_after run count = after_acts (start (first_images run) (words_of run.preamble) no_rates) (first_acts run count)
 
-abbrev pub image_of : String Global × Vec ℕ Global × Vec ℕ Global → Image
-image_of image = (string_bytes image.0, image.1.items, image.2.items)
-
 -- a partition and a name in it
 abbrev pub Name : Type 0
 Name = List ℕ × List ℕ

@@ -3,7 +3,8 @@ ghost use Rattle.std.specs.Prelude.{◌≡◌, IfOk, OnOk, OnErr, string_bytes};
 ghost use Rattle.blob_header.specs.Refusals.{IsMemory};
 ghost use Rattle.blob_script.specs.Replies.{hex_field};
 ghost use Rattle.blob_memory.specs.Store.{raw_blob};
-ghost use Rattle.blob_states.specs.Crashed.{Appends, file_line, image_line, image_lines};
+ghost use Rattle.blob_distinct.specs.Printed.{Appends};
+ghost use Rattle.blob_states.specs.Crashed.{file_line, image_line, image_lines};
 ghost use Rattle.blob_states.specs.Recorded.{names_of};
 
 use blob_base::Error;

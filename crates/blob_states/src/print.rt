@@ -1,8 +1,9 @@
 // The states of a recorded run, as lines.
 ghost use Rattle.std.specs.Prelude.{◌≡◌, ◌<◌, ◌≤◌, ◌+◌, ◌-◌, [], IfOk, IfErr, IfSome, OnOk, length, string_bytes};
 ghost use Rattle.blob_lab_store.specs.LabStands.{LabStandsFor};
-ghost use Rattle.blob_states.specs.Printed.{Appends, HasFewerCalls, HasNoStates, IsCrashRange, PrintsCrashes, PrintsStates};
-ghost use Rattle.blob_states.specs.Printed.{call_text, counted, limit_text, point_of, point_text, state_text, total_line, total_of, with_point, words_text};
+ghost use Rattle.blob_distinct.specs.Printed.{Appends};
+ghost use Rattle.blob_states.specs.Printed.{HasFewerCalls, HasNoStates, IsCrashRange, PrintsCrashes, PrintsStates};
+ghost use Rattle.blob_states.specs.Printed.{call_text, counted, point_of, point_text, state_text, total_line, total_of, with_point, words_text};
 ghost use Rattle.blob_states.specs.Recorded.{state_after};
 ghost use Rattle.blob_distinct.specs.Found.{left_by};
 
@@ -12,6 +13,8 @@ use crate::replay::{go_on, replayed};
 use crate::script::{RefusedScript, read_script};
 use crate::states::{CrashStates, crash_states};
 use blob_base::Error;
+use blob_distinct::limit::limit_text;
+use blob_distinct::words::{noun, print_words};
 use blob_lab_store::Lab;
 use std::alloc::{AllocError, Global};
 
@@ -163,7 +166,7 @@ fn print_state(
     ensures { OnOk result (Appends printed.old printed.new (state_text calls (left_by words.now lines.now))) }
 {
     print_call(calls, printed)?;
-    print_words(words, printed)?;
+    print_drawn(words, printed)?;
     printed.push('\n')?;
     printed.push_str(lines)
 }
@@ -174,17 +177,15 @@ fn print_call(calls: usize, printed: &mut String) -> Result<(), AllocError>
     write!(printed, "# crash after call {calls}")
 }
 
-fn print_words(words: &[u64], printed: &mut String) -> Result<(), AllocError>
+/// Prints the words of a crash.
+fn print_drawn(words: &[u64], printed: &mut String) -> Result<(), AllocError>
     ensures { OnOk result (Appends printed.old printed.new (words_text words.now)) }
 {
     if words.is_empty() {
         return printed.push_str(", no words");
     }
     printed.push_str(", words")?;
-    for word in words {
-        printed.push_str(if *word == 0 { " 0" } else { " max" })?;
-    }
-    Ok(())
+    print_words(words, printed)
 }
 
 /// Prints the last line.
@@ -199,20 +200,10 @@ fn print_total(total: Total, printed: &mut String) -> Result<(), AllocError>
     printed.push_str("\n")
 }
 
-fn limit_text(is_complete: bool) -> &'static str
-    ensures { result.now ≡ limit_text is_complete }
-{
-    if is_complete {
-        "all of them"
-    } else {
-        "not all of them: the limit was reached"
-    }
-}
-
 /// Prints a number of things, and a comma.
 fn print_count(count: u64, one: &str, many: &str, printed: &mut String) -> Result<(), AllocError>
     ensures { OnOk result (Appends printed.old printed.new (counted count one.now many.now)) }
 {
-    let noun = if count == 1 { one } else { many };
+    let noun = noun(count, one, many);
     write!(printed, "{count} {noun}, ")
 }

@@ -2,9 +2,9 @@
 ghost use Rattle.std.specs.Prelude.{◌≡◌, IfOk, OnErr};
 ghost use Rattle.blob_header.specs.Refusals.{IsMemory};
 ghost use Rattle.blob_script.specs.Preambles.{images_of, words_of};
-ghost use Rattle.blob_states.specs.Recorded.{image_of};
 
 use blob_base::Error;
+use blob_distinct::images::copies;
 use blob_script::Call;
 use blob_script::script::Preamble;
 use std::alloc::Global;
@@ -29,27 +29,4 @@ pub(crate) fn copy_of(alloc: Global, preamble: &Preamble) -> Result<Preamble, Er
         words,
         seed: preamble.seed,
     })
-}
-
-fn copies(
-    alloc: Global,
-    images: &[(String, Vec<u8>, Vec<u8>)],
-) -> Result<Vec<(String, Vec<u8>, Vec<u8>)>, Error>
-    ensures ok { IfOk result (λ all. images_of all.items ≡ images_of images.now) }
-    ensures memory { OnErr result (IsMemory result) }
-{
-    let mut all = Vec::with_capacity(alloc, images.len())?;
-    for image in images {
-        let copy = copied(image)?;
-        all.push(copy)?;
-    }
-    Ok(all)
-}
-
-fn copied(image: &(String, Vec<u8>, Vec<u8>)) -> Result<(String, Vec<u8>, Vec<u8>), Error>
-    ensures ok { IfOk result (λ copy. image_of copy ≡ image_of image.now) }
-    ensures memory { OnErr result (IsMemory result) }
-{
-    let (partition, name, bytes) = image;
-    Ok((partition.clone()?, name.clone()?, bytes.clone()?))
 }

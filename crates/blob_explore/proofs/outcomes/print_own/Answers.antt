@@ -1,7 +1,7 @@
 use Rattle.std.proofs.Common.{rules, arith, ◌≡◌, ◌<◌, ◌++◌, true, length, sym, ap, ◌∙◌, subst, string_bytes}
 use Rattle.std.proofs.lemmas.Result.{IfOk-weaker}
 use Rattle.blob_explore.specs.Outcomes.{replies_text, reply_lines, shared_text}
-use Rattle.blob_explore.proofs.Behind.{last_own}
+use Rattle.blob_explore.proofs.LastReply.{last_own}
 use Rattle.blob_explore.proofs.outcomes.print_own.Goals as goal
 
 pub returns-else-is_empty-clause-ok : goal.returns-else-is_empty-clause-ok

@@ -1,4 +1,4 @@
-use Rattle.blob_explore.specs.Printed.{outcomes_found}
+use Rattle.blob_distinct.specs.Explored.{outcomes_found}
 use Rattle.blob_explore.proofs.print.explore_text.Goals as goal
 
 pub returns-clause-text : goal.returns-clause-text

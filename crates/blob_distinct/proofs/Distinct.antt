@@ -4,7 +4,7 @@ use Rattle.std.specs.Str.{bytes_eq}
 use Rattle.std.specs.List.{AllByRecursion}
 use Rattle.std.specs.Cmp.Lexicographic.{nat_list_eq_equiv}
 use Rattle.std.proofs.lemmas.Slice.Eq.{bytes_eq-Decides}
-use Rattle.blob_explore.specs.Distinct.{Distinct, LeafText, has_text, is_other, outcomes_of, with_leaf}
+use Rattle.blob_distinct.specs.Distinct.{Distinct, LeafText, has_text, is_other, outcomes_of, with_leaf}
 
 same_text : (a b : List ℕ) → bytes_eq a b ≡ true → a ≡ b
 same_text a b h = (bytes_eq-Decides a b).0 h

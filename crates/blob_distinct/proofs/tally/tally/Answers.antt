@@ -1,11 +1,11 @@
 use Rattle.std.proofs.Common.{rules, ◌≡◌, ◌<◌, ◌^◌, ◌-◌, ◌+◌, ℕ, List, Some, None, map, string_bytes, ap, ◌∙◌, arith, refl}
 use Rattle.std.specs.Map.{lookup}
-use Rattle.blob_explore.specs.Distinct.{leaf_text, outcome_at, with_leaf}
+use Rattle.blob_distinct.specs.Distinct.{leaf_text, outcome_at, with_leaf}
 use Rattle.std.specs.String.{string_eq}
 use Rattle.indexmap.specs.IndexMap.{insert_entry}
-use Rattle.blob_explore.specs.declared.tally.Outcome.{Outcome}
-use Rattle.blob_explore.proofs.Table.{Entries, added, counted, found_fits, is_at}
-use Rattle.blob_explore.proofs.tally.tally.Goals as goal
+use Rattle.blob_distinct.specs.declared.tally.Outcome.{Outcome}
+use Rattle.blob_distinct.proofs.Outcomes.{Entries, added, counted, found_fits, is_at}
+use Rattle.blob_distinct.proofs.tally.tally.Goals as goal
 
 pub returns-in-Some : goal.returns-in-Some
 returns-in-Some c = λ fit.

@@ -1,22 +1,10 @@
 -- The shared text before that of each outcome.
-use Rattle.std.proofs.Common.{◌≡◌, ◌<◌, ◌+◌, ◌-◌, ℕ, arith, Bool, true, false, List, [], ◌∷◌, ◌++◌, drop, length, map, refl, sym, ap, ◌∙◌}
-use Rattle.std.specs.Prelude.{codes}
+use Rattle.std.proofs.Common.{◌≡◌, ◌<◌, ◌-◌, ◌^◌, ℕ, arith, Bool, true, false, List, [], ◌∷◌, ◌++◌, length, map, refl, sym, ap, ◌∙◌, subst}
 use Rattle.std.specs.Str.{bytes_eq}
-use Rattle.std.proofs.lemmas.List.{length-append, length-map}
-use Rattle.std.proofs.Math.Seq.{drop-append-add}
-use Rattle.blob_script.specs.declared.reply.Reply.{Reply}
-use Rattle.blob_explore.specs.Distinct.{CountsFit, Distinct, behind, leaf_text, with_leaf}
-use Rattle.blob_explore.specs.Printed.{count_text, end_text, leaves_text, limit_text}
-use Rattle.blob_explore.specs.Outcomes.{replies_text, reply_lines}
-
--- The text of the last reply.
-
-pub last_own : (shared own : List Reply) → 0 < length own → replies_text true (shared ++ own) ≡ reply_lines (drop (length own - 1) own)
-last_own shared own some =
-    let at : length (shared ++ own) - 1 ≡ length shared + (length own - 1) = omega (arith, some, length-append shared own) in
-    ap (λ (n : ℕ). reply_lines (drop n (shared ++ own))) at ∙ ap reply_lines (drop-append-add shared own (length own - 1))
-
--- Outcomes.
+use Rattle.std.proofs.lemmas.List.{length-map}
+use Rattle.blob_distinct.specs.Distinct.{CountsFit, Distinct, LeafText, behind, leaf_text, outcomes_of, with_leaf}
+use Rattle.blob_distinct.specs.Printed.{end_text, found_text, leaves_text}
+use Rattle.blob_distinct.proofs.Distinct.{counts_fit, one_more}
 
 same_behind : (front a b : List ℕ) → bytes_eq (front ++ a) (front ++ b) ≡ bytes_eq a b
 same_behind [] a b = refl
@@ -36,10 +24,18 @@ fit_behind front [] fit = fit
 fit_behind front (o ∷ os) fit = (fit.0, fit_behind front os fit.1)
 
 -- one more leaf
-pub adds_behind : (front words text : List ℕ) (old new : List Distinct) → (CountsFit old → new ≡ with_leaf old (leaf_text words text))
+adds_behind : (front words text : List ℕ) (old new : List Distinct) → (CountsFit old → new ≡ with_leaf old (leaf_text words text))
     → CountsFit (map (behind front) old) → map (behind front) new ≡ with_leaf (map (behind front) old) (leaf_text words (front ++ text))
 adds_behind front words text old new adds fit = ap (map (behind front)) (adds (fit_behind front old fit)) ∙ with_behind front words text old
 
 pub same_end : (front : List ℕ) (os : List Distinct) (leaves : ℕ) (is_complete : Bool) → end_text os leaves is_complete ≡ end_text (map (behind front) os) leaves is_complete
 same_end front os leaves is_complete =
-    ap (λ (n : ℕ). leaves_text leaves ++ codes ", " ++ limit_text is_complete ++ codes "; " ++ count_text n ++ codes "\n") (sym (length-map os (behind front)))
+    ap (λ (n : ℕ). leaves_text leaves ++ found_text n is_complete) (sym (length-map os (behind front)))
+
+-- the outcomes of some leaves and one more
+pub counts_more : (front words text : List ℕ) (old new : List Distinct) (leaves : List LeafText) → (CountsFit old → new ≡ with_leaf old (leaf_text words text)) → map (behind front) old ≡ outcomes_of leaves
+    → length leaves < 2 ^ 64 - 1 → map (behind front) new ≡ outcomes_of (leaves ++ leaf_text words (front ++ text) ∷ [])
+counts_more front words text old new leaves adds before few =
+    let leaf : LeafText = leaf_text words (front ++ text) in
+    let fit : CountsFit (map (behind front) old) = subst CountsFit (sym before) (counts_fit (2 ^ 64 - 1) leaves few) in
+    adds_behind front words text old new adds fit ∙ ap (λ (os : List Distinct). with_leaf os leaf) before ∙ sym (one_more leaves leaf)

@@ -4,7 +4,7 @@ use Rattle.std.specs.Global.{Global}
 use Rattle.std.specs.List.{AllByRecursion}
 use Rattle.std.specs.Str.{bytes_eq}
 use Rattle.indexmap.specs.IndexMap.{IndexMap}
-use Rattle.blob_explore.specs.declared.tally.Outcome.{Outcome}
+use Rattle.blob_distinct.specs.declared.tally.Outcome.{Outcome}
 
 -- a visited leaf: the words of its run, and the text that is printed of its replies
 pub record LeafText : Type 0 where

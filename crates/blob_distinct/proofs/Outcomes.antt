@@ -6,8 +6,8 @@ use Rattle.std.specs.Str.{bytes_eq}
 use Rattle.std.specs.List.{AllByRecursion}
 use Rattle.std.specs.Map.{lookup, set_value}
 use Rattle.indexmap.specs.IndexMap.{insert_entry}
-use Rattle.blob_explore.specs.Distinct.{leaf_text, outcome_at, with_leaf}
-use Rattle.blob_explore.specs.declared.tally.Outcome.{Outcome}
+use Rattle.blob_distinct.specs.Distinct.{leaf_text, outcome_at, with_leaf}
+use Rattle.blob_distinct.specs.declared.tally.Outcome.{Outcome}
 
 abbrev pub Entries : Type 0
 Entries = List (String Global × Outcome)

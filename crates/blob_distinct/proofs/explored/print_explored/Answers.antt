@@ -2,10 +2,11 @@ use Rattle.std.proofs.Common.{rules, ◌≡◌, ◌++◌, map, string_bytes, ap,
 use Rattle.std.specs.List.{flat_map}
 use Rattle.std.specs.Map.Iter.{deref_pair}
 use Rattle.std.proofs.lemmas.Map.Iter.{iter_end}
-use Rattle.blob_explore.specs.Distinct.{behind, outcome_at, outcomes_in}
-use Rattle.blob_explore.specs.Printed.{end_text, outcome_text, outcomes_found}
-use Rattle.blob_explore.proofs.Behind.{same_end}
-use Rattle.blob_explore.proofs.print.print_explored.Goals as goal
+use Rattle.blob_distinct.specs.Distinct.{behind, outcome_at, outcomes_in}
+use Rattle.blob_distinct.specs.Explored.{outcomes_found}
+use Rattle.blob_distinct.specs.Printed.{end_text, outcome_text}
+use Rattle.blob_distinct.proofs.Behind.{same_end}
+use Rattle.blob_distinct.proofs.explored.print_explored.Goals as goal
 
 pub returns : goal.returns
 returns c =

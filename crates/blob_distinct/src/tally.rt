@@ -1,6 +1,6 @@
-// The distinct outcomes so far.
+//! The distinct outcomes so far.
 ghost use Rattle.std.specs.Prelude.{OnOk, string_bytes};
-ghost use Rattle.blob_explore.specs.Distinct.{AddsLeaf, leaf_text};
+ghost use Rattle.blob_distinct.specs.Distinct.{AddsLeaf, leaf_text};
 
 use indexmap::IndexMap;
 use std::alloc::AllocError;
@@ -15,7 +15,7 @@ pub struct Outcome {
 }
 
 /// Counts a leaf with this text and these words.
-pub(crate) fn tally(
+pub fn tally(
     outcomes: &mut IndexMap<String, Outcome>,
     text: String,
     words: Vec<u64>,

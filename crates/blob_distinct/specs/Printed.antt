@@ -1,10 +1,11 @@
 -- What is printed of an exploration.
-use Rattle.std.specs.Prelude.{◌≡◌, ℕ, Bool, List, [], ◌∷◌, ◌++◌, ◌==◌, length, map, codes, if◌then◌else◌, String, string_bytes}
+use Rattle.std.specs.Prelude.{◌≡◌, ℕ, Bool, List, [], ◌∷◌, ◌++◌, ◌==◌, length, codes, if◌then◌else◌, String, string_bytes}
 use Rattle.std.specs.Global.{Global}
 use Rattle.std.specs.List.{flat_map}
 use Rattle.std.specs.Fmt.{decimal}
-use Rattle.blob_explore.specs.Distinct.{Distinct, behind, outcomes_in}
-use Rattle.blob_explore.specs.declared.outcomes.Explored.{Explored}
+use Rattle.blob_distinct.specs.Distinct.{Distinct, outcomes_in}
+use Rattle.blob_distinct.specs.Explored.{outcomes_found}
+use Rattle.blob_distinct.specs.declared.explored.Explored.{Explored}
 
 -- a number of leaves, and of outcomes
 abbrev pub leaves_text : ℕ → List ℕ
@@ -13,10 +14,11 @@ leaves_text leaves = codes "# " ++ decimal leaves ++ codes " " ++ (if leaves == 
 abbrev pub count_text : ℕ → List ℕ
 count_text outcomes = decimal outcomes ++ codes " " ++ (if outcomes == 1 then codes "outcome" else codes "outcomes")
 
--- the words of an outcome's first leaf, each 0 or the greatest word
+-- a word, which is 0 or the greatest one
 abbrev pub word_text : ℕ → List ℕ
 word_text word = if word == 0 then codes " 0" else codes " max"
 
+-- the words of an outcome's first leaf
 abbrev pub words_text : List ℕ → List ℕ
 words_text [] = codes ", which draws no words"
 words_text (word ∷ words) = codes ", first: words" ++ flat_map word_text (word ∷ words)
@@ -25,20 +27,19 @@ words_text (word ∷ words) = codes ", first: words" ++ flat_map word_text (word
 abbrev pub outcome_text : Distinct → List ℕ
 outcome_text outcome = leaves_text outcome.leaves ++ words_text outcome.words ++ codes "\n" ++ outcome.text
 
+-- whether these are all
 abbrev pub limit_text : Bool → List ℕ
 limit_text is_complete = if is_complete then codes "all of them" else codes "not all of them: the limit was reached"
 
 -- the last line: the number of leaves, whether these are all, and the number of outcomes
+abbrev pub found_text : ℕ → Bool → List ℕ
+found_text outcomes is_complete = codes ", " ++ limit_text is_complete ++ codes "; " ++ count_text outcomes ++ codes "\n"
+
 abbrev pub end_text : List Distinct → ℕ → Bool → List ℕ
-end_text outcomes leaves is_complete =
-    leaves_text leaves ++ codes ", " ++ limit_text is_complete ++ codes "; " ++ count_text (length outcomes) ++ codes "\n"
+end_text outcomes leaves is_complete = leaves_text leaves ++ found_text (length outcomes) is_complete
 
 abbrev pub exploration_text : List Distinct → ℕ → Bool → List ℕ
 exploration_text outcomes leaves is_complete = flat_map outcome_text outcomes ++ end_text outcomes leaves is_complete
-
--- the outcomes, each with the shared text before its own
-abbrev pub outcomes_found : Explored → List Distinct
-outcomes_found explored = map (behind (string_bytes explored.shared)) (outcomes_in explored.outcomes)
 
 -- the whole text of what was explored, and its last line
 abbrev pub explored_text : Explored → List ℕ

@@ -3,8 +3,8 @@ use Rattle.std.specs.Prelude.{String, Vec}
 use Rattle.std.specs.Global.{Global}
 use Rattle.std.proofs.lemmas.List.{map-append, take_more}
 use Rattle.blob_script.specs.Preambles.{Image, images_of}
-use Rattle.blob_states.specs.Recorded.{image_of}
-use Rattle.blob_states.proofs.recorded.copies.Goals as goal
+use Rattle.blob_distinct.specs.Images.{image_of}
+use Rattle.blob_distinct.proofs.images.copies.Goals as goal
 
 images_more : (xs all new : List (String Global × Vec ℕ Global × Vec ℕ Global)) (x y : String Global × Vec ℕ Global × Vec ℕ Global) (i : ℕ)
     → images_of all ≡ images_of (take i xs) → new ≡ all ++ y ∷ [] → image_of y ≡ image_of x → take (i + 1) xs ≡ take i xs ++ x ∷ [] → images_of new ≡ images_of (take (i + 1) xs)

@@ -1,6 +1,0 @@
-use Rattle.std.proofs.Common.{◌≡◌, take}
-use Rattle.blob_script.specs.Preambles.{images_of}
-use Rattle.blob_states.proofs.recorded.copies.Given as goal
-
-abbrev pub invariant-loop-image : goal.invariant-loop-image
-invariant-loop-image l = images_of l.all.items ≡ images_of (take l.image-index l.images)
