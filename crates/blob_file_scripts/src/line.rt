@@ -2,6 +2,7 @@
 ghost use Rattle.std.specs.Prelude.{◌≡◌, Err, IfOk, None, Some, option_map};
 ghost use Rattle.blob_tokens.specs.Tokens.{tokens};
 ghost use Rattle.blob_file_scripts.specs.CallLines.{said_by, said_of};
+ghost use Rattle.blob_file_scripts.specs.Takes.{IsCodeOf};
 
 use crate::call::{Line, read_call};
 use blob_tokens::RefusedLine;
@@ -9,7 +10,9 @@ use blob_tokens::token::Tokens;
 use std::alloc::Global;
 
 /// Returns the line without the comment at its end: a token that begins with a number sign, and what follows it.
-pub fn without_comment(line: &str) -> &str {
+pub fn without_comment(line: &str) -> &str
+    ensures { IsCodeOf line.now result.now }
+{
     match line.split_once(" #") {
         Some((before, _)) => before,
         None => line,

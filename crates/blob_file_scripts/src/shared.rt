@@ -1,4 +1,11 @@
 // The lines before the first draw, which all runs of a script share.
+ghost use Rattle.std.specs.Prelude.{◌≡◌, IfOk, None, string_bytes};
+ghost use Rattle.std.specs.Bool.{OnFalse};
+ghost use Rattle.blob_directory.specs.Names.{Same};
+ghost use Rattle.blob_fs.specs.Files.{names_of};
+ghost use Rattle.blob_file_sessions.specs.Held.{fs_of};
+ghost use Rattle.blob_file_scripts.specs.Explorations.{HasOneWord, IsForkWith};
+ghost use Rattle.blob_file_scripts.specs.SharedLines.{IsShared, Ran, text_before};
 
 use crate::explored::RefusedFiles;
 use crate::taking::take_first;
@@ -25,11 +32,16 @@ impl<'a> Shared<'a> {
         alloc: Global,
         script: &'a [u8],
         last: bool,
-    ) -> Result<Shared<'a>, RefusedFiles> {
+    ) -> Result<Shared<'a>, RefusedFiles>
+        ensures { IfOk result (IsShared script.now last) }
+    {
         let count = count_undrawn(alloc, script)?;
         let mut files = begin(alloc)?;
         let mut text = String::new(alloc);
         let rest = take_first(alloc, &mut files, script, 0, count, last, &mut text)?;
+        if has_drawn(&files) {
+            return Err(RefusedFiles::NoMemory);
+        }
         Ok(Shared {
             files,
             count,
@@ -45,7 +57,9 @@ impl<'a> Shared<'a> {
         alloc: Global,
         words: Vec<u64>,
         last: bool,
-    ) -> Result<(String, usize), RefusedFiles> {
+    ) -> Result<(String, usize), RefusedFiles>
+        ensures { IfOk result (λ ran. Ran self.now last words.items (string_bytes ran.0) ran.1) }
+    {
         let mut files = self.fork(alloc, words)?;
         let mut text = self.print_before(alloc, last)?;
         let rest = take_first(
@@ -57,15 +71,20 @@ impl<'a> Shared<'a> {
             last,
             &mut text,
         )?;
+        if !rest.is_empty() {
+            return Err(RefusedFiles::NoMemory);
+        }
         let left = files.words_left();
-        if !rest.is_empty() || left.status != DONE {
+        if left.status != DONE {
             return Err(RefusedFiles::NoMemory);
         }
         Ok((text, left.len))
     }
 
     /// Returns the text before that of a run's own lines: the last reply, if only the last one is printed.
-    fn print_before(&self, alloc: Global, last: bool) -> Result<String, AllocError> {
+    fn print_before(&self, alloc: Global, last: bool) -> Result<String, AllocError>
+        ensures { IfOk result (λ text. string_bytes text ≡ text_before self.now last) }
+    {
         if last {
             self.text.clone()
         } else {
@@ -74,7 +93,9 @@ impl<'a> Shared<'a> {
     }
 
     /// Returns a fork of the files whose generator gives these words and then zeros.
-    fn fork(&self, alloc: Global, words: Vec<u64>) -> Result<KeptFiles, RefusedFiles> {
+    fn fork(&self, alloc: Global, words: Vec<u64>) -> Result<KeptFiles, RefusedFiles>
+        ensures { IfOk result (IsForkWith words.items self.now.files) }
+    {
         let rng = ScriptedRng::new(words);
         match self.files.fs().fork(rng) {
             Ok(fs) => Ok(KeptFiles::new(alloc, fs)),
@@ -84,12 +105,15 @@ impl<'a> Shared<'a> {
 }
 
 /// Returns empty files. They have one word, which isn't zero: `words_left` is 1 until a call takes it.
-fn begin(alloc: Global) -> Result<KeptFiles, RefusedFiles> {
+fn begin(alloc: Global) -> Result<KeptFiles, RefusedFiles>
+    ensures names { IfOk result (λ files. Same (names_of (fs_of files)) (λ _. None)) }
+    ensures word { IfOk result HasOneWord }
+{
     let mut files = FileReader::new(alloc).begin(alloc)?;
-    match files.push_words(&[u64::MAX]) {
-        DONE => Ok(files),
-        _ => Err(RefusedFiles::NoMemory),
+    if files.push_words(&[u64::MAX]) != DONE || has_drawn(&files) {
+        return Err(RefusedFiles::NoMemory);
     }
+    Ok(files)
 }
 
 /// Returns how many lines there are before the first one that draws.
@@ -110,6 +134,8 @@ fn count_undrawn(alloc: Global, script: &[u8]) -> Result<u64, RefusedFiles> {
 }
 
 /// Whether the one word was taken.
-fn has_drawn(files: &KeptFiles) -> bool {
+fn has_drawn(files: &KeptFiles) -> bool
+    ensures { OnFalse result (HasOneWord files.now) }
+{
     files.words_left().len != 1
 }

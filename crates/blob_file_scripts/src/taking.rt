@@ -1,4 +1,8 @@
 // Taking the lines of a script by files that have begun.
+ghost use Rattle.std.specs.Prelude.{◌≡◌, IfOk, OnOk, Some, option_map, string_bytes};
+ghost use Rattle.blob_tokens.specs.Tokens.{tokens};
+ghost use Rattle.blob_file_scripts.specs.CallLines.{said_of};
+ghost use Rattle.blob_file_scripts.specs.Takes.{DoesLine, TakesFirst, TakesLine, with_reply};
 
 use crate::answers::answer;
 use crate::explored::RefusedFiles;
@@ -6,38 +10,59 @@ use crate::line::{read_line, without_comment};
 use crate::scripts::Stop;
 use blob_file_sessions::KeptFiles;
 use blob_lab::first_line;
-use std::alloc::Global;
+use std::alloc::{AllocError, Global};
 
-/// Makes the call or the setting of a line. Appends its reply with a line feed, if it has one; with `last` the reply replaces the text.
+/// Makes the call or the setting of a line without a comment. Returns its reply, if it has one.
+fn reply_to(alloc: Global, files: &mut KeptFiles, line: &str) -> Result<Option<String>, Stop>
+    ensures { IfOk result (λ reply. DoesLine (said_of (tokens line.now)) files.old files.new (option_map string_bytes reply)) }
+{
+    let mut reply = String::new(alloc);
+    let mut first = Vec::new(alloc);
+    let mut second = Vec::new(alloc);
+    match &read_line(alloc, line, (&mut first, &mut second))? {
+        Some(call) => {
+            answer(alloc, files, call, &mut reply)?;
+            Ok(Some(reply))
+        }
+        None => {
+            if !files.read_setting(line.as_bytes())? {
+                return Ok(None);
+            }
+            reply.push_str("ok")?;
+            Ok(Some(reply))
+        }
+    }
+}
+
+/// Appends a reply with a line feed; with `last` it replaces the text.
+fn add_reply(reply: &str, last: bool, text: &mut String) -> Result<(), AllocError>
+    ensures { OnOk result (string_bytes text.new ≡ with_reply last (string_bytes text.old) (Some reply.now)) }
+{
+    if last {
+        text.clear();
+    }
+    text.push_str(reply)?;
+    text.push('\n')
+}
+
+/// Makes the call or the setting of a line, and adds its reply to the text.
 fn take_line(
     alloc: Global,
     files: &mut KeptFiles,
     line: &[u8],
     last: bool,
     text: &mut String,
-) -> Result<(), Stop> {
+) -> Result<(), Stop>
+    ensures { OnOk result (TakesLine last line.now files.old files.new (string_bytes text.old) (string_bytes text.new)) }
+{
     let Ok(line) = std::str::from_utf8(line) else {
         return Err(Stop::BadCall);
     };
-    let line = without_comment(line);
-    let mut reply = String::new(alloc);
-    let mut first = Vec::new(alloc);
-    let mut second = Vec::new(alloc);
-    match &read_line(alloc, line, (&mut first, &mut second))? {
-        Some(call) => answer(alloc, files, call, &mut reply)?,
-        None => {
-            if !files.read_setting(line.as_bytes())? {
-                return Ok(());
-            }
-            reply.push_str("ok")?;
-        }
+    let code = without_comment(line);
+    match reply_to(alloc, files, code)? {
+        Some(reply) => Ok(add_reply(reply.as_str(), last, text)?),
+        None => Ok(()),
     }
-    reply.push('\n')?;
-    if last {
-        text.clear();
-    }
-    text.push_str(reply.as_str())?;
-    Ok(())
 }
 
 /// Whether a line is one of words or of a seed.
@@ -58,7 +83,9 @@ fn take_numbered(
     number: u64,
     last: bool,
     text: &mut String,
-) -> Result<(), RefusedFiles> {
+) -> Result<(), RefusedFiles>
+    ensures { OnOk result (TakesLine last line.now files.old files.new (string_bytes text.old) (string_bytes text.new)) }
+{
     if is_generator(line) {
         return Err(RefusedFiles::BadLine(number));
     }
@@ -82,7 +109,9 @@ pub(crate) fn take_first<'a>(
     count: u64,
     last: bool,
     text: &mut String,
-) -> Result<&'a [u8], RefusedFiles> {
+) -> Result<&'a [u8], RefusedFiles>
+    ensures { IfOk result (λ rest. TakesFirst last script.now rest.now files.old files.new (string_bytes text.old) (string_bytes text.new)) }
+{
     let mut rest = script;
     for taken in 0..count {
         let Some((line, others)) = first_line(rest) else {
