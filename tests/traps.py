@@ -235,12 +235,14 @@ def test_an_interrupted_call_ends_the_store():
     blob, _ = store.open("p", b"b")
     answer = store._layer.apply
 
-    def interrupted(asked):
+    def interrupted(*_):
         if BY is Program:
             store._layer._lost = KeyboardInterrupt()
         raise KeyboardInterrupt
 
     store._layer.apply = interrupted
+    # A handle calls the library without the layer.
+    blob._ask = blob._ask and interrupted
     raises(KeyboardInterrupt, blob.sync)
     store._layer.apply = answer
     for call, *arguments in [(blob.sync,), (blob.read, 0, 0), (store.reopen,), (blob.close,)]:

@@ -3,11 +3,12 @@
 from __future__ import annotations
 
 from threading import get_ident
-from typing import TYPE_CHECKING, Any, Optional
+from typing import TYPE_CHECKING, Any, Dict, Optional, Tuple
 
 from .calls import Call, new
 from .errors import StaleHandle
 from .grammar import data_of, number
+from .layers import ASKED, NO_BYTES
 
 if TYPE_CHECKING:
     from .store import Store
@@ -32,9 +33,14 @@ class Blob:
         self.allow_stale = store._allow_stale
         # The record of the store.
         self._lines = store._lines
-        # The function by which the library writes, and its session, if no layer is between and the handle isn't stale.
+        # If no layer is between: the library's session, and its functions for writes and typed calls. A handle that is closed or stale
+        # has no functions, and its calls are made by the store.
         direct = store._direct
-        self._put, self._at = (None, None) if direct is None else (direct.untyped_write, direct.at)
+        self._put = self._ask = self._at = None
+        if direct is not None:
+            self._put, self._ask, self._at, self._kinds = direct.untyped_write, direct._apply, direct.at, direct._kinds
+        # Calls with no other number than the handle's, by their words: as the record has them, and as the library takes them.
+        self._known: Dict[str, Tuple[Call, bytes]] = {}
 
     def __enter__(self) -> Blob:
         return self
@@ -104,8 +110,8 @@ class Blob:
         self._store._call(self._store._write_call(self._handle, offset, data, sync))
 
     def _end(self, why: str = "") -> None:
-        """Takes that the handle is closed, or stale for this reason."""
-        self._put, self._stale = None, why or self._stale
+        """Notes that the handle is closed, or stale for this reason. The store makes its calls from then on."""
+        self._put, self._ask, self._stale = None, None, why or self._stale
 
     def resize(self, length: int) -> None:
         """Truncates or extends the blob to a logical length."""
@@ -119,12 +125,10 @@ class Blob:
     def sync(self) -> None:
         """Makes the handle's bytes durable."""
         self._call("sync")
-        self._store._unsynced.sync(self._of)
 
     def start_sync(self) -> int:
         """Starts a sync, and returns its number. `Store.finish` returns its outcome."""
         started: int = self._call("startsync")
-        self._store._unsynced.sync(self._of)
         return started
 
     def close(self) -> None:
@@ -132,14 +136,38 @@ class Blob:
         store = self._store
         store._check()
         if self._handle in store._opened or not self._stale:
-            store._call(new(Call, ("close", self._handle, None, None, "", None)))
+            self._call("close")
             store._closed_handle(self._handle)
 
     def _call(self, word: str, first: Optional[int] = None) -> Any:
-        """Makes a call of this handle, and returns what it does."""
-        if self._stale:
-            self._refuse_stale()
-        return self._store._call(new(Call, (word, self._handle, first, None, "", None)))
+        """Makes a call of this handle that has no bytes, and returns its value."""
+        store, ask = self._store, self._ask
+        if ask is None:
+            if self._stale and word != "close":
+                self._refuse_stale()
+            return store._call(new(Call, (word, self._handle, first, None, "", None)))
+        if store._owner != get_ident():
+            raise store._unusable()
+        known = self._known.get(word) if first is None else None
+        if known is None:
+            asked = new(Call, (word, self._handle, first, None, "", None))
+            packed = ASKED.pack(self._kinds[word], self._handle, first or 0, 0)
+            if first is None:
+                self._known[word] = asked, packed
+        else:
+            asked, packed = known
+        store._owner = None
+        try:
+            reply = ask(self._at, packed, b"", 0, b"", NO_BYTES)
+            status = reply.status
+        except BaseException as error:
+            store._ended(asked, error)
+            raise
+        if status:
+            store._refuse(asked, status)
+        self._lines.append(asked)
+        store._owner = store._thread
+        return reply.size if word == "size" else reply.number if word == "startsync" else None
 
     def _refuse_stale(self) -> None:
         if not self.allow_stale:
@@ -157,3 +185,12 @@ class FollowedBlob(Blob):
             super().write(offset, data, sync)
         if data and not sync:
             self._store._unsynced.write(self._of)
+
+    def sync(self) -> None:
+        super().sync()
+        self._store._unsynced.sync(self._of)
+
+    def start_sync(self) -> int:
+        started = super().start_sync()
+        self._store._unsynced.sync(self._of)
+        return started

@@ -9,6 +9,8 @@ from .shapes import SHAPES, value_of
 
 # Makes a tuple of a class with all of its fields, in a fraction of the time that a call of the class takes.
 new: Any = tuple.__new__
+# The kinds of a call's arguments in order, by its word.
+_TAKES = {word: shape.replace("[", "").replace("]", "").split() for word, shape in SHAPES.items()}
 # The rows of a crash: a write's number and a choice for each of its bytes, `1` if it is kept.
 Rows = List[Tuple[int, str]]
 
@@ -42,7 +44,7 @@ class Call(NamedTuple):
         """The line of the call. A partition that isn't a valid name is `!`, which is refused as that is."""
         numbers = iter((self.first, self.last))
         words = [self.word]
-        for kind in SHAPES[self.word].replace("[", "").replace("]", "").split():
+        for kind in _TAKES[self.word]:
             if kind in ("H", "NUMBER"):
                 words.append(str(self.number))
             elif kind == "P":
@@ -80,7 +82,7 @@ class Line(Call):
 def _fields(word: str, tokens: List[str]) -> Any:
     """The fields of a call by the tokens after its word."""
     fields: Any = {}
-    for kind, token in zip(SHAPES.get(word, "").replace("[", "").replace("]", "").split(), tokens):
+    for kind, token in zip(_TAKES.get(word, ()), tokens):
         if kind == "P":
             fields["partition"] = token
         elif kind in ("NAME", "HEX"):

@@ -16,7 +16,7 @@ from copy import copy
 from struct import Struct
 from typing import Any, Callable, Dict, List, Optional, Sequence, Tuple, Type, TypeVar, Union
 
-from .calls import Call, Line, Opened, Reply, made, new, rows_of
+from .calls import Call, Line, Opened, Reply, made, new, reply_of, rows_of
 from .checking import check as faults_of
 from .errors import BadLine, Interrupted, ProgramEnded
 from .foreign import (
@@ -42,13 +42,14 @@ from .power import InLibrary
 _Own = TypeVar("_Own", bound="InProcess")
 _LINE_FEED = 10
 # The numbers of a typed call: `blobcrash_asked` and `blobcrash_file_call`.
-_ASKED = Struct("@I4xQQQ")
+ASKED = Struct("@I4xQQQ")
 # How many bytes the first buffer for replies has.
 _ROOM = 4096
 # The least status of a call that was made and refused.
 _FIRST_REFUSAL = 16
 # Short lengths as arguments of an untyped function.
 _LENGTHS = [ctypes.c_size_t.from_param(length) for length in range(256)]
+NO_BYTES = _LENGTHS[0]
 # An untyped function takes numbers of this many bits as they are.
 INT_BITS = 31
 # `ctypes` takes a greater number modulo 2^64, without an error.
@@ -286,7 +287,7 @@ class InProcess(InLibrary):
             raise MemoryError
         else:
             last_one = ctypes.c_size_t(length)
-        return self._apply(self.at, _ASKED.pack(kind, number, first, last), one, size, other, last_one)
+        return self._apply(self.at, ASKED.pack(kind, number, first, last), one, size, other, last_one)
 
     def _check(self, status: int) -> None:
         if status == POWER_LOSS:
@@ -322,7 +323,8 @@ class Library(InProcess):
     """The layer in this process."""
 
     def __init__(self, preamble: bytes = b"") -> None:
-        self.untyped_read, self.untyped_write, self._reply = untyped("read"), untyped("write"), untyped("reply", False)
+        self.untyped_read, self.untyped_write = untyped("read"), untyped("write")
+        self._line, self._reply = untyped("call", False), untyped("reply", False)
         super().__init__(preamble)
 
     def fork(self) -> Library:
@@ -336,7 +338,9 @@ class Library(InProcess):
         line = data_of(line, "a line")
         if _LINE_FEED in line:
             raise _bad(line)
-        ran = self._call("call", line, len(line), self.room, len(self.room))
+        length, room, size = len(line), self.room, len(self.room)
+        is_long = (length | size) >> INT_BITS
+        ran = self._call("call", line, length, room, size) if is_long else self._line(self.at, line, length, room, size)
         if ran.status == BAD_LINE:
             raise _bad(line)
         return self._printed(ran)
@@ -394,19 +398,12 @@ class Library(InProcess):
         return new(Opened, (reply.number, reply.size, reply.version))
 
     def _names(self, reply: Any) -> Any:
-        return [self._name(index) for index in range(reply.size)]
+        # One call for all names.
+        return reply_of(self._last().decode().split(" "))
 
     def _rows(self, reply: Any) -> Any:
         # One call for all rows. By blobcrash_kept_run it would be one for each run of kept bytes.
         return rows_of(self._last().decode().split(" "))
-
-    def _name(self, index: int) -> bytes:
-        ran = self._call("name", index, self.room, len(self.room))
-        if ran.status == NO_ROOM:
-            self.room = ctypes.create_string_buffer(ran.len)
-            return self._name(index)
-        self._check(ran.status)
-        return bytes(self.room[: ran.len])
 
     def _has_grown(self, handle: int, offset: int, length: int) -> bool:
         """Grows the buffer for a read that ends within the blob. For any other length it doesn't allocate."""

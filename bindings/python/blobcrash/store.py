@@ -11,13 +11,15 @@ from .blob import Blob, FollowedBlob
 from .calls import Call, Line, Reply, Rows, new, reply_of
 from .errors import BadLine, NeedsSeed, refusal
 from .files import BlobFile
-from .grammar import data_of, image_line, is_call, number, setting_line, text_of, tokens_of, versions_of
+from .grammar import data_of, image_line, is_call, number, partition_word, setting_line, text_of, tokens_of, versions_of
 from .layers import INT_BITS, Library, default_way
 from .session import Session
 from .unkept import Unsynced
 
 Versions = Optional[Tuple[int, int]]
 _CRASH, _REOPEN = Call("crash"), Call("reopen")
+# Words of calls that open no handle, close none and make none stale. Outside a search, nothing is updated after their lines.
+_PLAIN = frozenset(("read", "write", "writes", "resize", "size", "sync", "startsync", "finish"))
 # The word after all that are pushed. It isn't zero, so that the library can tell how many words are left.
 _LAST_WORD = 1
 
@@ -131,8 +133,11 @@ class Store(Session):
             return []
         if getattr(self._layer, "ends_at_bad_line", False):
             tokens_of(line)
-        asked = Line.of(line)
+        is_plain = self._direct is not None and not self._is_search and line.lstrip(" ").partition(" ")[0] in _PLAIN
         try:
+            if is_plain:
+                return self._words_of(line)
+            asked = Line.of(line)
             words: List[str] = self._call(asked)
         except BadLine:
             # Raises with the reason.
@@ -140,6 +145,22 @@ class Store(Session):
             raise
         self._follow(asked, reply_of(words))
         return words
+
+    def _words_of(self, line: str, partition: str = "") -> List[str]:
+        """Makes the call of a line by the library, and returns the words of its reply. Handles aren't updated."""
+        if self._owner != get_ident():
+            raise self._unusable()
+        self._owner = None
+        try:
+            reply: str = self._direct.call(line.encode()).decode()
+        except BaseException as error:
+            self._ended(line, error)
+            raise
+        self._lines.append(line)
+        self._owner = self._thread
+        if reply.startswith("error "):
+            raise refusal(reply, partition)
+        return reply.split(" ")
 
     def _follow(self, asked: Call, reply: Any) -> None:
         """Takes a call by its line, that was made, and what it returned."""
@@ -184,7 +205,11 @@ class Store(Session):
 
     def scan(self, partition: str) -> List[bytes]:
         """Returns the names of a partition's blobs, sorted by their bytes."""
-        names: List[bytes] = self._call(Call("scan", partition=text_of(partition, "a partition")))
+        partition = text_of(partition, "a partition")
+        if self._direct is None:
+            names: List[bytes] = self._call(new(Call, ("scan", 0, None, None, partition, None)))
+        else:
+            names = reply_of(self._words_of(f"scan {partition_word(partition)}", partition))
         return names
 
     def crash(self) -> Rows:
