@@ -39,7 +39,7 @@ serve() {
         sleep 0.1
     done
 }
-serve "$work/ours" "$program" "$work/ours" --size 4G --allow-other --control "$work/socket" --foreground
+serve "$work/ours" "$top/tools/mount" "$work/ours" --size 4G --allow-other --control "$work/socket" --foreground
 ours=$!
 set -- "$plain/tmpfs" 0 "$work/ours" "$ours"
 if [ -f "$example" ]; then

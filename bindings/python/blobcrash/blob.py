@@ -3,7 +3,7 @@
 from __future__ import annotations
 
 from threading import get_ident
-from typing import TYPE_CHECKING, Any, Dict, Optional, Tuple
+from typing import TYPE_CHECKING, Any, Mapping, Optional, Tuple
 
 from .calls import Call, new
 from .errors import StaleHandle
@@ -24,23 +24,26 @@ class Blob:
     Each use but `close` then raises `StaleHandle`, unless `allow_stale` is set.
     """
 
+    _put: Any = None
+    _ask: Any = None
+    _stale = ""
+    # Calls with no other number than the handle's, by their words: as the record has them, and as the library takes them. It has none
+    # of its own until it has made one.
+    _known: Mapping[str, Tuple[Call, bytes]] = {}
+
     def __init__(self, store: Store, handle: int, version: int, partition: str, name: bytes) -> None:
         self._store = store
         self._handle = handle
         self._version = version
         self._of = (partition, name)
-        self._stale = ""
         self.allow_stale = store._allow_stale
         # The record of the store.
         self._lines = store._lines
         # If no layer is between: the library's session, and its functions for writes and typed calls. A handle that is closed or stale
         # has no functions, and its calls are made by the store.
         direct = store._direct
-        self._put = self._ask = self._at = None
         if direct is not None:
-            self._put, self._ask, self._at, self._kinds = direct.untyped_write, direct._apply, direct.at, direct._kinds
-        # Calls with no other number than the handle's, by their words: as the record has them, and as the library takes them.
-        self._known: Dict[str, Tuple[Call, bytes]] = {}
+            self._put, self._ask, self._at = direct.untyped_write, direct._apply, direct.at
 
     def __enter__(self) -> Blob:
         return self
@@ -134,10 +137,12 @@ class Blob:
     def close(self) -> None:
         """Closes the handle. A stale handle may be closed, and one that `restart` closed stays so."""
         store = self._store
-        store._check()
-        if self._handle in store._opened or not self._stale:
-            self._call("close")
-            store._closed_handle(self._handle)
+        if self._ask is None:
+            store._check()
+            if self._handle not in store._opened and self._stale:
+                return
+        self._call("close")
+        store._closed_handle(self._handle)
 
     def _call(self, word: str, first: Optional[int] = None) -> Any:
         """Makes a call of this handle that has no bytes, and returns its value."""
@@ -151,9 +156,9 @@ class Blob:
         known = self._known.get(word) if first is None else None
         if known is None:
             asked = new(Call, (word, self._handle, first, None, "", None))
-            packed = ASKED.pack(self._kinds[word], self._handle, first or 0, 0)
-            if first is None:
-                self._known[word] = asked, packed
+            packed = ASKED.pack(store._direct._kinds[word], self._handle, first or 0, 0)
+            if first is None and word != "close":
+                self._known = {**self._known, word: (asked, packed)}
         else:
             asked, packed = known
         store._owner = None

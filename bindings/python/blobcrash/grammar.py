@@ -59,7 +59,11 @@ def unhex(word: str) -> bytes:
 
 def partition_word(partition: str) -> str:
     """The token of a partition. For a text that is no partition name it is one that is refused as that name is."""
-    partition = text_of(partition, "a partition")
+    return _word_of(text_of(partition, "a partition"))
+
+
+@lru_cache(maxsize=256)
+def _word_of(partition: str) -> str:
     return partition if _NAME.fullmatch(partition) else _NO_NAME
 
 
@@ -91,6 +95,8 @@ def comment_lines(text: str) -> List[str]:
 
 def text_of(text: str, what: str) -> str:
     """An argument that is a `str`, without what a class of its own changes. Raises `TypeError`."""
+    if type(text) is str:
+        return text
     if not isinstance(text, str):
         raise TypeError(f"{what} is a str, not {type(text).__name__}")
     return str.__str__(text)

@@ -11,7 +11,7 @@ from .blob import Blob, FollowedBlob
 from .calls import Call, Line, Reply, Rows, new, reply_of
 from .errors import BadLine, NeedsSeed, refusal
 from .files import BlobFile
-from .grammar import data_of, image_line, is_call, number, partition_word, setting_line, text_of, tokens_of, versions_of
+from .grammar import data_of, image_line, is_call, number, partition_word, setting_line, text_of, tokens_of, unhex, versions_of
 from .layers import INT_BITS, Library, default_way
 from .session import Session
 from .unkept import Unsynced
@@ -209,7 +209,7 @@ class Store(Session):
         if self._direct is None:
             names: List[bytes] = self._call(new(Call, ("scan", 0, None, None, partition, None)))
         else:
-            names = reply_of(self._words_of(f"scan {partition_word(partition)}", partition))
+            names = [unhex(name) for name in self._words_of(f"scan {partition_word(partition)}", partition)[1:]]
         return names
 
     def crash(self) -> Rows:
@@ -270,8 +270,10 @@ class Store(Session):
         name, partition = data_of(name, "a name"), text_of(partition, "a partition")
         first, last = (None, None) if versions is None else versions_of(versions)
         handle, size, version = self._call(new(Call, (word, 0, first, last, partition, name)))
-        kind = FollowedBlob if self._is_search else Blob
-        blob = self._opened[handle] = kind(self, handle, version, partition, name)
+        if not self._is_search:
+            blob = self._opened[handle] = Blob(self, handle, version, partition, name)
+            return blob, size
+        blob = self._opened[handle] = FollowedBlob(self, handle, version, partition, name)
         self._unsynced.open(word, handle, blob._of)
         return blob, size
 

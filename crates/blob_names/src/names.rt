@@ -78,7 +78,9 @@ impl<V: Drop> Names<V> {
         self.add(partition, name, value)
     }
 
-    fn add(&mut self, partition: &str, name: &[u8], value: V) -> Result<(), AllocError>
+    /// Sets the value of a name that has none. `insert` first looks for one, and allocates only if there is none. The only
+    /// error is out of memory, and nothing changes then.
+    pub fn add(&mut self, partition: &str, name: &[u8], value: V) -> Result<(), AllocError>
         ensures ok { OnOk result (at self.new ≡ with_name (at self.old) partition.now name.now (Some value)) }
         ensures err { OnErr result (at self.new ≡ at self.old) }
     {

@@ -214,7 +214,7 @@ impl Opens {
         }
         let partition_copy = String::from_str(self.alloc, partition)?;
         let name_copy = Vec::from_slice(self.alloc, name)?;
-        self.names.insert(partition, name, self.next)?;
+        self.names.add(partition, name, self.next)?;
         Ok(Registration {
             partition: partition_copy,
             name: name_copy,

@@ -53,6 +53,10 @@ typed_act asked partition name = by_kind asked.kind (named_acts asked partition 
 abbrev pub IsNamed : ℕ → Type 0
 IsNamed kind = (kind ≡ OPEN) ⊎ (kind ≡ OPEN_LOOSE) ⊎ (kind ≡ ADMIT) ⊎ (kind ≡ REMOVE_BLOB) ⊎ (kind ≡ REMOVE_PARTITION) ⊎ (kind ≡ SCAN)
 
+-- one that opens a blob
+abbrev pub IsOpen : ℕ → Type 0
+IsOpen kind = (kind ≡ OPEN) ⊎ (kind ≡ OPEN_LOOSE)
+
 abbrev pub IsNoTypedCall : TypedCall → List ℕ → List ℕ → Type 0
 IsNoTypedCall asked partition name = (typed_act asked partition name ≡ None) ⊎ ¬ (IsUtf8 partition)
 

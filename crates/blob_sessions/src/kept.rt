@@ -1,6 +1,7 @@
 // A laboratory with what else its lines need.
 ghost use Rattle.std.specs.Prelude.{◌≡◌, true, Some, None, OnErr};
-ghost use Rattle.blob_script.specs.Acts.{act_of};
+ghost use Rattle.blob_script.specs.Acts.{Crash, act_of};
+ghost use Rattle.blob_lab_store.specs.LabStands.{Performs};
 ghost use Rattle.blob_script.specs.Lines.{Blank, line_of};
 ghost use Rattle.blob_script.specs.Readers.{IfCall, IfNoCall, SaysCall, config_of, has_begun};
 
@@ -35,6 +36,14 @@ pub struct Kept {
     ghost begun: { has_begun reader ≡ true },
 }
 
+/// Makes a crash. It isn't inlined, since a function clears its locals each time, and a call is large.
+#[inline(never)]
+fn crash(lab: &mut Lab) -> Reply
+    ensures { Performs lab.old Crash result lab.new }
+{
+    lab.apply(&Call::Crash)
+}
+
 impl Drop for Kept {
     fn drop(self) {
         let Kept {
@@ -53,7 +62,7 @@ impl Kept {
     ghost use Rattle.blob_sessions.specs.Applying.{Applies, HasSize};
     ghost use Rattle.blob_sessions.specs.Debts.{IsNew, MakesDebtCall};
     ghost use Rattle.blob_sessions.specs.Sessions.{RunsCall, RunsLine, AnswersRead, AnswersWrite, IsNoCall, Makes, TellsAgain};
-    ghost use Rattle.blob_sessions.specs.Typed.{IsNamed, last_reply};
+    ghost use Rattle.blob_sessions.specs.Typed.{IsNamed, IsOpen, last_reply};
     ghost use Rattle.blob_sessions.specs.Supplies.{after_last};
     ghost use Rattle.blob_sessions.specs.Words.{TakesWords, TellsWordsLeft};
     ghost use Rattle.blob_statuses.specs.Powers.{always_on};
@@ -154,7 +163,7 @@ impl Kept {
             SYNC => self.lab.sync(asked.number),
             START_SYNC => self.lab.start_sync(asked.number),
             FINISH => self.lab.finish(asked.number),
-            CRASH => self.lab.apply(&Call::Crash),
+            CRASH => crash(&mut self.lab),
             REOPEN => self.lab.reopen(),
             _ => return TypedReply::stopped(BAD_CALL),
         };
@@ -172,21 +181,32 @@ impl Kept {
         let Ok(partition) = std::str::from_utf8(partition) else {
             return TypedReply::stopped(BAD_CALL);
         };
+        if let OPEN | OPEN_LOOSE = asked.kind {
+            return self.apply_open(asked, partition, name);
+        }
         let reply = match asked.kind {
-            OPEN | OPEN_LOOSE => {
-                let Some(versions) = versions(asked) else {
-                    return TypedReply::stopped(BAD_CALL);
-                };
-                if asked.kind == OPEN {
-                    self.lab.open(partition, name, &versions)
-                } else {
-                    self.lab.open_loose(partition, name, &versions)
-                }
-            }
             ADMIT => self.lab.admit(partition, name),
             REMOVE_BLOB => self.lab.remove(partition, Some(name)),
             REMOVE_PARTITION => self.lab.remove(partition, None),
             _ => self.lab.scan(partition),
+        };
+        self.last = Some(reply);
+        self.last()
+    }
+
+    /// Makes a typed open, exclusive or not.
+    fn apply_open(&mut self, asked: &TypedCall, partition: &str, name: &[u8]) -> TypedReply
+        requires { IsOpen asked.now.kind }
+        ensures applies { Applies self.old self.new asked.now partition.now name.now result }
+        ensures power { self.new.power ≡ self.old.power }
+    {
+        let Some(versions) = versions(asked) else {
+            return TypedReply::stopped(BAD_CALL);
+        };
+        let reply = if asked.kind == OPEN {
+            self.lab.open(partition, name, &versions)
+        } else {
+            self.lab.open_loose(partition, name, &versions)
         };
         self.last = Some(reply);
         self.last()

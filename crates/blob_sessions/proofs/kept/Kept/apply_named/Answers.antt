@@ -1,6 +1,6 @@
 use Rattle.std.proofs.Common.{rules, refl}
-use Rattle.blob_sessions.proofs.TypedCalls.{applied, not_applied, same_kept, IsPerformed}
-use Rattle.blob_sessions.proofs.kept.Kept.apply_named.Goals.{in-2, in-9, in-10, in-0+in-Some+then-asked-eq-OPEN, in-0+in-Some+else-asked-eq-OPEN, in_default-kind}
+use Rattle.blob_sessions.proofs.TypedCalls.{applied, IsPerformed}
+use Rattle.blob_sessions.proofs.kept.Kept.apply_named.Goals.{in-2, in-9, in-10, in_default-kind-2}
 use Rattle.blob_sessions.proofs.kept.Kept.apply_named.Goals as goal
 
 pub returns-clause-applies : goal.returns-clause-applies
@@ -9,12 +9,7 @@ returns-clause-applies c =
       | in-2 w ↦ search rules
       | in-9 w ↦ search rules
       | in-10 w ↦ search rules
-      | in-0+in-Some+then-asked-eq-OPEN w ↦ search rules
-      | in-0+in-Some+else-asked-eq-OPEN w ↦ search rules
-      | in_default-kind w ↦ search rules
+      | in_default-kind-2 w ↦ search rules
     ] in
     applied c.args.self.now _ c.args.asked.now c.args.partition.now c.args.name.now performed.act c.match-asked.reply c.last.result performed.built
     (record { performs = performed.performs; last = refl; debts = refl }) refl c.last.ensures
-
-pub returns-in_default-versions-clause-applies : goal.returns-in_default-versions-clause-applies
-returns-in_default-versions-clause-applies c = not_applied c.args.self.now _ c.args.asked.now c.args.partition.now c.args.name.now _ (search rules) (same_kept c.args.self.now _) c.stopped-in_default-versions.ensures
