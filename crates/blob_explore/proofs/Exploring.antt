@@ -1,9 +1,9 @@
 -- The leaves that were visited, and their outcomes.
-use Rattle.std.proofs.Common.{◌≡◌, ◌<◌, ℕ, ◌+◌, ◌-◌, ◌^◌, Bool, true, List, [], ◌∷◌, ◌++◌, length, map, take, refl, sym, ap, ◌∙◌, subst, arith, append_assoc}
+use Rattle.std.proofs.Common.{◌≡◌, ◌≢◌, ◌↔◌, ◌<◌, ℕ, ◌+◌, ◌-◌, ◌^◌, Bool, true, false, List, [], ◌∷◌, ◌++◌, length, map, take, Option, Some, None, refl, sym, ap, ◌∙◌, subst, arith, append_assoc}
 use Rattle.std.specs.Prelude.{string_bytes}
 use Rattle.std.specs.List.{AllByRecursion}
 use Rattle.std.proofs.lemmas.List.{length-append, length-map, map-append}
-use Rattle.blob_tree.specs.Trees.{DecisionTree, leaves}
+use Rattle.blob_tree.specs.Trees.{Choice, DecisionTree, Leaf as leaf_only, left_after, left_from, leaves}
 use Rattle.blob_choices.specs.Decided.{Decides}
 use Rattle.blob_choices.specs.Explored.{LeavesHoldEveryRun, RunsAlong}
 use Rattle.blob_choices.specs.Outcomes.{SetNoPartialResize, acts_of, run_outcome}
@@ -12,7 +12,7 @@ use Rattle.blob_distinct.specs.Distinct.{LeafText, leaf_text}
 use Rattle.blob_distinct.specs.Explored.{Counts, HasCounted, outcomes_found}
 use Rattle.blob_distinct.specs.declared.explored.Explored.{Explored}
 use Rattle.blob_explore.specs.SharedCalls.{replies_of}
-use Rattle.blob_explore.specs.Explorations.{DecidesRun, IsBegun, Visits, VisitsNext, remaining_leaves, explored_script, start_of}
+use Rattle.blob_explore.specs.Explorations.{DecidesRun, IsBegun, Visits, VisitsNext, remaining_leaves, explored_script, path_of, start_of}
 use Rattle.blob_explore.specs.Outcomes.{Explores, Exploring, RunsAlongPath, Visited, path_to, replies_text, shown_leaf}
 use Rattle.blob_explore.specs.declared.exploration.Exploration.{Exploration}
 use Rattle.blob_explore.specs.declared.exploration.Leaf.{Leaf}
@@ -74,11 +74,33 @@ firsts X n xs ys all many whole = firsts_of xs ∙ ap (λ (k : ℕ). take k (xs 
     firsts_of [] = refl
     firsts_of (x ∷ xs) = ap (λ (zs : List X). x ∷ zs) (firsts_of xs)
 
+-- a leaf is left from each path on
+some_front : (o : Bool) (paths others : List (List Bool)) → 0 < length paths → 0 < length (map (λ path. o ∷ path) paths ++ others)
+some_front o (path ∷ paths) others some = grind arith
+some_front o [] others some = absurd (grind (arith, some))
+
+some_from : (t : DecisionTree) (path : List Bool) → 0 < length (left_from t path)
+some_from leaf_only path = omega arith
+some_from (Choice if_true if_false) [] = some_front true (left_from if_true []) (map (λ path. false ∷ path) (leaves if_false)) (some_from if_true [])
+some_from (Choice if_true if_false) (true ∷ path) = some_front true (left_from if_true path) (map (λ path. false ∷ path) (leaves if_false)) (some_from if_true path)
+some_from (Choice if_true if_false) (false ∷ path) =
+    let same : length (map (λ path. false ∷ path) (left_from if_false path)) ≡ length (left_from if_false path) = length-map (left_from if_false path) (λ path. false ∷ path) in
+    omega (arith, same, some_from if_false path)
+
+some_left : (t : DecisionTree) (path : Option (List Bool)) → path ≢ None → 0 < length (left_after t path)
+some_left t None is = absurd (is refl)
+some_left t (Some path) is = some_from t path
+
+-- exactly if no leaf is left, so many are all of them
+none_left : (is_complete : Bool) (visited rest all : ℕ) → visited + rest ≡ all → (is_complete ≡ true → rest ≡ 0) → (is_complete ≡ false → 0 < rest) → is_complete ≡ true ↔ visited ≡ all
+none_left true visited rest all sum none some = (λ _. omega (arith, sum, none refl), λ _. refl)
+none_left false visited rest all sum none some = (λ e. cc, λ same. absurd (omega (arith, sum, same, some refl)))
+
 -- what was found at the end
 pub found_all : RunsAreDecided → LeavesHoldEveryRun → (script : Script) (begun e : Exploration) (last is_complete : Bool) (found : Explored)
     → explored_script begun ≡ script → IsBegun begun → Found begun last e found
-    → (is_complete ≡ true → (t : DecisionTree) → remaining_leaves e t ≡ []) → SetNoPartialResize (acts_of script.calls.items) → Explores script last is_complete found.leaves (outcomes_found found)
-found_all decided hold script begun e last is_complete found same b so_far end none =
+    → (is_complete ≡ true → (t : DecisionTree) → remaining_leaves e t ≡ []) → (is_complete ≡ false → path_of e ≢ None) → SetNoPartialResize (acts_of script.calls.items) → Explores script last is_complete found.leaves (outcomes_found found)
+found_all decided hold script begun e last is_complete found same b so_far end on none =
     let (t, D) = decided (start_of script) (acts_of script.calls.items) tt none in
     let S : Script → Type 0 = λ s. Decides (run_outcome (start_of s) (acts_of s.calls.items)) t in
     let E : Script → Type 0 = λ s. Exploring s last e found t in
@@ -94,6 +116,7 @@ found_all decided hold script begun e last is_complete found same b so_far end n
       paths = firsts (List Bool) found.leaves paths (remaining_leaves e t) (leaves t) many exploring.paths;
       replies = exploring.replies;
       most = omega (arith, size, many);
-      complete = λ is. omega (arith, size, many, ap length (end is t));
+      complete = none_left is_complete found.leaves (length (remaining_leaves e t)) (length (leaves t)) (ap (λ (n : ℕ). n + length (remaining_leaves e t)) (sym many) ∙ size)
+          (λ is. ap length (end is t)) (λ is. some_left t (path_of e) (on is));
       outcomes = exploring.counted.outcomes;
     }

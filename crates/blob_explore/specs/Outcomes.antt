@@ -1,5 +1,5 @@
 -- What an exploration has found.
-use Rattle.std.specs.Prelude.{◌≡◌, ◌≤◌, ◌-◌, ℕ, Bool, true, false, List, ◌∷◌, [], ◌++◌, length, map, take, drop, if◌then◌else◌}
+use Rattle.std.specs.Prelude.{◌≡◌, ◌↔◌, ◌≤◌, ◌-◌, ℕ, Bool, true, false, List, ◌∷◌, [], ◌++◌, length, map, take, drop, if◌then◌else◌}
 use Rattle.std.specs.List.{AllByRecursion, flat_map}
 use Rattle.blob_script.specs.declared.reply.Reply.{Reply}
 use Rattle.blob_script.specs.Replies.{reply_line}
@@ -43,7 +43,7 @@ RunsAlongPath script leaf = RunsAlong (start_of script) script.calls.items leaf.
 abbrev pub shown_leaf : Bool → Visited → LeafText
 shown_leaf last leaf = record { words = words_of leaf.path; text = replies_text last leaf.replies }
 
--- An exploration has visited the first leaves of the decision tree of the script's runs, all of them if it is
+-- An exploration has visited the first leaves of the decision tree of the script's runs, all of them exactly if it is
 -- complete. The outcomes are those of these leaves: each with the number of leaves that have it and the words of the
 -- first of them.
 pub record Explores (script : Script) (last is_complete : Bool) (count : ℕ) (found : List Distinct) : Type 0 where
@@ -55,7 +55,7 @@ pub record Explores (script : Script) (last is_complete : Bool) (count : ℕ) (f
   pub paths : map path_to visited ≡ take count (leaves tree)
   pub replies : AllByRecursion (RunsAlongPath script) visited
   pub most : count ≤ length (leaves tree)
-  pub complete : is_complete ≡ true → count ≡ length (leaves tree)
+  pub complete : is_complete ≡ true ↔ count ≡ length (leaves tree)
   pub outcomes : found ≡ outcomes_of (map (shown_leaf last) visited)
 
 -- the result of an exploration, if no call sets a rate of partial resizes

@@ -1,15 +1,29 @@
 -- One more line of a script, and the text before that of a run.
-use Rattle.std.proofs.Common.{◌≡◌, ℕ, Bool, true, false, if◌then◌else◌, List, [], ◌∷◌, ◌++◌, Option, Some, None, refl, sym, ap, ◌∙◌, subst, append_assoc, append-nil}
+use Rattle.std.proofs.Common.{◌≡◌, ℕ, Bool, true, false, if◌then◌else◌, List, [], ◌∷◌, ◌++◌, Option, Some, None, refl, sym, ap, ◌∙◌, subst, append_assoc, append-nil, codes}
 use Rattle.blob_script.specs.Scripts.{lines_of}
+use Rattle.blob_fs.specs.Files.{KeepsNames}
+use Rattle.blob_file_sessions.specs.Held.{fs_of}
 use Rattle.blob_file_sessions.specs.declared.kept.KeptFiles.{KeptFiles}
 use Rattle.blob_file_scripts.specs.Answers.{Answers}
-use Rattle.blob_file_scripts.specs.CallLines.{Said}
-use Rattle.blob_file_scripts.specs.Takes.{DoesLine, TakesFirst, TakesLine, TakesLines, with_reply}
+use Rattle.blob_file_scripts.specs.CallLines.{Said, said_of}
+use Rattle.blob_file_scripts.specs.Takes.{DoesLine, DoesNoCall, DoesSaid, TakesFirst, TakesLine, TakesLines, is_blank, with_reply}
 
 -- a line says a call, which was made
-pub call_made : (read : Option (Option Said)) (said : Said) (k k' : KeptFiles) (old new : List ℕ) → read ≡ Some (Some said) → old ≡ [] → Answers said k k' old new → DoesLine read k k' (Some new)
-call_made read said k k' old new is none answers =
-    subst (λ (r : Option (Option Said)). DoesLine r k k' (Some new)) (sym is) (subst (λ (t : List ℕ). Answers said k k' t new) none answers)
+pub call_made : (tokens : List (List ℕ)) (said : Said) (k k' : KeptFiles) (old new : List ℕ) → said_of tokens ≡ Some (Some said) → old ≡ [] → Answers said k k' old new
+    → DoesLine tokens k k' (Some new)
+call_made tokens said k k' old new is none answers =
+    subst (λ (r : Option (Option Said)). DoesSaid r (is_blank tokens) k k' (Some new)) (sym is) (subst (λ (t : List ℕ). Answers said k k' t new) none answers)
+
+-- a line is blank
+pub nothing_done : (tokens : List (List ℕ)) (k : KeptFiles) → said_of tokens ≡ Some None → is_blank tokens ≡ true → DoesLine tokens k k None
+nothing_done tokens k is blank =
+    subst (λ (r : Option (Option Said)). DoesSaid r (is_blank tokens) k k None) (sym is) (subst (λ (b : Bool). DoesNoCall b k k None) (sym blank) (refl, refl))
+
+-- a line is a setting, which was made
+pub setting_made : (tokens : List (List ℕ)) (k k' : KeptFiles) (reply : List ℕ) → said_of tokens ≡ Some None → is_blank tokens ≡ false → reply ≡ codes "ok" → KeepsNames (fs_of k) (fs_of k')
+    → DoesLine tokens k k' (Some reply)
+setting_made tokens k k' reply is blank ok keeps =
+    subst (λ (r : Option (Option Said)). DoesSaid r (is_blank tokens) k k' (Some reply)) (sym is) (subst (λ (b : Bool). DoesNoCall b k k' (Some reply)) (sym blank) (ap Some ok, keeps))
 
 takes_more : (last : Bool) (lines : List (List ℕ)) (line : List ℕ) (k mid k' : KeptFiles) (old text new : List ℕ)
     → TakesLines last lines k mid old text → TakesLine last line mid k' text new → TakesLines last (lines ++ line ∷ []) k k' old new

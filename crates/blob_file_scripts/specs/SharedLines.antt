@@ -1,5 +1,5 @@
--- The first lines of a script of files, which are taken once for all runs.
-use Rattle.std.specs.Prelude.{◌≡◌, ◌<◌, ◌+◌, ◌-◌, ℕ, Bool, true, List, [], length, map, if◌then◌else◌, Option, None, string_bytes}
+-- The first lines of a script of files. They are taken once, and each run begins with a fork of the files after them.
+use Rattle.std.specs.Prelude.{◌≡◌, ◌↔◌, ◌≤◌, ◌<◌, ◌+◌, ◌-◌, ℕ, Bool, true, List, [], length, map, if◌then◌else◌, Option, None, string_bytes}
 use Rattle.blob_directory.specs.Names.{Same}
 use Rattle.blob_tree.specs.Trees.{extend_path, words_of}
 use Rattle.blob_tree.specs.WordsLeft.{EndsAfter}
@@ -24,14 +24,15 @@ pub record IsShared (script : List ℕ) (last : Bool) (shared : Shared) : Type 0
   pub still : HasOneWord shared.files
   pub first : TakesFirst last script shared.rest.now begun shared.files [] (string_bytes shared.text)
 
--- the text that each outcome begins with, and what the text of a run is before its own lines
+-- The text that each outcome begins with; and the text that a run has before it takes its own lines. If only the last reply is printed, an
+-- outcome begins with no text, and a run that has no reply of its own has the last of the first lines.
 abbrev pub front_of : Shared → Bool → List ℕ
 front_of shared last = if last then [] else string_bytes shared.text
 
 abbrev pub text_before : Shared → Bool → List ℕ
 text_before shared last = if last then string_bytes shared.text else []
 
--- a fork with these words took the other lines, which gives this text and leaves this number of words
+-- A fork whose generator gives these words took the other lines. It has this text then, and so many words are left.
 pub record Ran (shared : Shared) (last : Bool) (words : List ℕ) (text : List ℕ) (left : ℕ) : Type 0 where
   pub fork : KeptFiles
   pub end : KeptFiles
@@ -39,18 +40,19 @@ pub record Ran (shared : Shared) (last : Bool) (words : List ℕ) (text : List �
   pub others : TakesLines last (lines_of shared.rest.now) fork end (text_before shared last) text
   pub ends : EndsAfter (scripted_stream (generator_of (fs_of end))) left
 
--- the run along a path, whose leaf has the words of the path
+-- The run along a path. It took at least the words of the path, and the leaf has the words that it took.
 pub record Follows (shared : Shared) (last : Bool) (given : List Bool) (leaf : Leaf) : Type 0 where
   pub spare : ℕ
   pub left : ℕ
   pub ran : Ran shared last (sentinel_words given spare) (string_bytes leaf.text) left
   pub some : 0 < left
+  pub follows : left ≤ spare + 1
   pub words_are : leaf.words.items ≡ words_of (extend_path (length given + spare + 1 - left) given)
 
--- the leaves that were counted
+-- the leaves that were visited and counted
 pub record HasFound (script : List ℕ) (last : Bool) (found : Explored) : Type 0 where
   pub visited : List Visited
   pub next : Option (List Bool)
   pub has : HasVisited script last visited next
   pub counted : HasCounted found (map shown visited)
-  pub all : found.is_complete ≡ true → next ≡ None
+  pub all : found.is_complete ≡ true ↔ next ≡ None

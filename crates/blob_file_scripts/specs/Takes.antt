@@ -1,5 +1,6 @@
--- What is done for the lines of a script by files that have begun, and what is printed.
-use Rattle.std.specs.Prelude.{◌≡◌, ℕ, Bool, List, [], ◌∷◌, ◌++◌, if◌then◌else◌, codes, take, MatchOption, Option, Some, None}
+-- What files do for the lines of a script, and what is printed.
+use Rattle.std.specs.Prelude.{◌≡◌, ◌==◌, ℕ, Bool, true, false, List, [], ◌∷◌, ◌++◌, if◌then◌else◌, codes, slice_index, take, MatchOption, Option, Some, None}
+use Rattle.std.specs.Str.{byte}
 use Rattle.std.specs.Str.Pattern.{FindsText}
 use Rattle.blob_tokens.specs.Tokens.{tokens}
 use Rattle.blob_script.specs.Scripts.{lines_of}
@@ -13,13 +14,26 @@ use Rattle.blob_file_scripts.specs.CallLines.{Said, said_of}
 abbrev pub IsCodeOf : List ℕ → List ℕ → Type 0
 IsCodeOf line code = (found : Option (ℕ × ℕ)) × FindsText (codes " #") line found × MatchOption found (code ≡ line) (λ at. code ≡ take at.0 line)
 
--- A call was made, by which this reply is printed; or a setting, which changes no name. A line that is neither changes nothing.
-abbrev pub DoesLine : Option (Option Said) → KeptFiles → KeptFiles → Option (List ℕ) → Type 0
-DoesLine None k k' reply = ⊥
-DoesLine (Some (Some said)) k k' None = ⊥
-DoesLine (Some (Some said)) k k' (Some reply) = Answers said k k' [] reply
-DoesLine (Some None) k k' None = k' ≡ k
-DoesLine (Some None) k k' (Some reply) = (reply ≡ codes "ok") × KeepsNames (fs_of k) (fs_of k')
+-- an empty line or a comment: no token, or a number sign at the start of the first one
+abbrev pub is_blank : List (List ℕ) → Bool
+is_blank [] = true
+is_blank (word ∷ tokens) = slice_index word 0 == byte "#"
+
+-- A line without a call: if it is blank, it changes nothing and has no reply. Otherwise it is a setting, which changes no name.
+abbrev pub DoesNoCall : Bool → KeptFiles → KeptFiles → Option (List ℕ) → Type 0
+DoesNoCall true k k' reply = (reply ≡ None) × (k' ≡ k)
+DoesNoCall false k k' reply = (reply ≡ Some (codes "ok")) × KeepsNames (fs_of k) (fs_of k')
+
+-- a call was made, and this reply to it is printed; or there was none
+abbrev pub DoesSaid : Option (Option Said) → Bool → KeptFiles → KeptFiles → Option (List ℕ) → Type 0
+DoesSaid None blank k k' reply = ⊥
+DoesSaid (Some (Some said)) blank k k' None = ⊥
+DoesSaid (Some (Some said)) blank k k' (Some reply) = Answers said k k' [] reply
+DoesSaid (Some None) blank k k' reply = DoesNoCall blank k k' reply
+
+-- the same by the tokens of a line
+abbrev pub DoesLine : List (List ℕ) → KeptFiles → KeptFiles → Option (List ℕ) → Type 0
+DoesLine tokens k k' reply = DoesSaid (said_of tokens) (is_blank tokens) k k' reply
 
 -- a reply is added to the text as a line; if only the last one is printed, it replaces the text
 abbrev pub with_reply : Bool → List ℕ → Option (List ℕ) → List ℕ
@@ -31,7 +45,7 @@ pub record TakesLine (last : Bool) (line : List ℕ) (k k' : KeptFiles) (old new
   pub code : List ℕ
   pub is : IsCodeOf line code
   pub reply : Option (List ℕ)
-  pub does : DoesLine (said_of (tokens code)) k k' reply
+  pub does : DoesLine (tokens code) k k' reply
   pub prints : new ≡ with_reply last old reply
 
 -- lines were taken, in order

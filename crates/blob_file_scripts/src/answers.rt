@@ -44,7 +44,8 @@ fn last_opened(files: &KeptFiles) -> Option<Descriptor>
 
 /// Makes a call, and appends its reply.
 fn make(files: &mut KeptFiles, call: &Call<'_>, line: &mut String) -> Result<(), AllocError>
-    ensures { OnOk result (Shows (act_of call.now) files.old files.new (string_bytes line.old) (string_bytes line.new)) }
+    ensures { OnOk result (Shows (act_of call.now)
+        files.old files.new (string_bytes line.old) (string_bytes line.new)) }
 {
     files.make(call);
     print_last(files, line)
@@ -85,7 +86,8 @@ fn on_open(
     call: OnFile<'_>,
     line: &mut String,
 ) -> Result<(), AllocError>
-    ensures { OnOk result (OnOpen (file_act call.entry file) files.old files.new (string_bytes line.old) (string_bytes line.new)) }
+    ensures { OnOk result (OnOpen (file_act call.entry file)
+        files.old files.new (string_bytes line.old) (string_bytes line.new)) }
 {
     match call {
         OnFile::Read { offset, len } => read(alloc, files, file, offset, len, line),
@@ -101,7 +103,8 @@ fn on_path(
     call: OnFile<'_>,
     line: &mut String,
 ) -> Result<(), AllocError>
-    ensures { OnOk result (OnPath path.now (file_act call.entry) files.old files.new (string_bytes line.old) (string_bytes line.new)) }
+    ensures { OnOk result (OnPath path.now (file_act call.entry)
+        files.old files.new (string_bytes line.old) (string_bytes line.new)) }
 {
     files.make(&Call::ByPath(PathCall::Open(path)));
     let Some(file) = last_opened(files) else {
@@ -119,7 +122,8 @@ pub fn answer(
     call: &Line<'_>,
     line: &mut String,
 ) -> Result<(), AllocError>
-    ensures { OnOk result (Answers (said_by call.now) files.old files.new (string_bytes line.old) (string_bytes line.new)) }
+    ensures { OnOk result (Answers (said_by call.now)
+        files.old files.new (string_bytes line.old) (string_bytes line.new)) }
 {
     match *call {
         Line::Call(call) => make(files, &call, line),

@@ -58,7 +58,11 @@ fn visit(
     Err(RefusedFiles::NoMemory)
 }
 
-/// The same with `spare` zeros. Returns `None` if these weren't enough.
+/// Takes them with `spare` zeros after the words of the path. Returns `None` if the run took all of these words, so that it may have
+/// needed more.
+///
+/// A run takes at least the words of its path, since the runs before it drew them. If a call was refused memory, it may take fewer: that
+/// is `NoMemory`.
 fn visit_within(
     alloc: Global,
     shared: &Shared<'_>,
@@ -74,11 +78,14 @@ fn visit_within(
     if left == 0 {
         return Ok(None);
     }
+    if left - 1 > spare {
+        return Err(RefusedFiles::NoMemory);
+    }
     let words = words_taken(explorer, given.saturating_sub(left))?;
     Ok(Some(Leaf { words, text }))
 }
 
-/// Returns the text that each outcome begins with: none if an outcome is the last reply.
+/// Returns the text that each outcome begins with: the replies to the shared lines, or none if only the last reply is printed.
 fn print_shared(alloc: Global, shared: &Shared<'_>, last: bool) -> Result<String, AllocError>
     ensures { IfOk result (λ text. string_bytes text ≡ front_of shared.now last) }
 {

@@ -2,7 +2,7 @@
 ghost use Rattle.std.specs.Prelude.{◌≡◌, Err, IfOk, None, Some, option_map};
 ghost use Rattle.blob_tokens.specs.Tokens.{tokens};
 ghost use Rattle.blob_file_scripts.specs.CallLines.{said_by, said_of};
-ghost use Rattle.blob_file_scripts.specs.Takes.{IsCodeOf};
+ghost use Rattle.blob_file_scripts.specs.Takes.{IsCodeOf, is_blank};
 
 use crate::call::{Line, read_call};
 use blob_tokens::RefusedLine;
@@ -16,6 +16,16 @@ pub fn without_comment(line: &str) -> &str
     match line.split_once(" #") {
         Some((before, _)) => before,
         None => line,
+    }
+}
+
+/// Whether a line has no token, or is a comment: its first token begins with a number sign.
+pub fn is_blank(line: &str) -> bool
+    ensures { result ≡ is_blank (tokens line.now) }
+{
+    match Tokens::new(line).next() {
+        None => true,
+        Some(word) => word.starts_with('#'),
     }
 }
 

@@ -59,7 +59,8 @@ fn print_refusal(error: &FsError, line: &mut String) -> Result<(), AllocError>
 }
 
 fn print_binding(binding: &Binding, size: u64, line: &mut String) -> Result<(), AllocError>
-    ensures { OnOk result (string_bytes line.new ≡ string_bytes line.old ++ found_line binding.now.kind binding.now.inode size) }
+    ensures { OnOk result (string_bytes line.new
+        ≡ string_bytes line.old ++ found_line binding.now.kind binding.now.inode size) }
 {
     let inode = binding.inode;
     match binding.kind {

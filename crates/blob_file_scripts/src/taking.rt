@@ -1,20 +1,20 @@
 // Taking the lines of a script by files that have begun.
 ghost use Rattle.std.specs.Prelude.{◌≡◌, IfOk, OnOk, Some, option_map, string_bytes};
 ghost use Rattle.blob_tokens.specs.Tokens.{tokens};
-ghost use Rattle.blob_file_scripts.specs.CallLines.{said_of};
 ghost use Rattle.blob_file_scripts.specs.Takes.{DoesLine, TakesFirst, TakesLine, with_reply};
 
 use crate::answers::answer;
 use crate::explored::RefusedFiles;
-use crate::line::{read_line, without_comment};
+use crate::line::{is_blank, read_line, without_comment};
 use crate::scripts::Stop;
 use blob_file_sessions::KeptFiles;
 use blob_lab::first_line;
 use std::alloc::{AllocError, Global};
 
-/// Makes the call or the setting of a line without a comment. Returns its reply, if it has one.
+/// Makes the call or the setting of a line without a comment at its end. Returns the reply to it; a blank line has none.
 fn reply_to(alloc: Global, files: &mut KeptFiles, line: &str) -> Result<Option<String>, Stop>
-    ensures { IfOk result (λ reply. DoesLine (said_of (tokens line.now)) files.old files.new (option_map string_bytes reply)) }
+    ensures { IfOk result (λ reply.
+        DoesLine (tokens line.now) files.old files.new (option_map string_bytes reply)) }
 {
     let mut reply = String::new(alloc);
     let mut first = Vec::new(alloc);
@@ -25,8 +25,11 @@ fn reply_to(alloc: Global, files: &mut KeptFiles, line: &str) -> Result<Option<S
             Ok(Some(reply))
         }
         None => {
-            if !files.read_setting(line.as_bytes())? {
+            if is_blank(line) {
                 return Ok(None);
+            }
+            if !files.read_setting(line.as_bytes())? {
+                return Err(Stop::BadCall);
             }
             reply.push_str("ok")?;
             Ok(Some(reply))
@@ -36,7 +39,8 @@ fn reply_to(alloc: Global, files: &mut KeptFiles, line: &str) -> Result<Option<S
 
 /// Appends a reply with a line feed; with `last` it replaces the text.
 fn add_reply(reply: &str, last: bool, text: &mut String) -> Result<(), AllocError>
-    ensures { OnOk result (string_bytes text.new ≡ with_reply last (string_bytes text.old) (Some reply.now)) }
+    ensures { OnOk result (
+        string_bytes text.new ≡ with_reply last (string_bytes text.old) (Some reply.now)) }
 {
     if last {
         text.clear();
@@ -53,7 +57,8 @@ fn take_line(
     last: bool,
     text: &mut String,
 ) -> Result<(), Stop>
-    ensures { OnOk result (TakesLine last line.now files.old files.new (string_bytes text.old) (string_bytes text.new)) }
+    ensures { OnOk result (TakesLine last line.now
+        files.old files.new (string_bytes text.old) (string_bytes text.new)) }
 {
     let Ok(line) = std::str::from_utf8(line) else {
         return Err(Stop::BadCall);
@@ -84,7 +89,8 @@ fn take_numbered(
     last: bool,
     text: &mut String,
 ) -> Result<(), RefusedFiles>
-    ensures { OnOk result (TakesLine last line.now files.old files.new (string_bytes text.old) (string_bytes text.new)) }
+    ensures { OnOk result (TakesLine last line.now
+        files.old files.new (string_bytes text.old) (string_bytes text.new)) }
 {
     if is_generator(line) {
         return Err(RefusedFiles::BadLine(number));
@@ -110,7 +116,8 @@ pub(crate) fn take_first<'a>(
     last: bool,
     text: &mut String,
 ) -> Result<&'a [u8], RefusedFiles>
-    ensures { IfOk result (λ rest. TakesFirst last script.now rest.now files.old files.new (string_bytes text.old) (string_bytes text.new)) }
+    ensures { IfOk result (λ rest. TakesFirst last script.now rest.now
+        files.old files.new (string_bytes text.old) (string_bytes text.new)) }
 {
     let mut rest = script;
     for taken in 0..count {

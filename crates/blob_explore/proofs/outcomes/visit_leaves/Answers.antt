@@ -1,5 +1,5 @@
 use Rattle.std.proofs.Common.{rules, arith, ◌≡◌, ◌<◌, ◌^◌, ◌-◌, ◌++◌, Option, None, IfSome, refl, true, string_bytes, ap, sym, ◌∙◌, subst}
-use Rattle.std.proofs.lemmas.Bool.{OnTrue_at}
+use Rattle.std.proofs.lemmas.Bool.{OnFalse_at, OnTrue_at}
 use Rattle.blob_tree.specs.Trees.{left_after}
 use Rattle.blob_explore.specs.Explorations.{VisitsNext, explored_script, path_of}
 use Rattle.blob_explore.specs.Outcomes.{replies_text, shared_text}
@@ -14,7 +14,7 @@ returns-in_default-clause-leaves c begun none =
     let e = c.visits.exploration in
     let ended : path_of e ≡ None = search rules in
     found_all c.outcomes.ensures.run c.every_run.ensures (explored_script first) first e c.args.last true
-    c.visits.found refl begun c.visits.invariant.visited (λ _ t. ap (left_after t) ended) none
+    c.visits.found refl begun c.visits.invariant.visited (λ _ t. ap (left_after t) ended) (λ e. absurd (cc)) none
 
 pub visits-preserved : goal.visits-preserved
 visits-preserved c =
@@ -46,4 +46,4 @@ pub returns-clause-leaves : goal.returns-clause-leaves
 returns-clause-leaves c begun none =
     let first = c.args.exploration.now in
     found_all c.outcomes.ensures.run c.every_run.ensures (explored_script first) first c.visits.exploration c.args.last c.is_done.result
-    c.visits.found refl begun c.visits.invariant.visited (λ is. OnTrue_at is c.is_done.ensures.done) none
+    c.visits.found refl begun c.visits.invariant.visited (λ is. OnTrue_at is c.is_done.ensures.done) (λ is. OnFalse_at is c.is_done.ensures.more) none

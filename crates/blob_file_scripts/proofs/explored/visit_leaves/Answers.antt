@@ -1,5 +1,5 @@
 use Rattle.std.proofs.Common.{arith, rules, ◌≡◌, ◌<◌, ◌-◌, ◌^◌, ◌∙◌, length, false}
-use Rattle.blob_file_scripts.proofs.Exploring.{found_all, found_more}
+use Rattle.blob_file_scripts.proofs.Exploring.{found_all, found_more, start_of}
 use Rattle.blob_file_scripts.proofs.explored.visit_leaves.Goals as goal
 
 pub visits-preserved : goal.visits-preserved
@@ -22,4 +22,4 @@ visits-preserved c =
     }
 
 pub returns-clause-found : goal.returns-clause-found
-returns-clause-found c = λ script is. found_all script c.args.last c.visits.found c.visits.explorer (c.visits.invariant.found script is)
+returns-clause-found c = λ script is. found_all script c.args.last (start_of script c.args.last c.args.shared.now is) c.visits.found c.visits.explorer (c.visits.invariant.found script is)

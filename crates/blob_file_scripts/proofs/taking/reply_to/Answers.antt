@@ -9,4 +9,4 @@ returns-in-Some c =
     let said = said_by c.in-Some.call in
     let is : said_of (tokens c.args.line.now) ≡ Some (Some said) = search rules in
     let none : string_bytes c.new-reply.result ≡ [] = search rules in
-    call_made (said_of (tokens c.args.line.now)) said c.args.files.now c.answer.new.files (string_bytes c.new-reply.result) (string_bytes c.answer.new.line) is none c.in_ok-answer-in-Some.ensures
+    call_made (tokens c.args.line.now) said c.args.files.now c.answer.new.files (string_bytes c.new-reply.result) (string_bytes c.answer.new.line) is none c.in_ok-answer-in-Some.ensures
