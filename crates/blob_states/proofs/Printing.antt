@@ -1,9 +1,11 @@
 -- The crashes that were printed.
-use Rattle.std.proofs.Common.{◌≡◌, ℕ, true, zero, suc, ◌+◌, ◌++◌, List, [], ◌∷◌, fold, length, Option, Some, None, refl, sym, ap, ◌∙◌, arith, append-nil}
+use Rattle.std.proofs.Common.{◌≡◌, ℕ, true, zero, suc, ◌+◌, ◌-◌, ◌++◌, List, [], ◌∷◌, fold, length, Option, Some, None, refl, sym, ap, ◌∙◌, arith, append-nil}
 use Rattle.std.specs.List.{flat_map}
 use Rattle.std.proofs.lemmas.List.{map-append}
 use Rattle.std.proofs.lemmas.List.Concat.{flat_map-append}
-use Rattle.blob_states.specs.Printed.{HasFewerCalls, HasNoStates, IsCrashOf, Point, PrintsCrashes, calls_from, calls_of, point_text, total_of, with_point}
+use Rattle.blob_states.specs.Printed.{HasFewerCalls, HasNoStates, IsCrashOf, Point, PrintsCrashes, PrintsStates, calls_from, calls_of, point_text, total_line, total_of, with_point}
+use Rattle.blob_states.specs.Streams.{IsPrinting}
+use Rattle.blob_states.specs.declared.print.StatesText.{StatesText}
 use Rattle.blob_states.specs.declared.print.Total.{Total}
 use Rattle.blob_states.specs.declared.recorded.Recorded.{Recorded}
 use Rattle.blob_states.specs.declared.script.RefusedScript.{RefusedScript}
@@ -43,6 +45,19 @@ one_printed run limit first count count' text text' total total' point before at
   prints = prints ∙ ap (λ (bytes : List ℕ). bytes ++ point_text point) before.prints ∙ ap (λ (bytes : List ℕ). flat_map point_text before.points ++ bytes) (sym (append-nil (point_text point)))
       ∙ sym (flat_map-append point_text before.points (point ∷ []));
   total_is = counts ∙ ap (λ (t : Total). with_point t point) before.total_is ∙ sym (total_more before.points point);
+}
+
+-- the line after the last crash
+pub last_printed : (script : List ℕ) (at : Option ℕ) (limit : ℕ) (s : StatesText) (before : List ℕ) → IsPrinting script at limit s before → s.calls - s.first ≡ s.end - s.first
+    → PrintsStates script at limit (before ++ total_line s.total)
+last_printed script at limit s before p ended = record {
+  run = s.run;
+  is = p.is;
+  points = p.printed.points;
+  calls = p.printed.calls ∙ ap (calls_from s.first) ended ∙ p.range.points;
+  each = p.printed.each;
+  prints = ap (λ (bytes : List ℕ). bytes ++ total_line s.total) p.printed.prints
+      ∙ ap (λ (total : Total). flat_map point_text p.printed.points ++ total_line total) p.printed.total_is;
 }
 
 -- a script that has too few calls

@@ -3,3 +3,4 @@ pub mod Crashed
 pub mod CrashStates
 pub mod ScriptTexts
 pub mod Printed
+pub mod Streams

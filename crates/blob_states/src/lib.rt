@@ -3,14 +3,14 @@
 
 mod images;
 mod names;
-mod print;
+pub mod print;
 pub mod recorded;
 mod replay;
 pub mod script;
 pub mod states;
 mod visit;
 
-pub use print::states_text;
+pub use print::StatesText;
 pub use recorded::Recorded;
 pub use script::{RefusedScript, read_script};
 pub use states::{CrashStates, crash_states};

@@ -1,10 +1,10 @@
 // The states of a recorded run, as lines.
-ghost use Rattle.std.specs.Prelude.{◌≡◌, ◌<◌, ◌≤◌, ◌+◌, ◌-◌, [], IfOk, IfErr, IfSome, OnOk, length, string_bytes};
+ghost use Rattle.std.specs.Prelude.{◌≡◌, ◌<◌, ◌≤◌, ◌+◌, [], true, IfOk, IfErr, IfSome, OnOk, length};
 ghost use Rattle.blob_lab_store.specs.LabStands.{LabStandsFor};
 ghost use Rattle.blob_distinct.specs.Printed.{Appends};
-ghost use Rattle.blob_states.specs.Printed.{HasFewerCalls, HasNoStates, IsCrashRange, PrintsCrashes, PrintsStates};
+ghost use Rattle.blob_states.specs.Printed.{HasFewerCalls, HasNoStates, IsCrashRange};
 ghost use Rattle.blob_states.specs.Printed.{call_text, counted, point_of, point_text, state_text, total_line, total_of, with_point, words_text};
-ghost use Rattle.blob_states.specs.Recorded.{state_after};
+ghost use Rattle.blob_states.specs.Recorded.{HaveNames, names_of, state_after};
 ghost use Rattle.blob_distinct.specs.Found.{left_by};
 
 use crate::names::names_until;
@@ -18,77 +18,115 @@ use blob_distinct::words::{noun, print_words};
 use blob_lab_store::Lab;
 use std::alloc::{AllocError, Global};
 
-/// Prints the states that crashes leave of the run of a script: of a crash before its first call and after each call, or only of
-/// that after call `at`. Tries at most `limit` outcomes of each crash. The calls are made once.
-pub fn states_text(
-    alloc: Global,
-    text: &[u8],
-    at: Option<u64>,
-    limit: u64,
-) -> Result<String, RefusedScript>
-    ensures text { IfOk result (λ printed. PrintsStates text.now at limit (string_bytes printed)) }
-    ensures refused { IfErr result (HasNoStates text.now at) }
-{
-    let run = read_script(alloc, text)?;
-    let (first, end) = crash_range(&run, at)?;
-    let mut printed = String::new(alloc);
-    let Ok(total) = print_crashes(alloc, &run, first, end, limit, &mut printed) else {
-        return Err(RefusedScript::NoMemory);
-    };
-    print_total(total, &mut printed)?;
-    Ok(printed)
+/// What is printed of the states of a script's crashes, a crash at a time: of a crash before the first call and after each call, or only
+/// after one of them. Each call is made once. It can't be dropped: call `end`.
+pub struct StatesText {
+    pub(crate) run: Recorded,
+    /// The first calls were made in it, as many as `calls`.
+    pub(crate) lab: Lab,
+    /// The names that may have a file in it.
+    pub(crate) names: Vec<(String, Vec<u8>)>,
+    pub(crate) first: usize,
+    /// After how many calls the next crash is.
+    pub(crate) calls: usize,
+    pub(crate) end: usize,
+    pub(crate) limit: u64,
+    pub(crate) total: Total,
+    ghost begun: { first ≤ calls },
+    ghost more: { calls ≤ end },
+    ghost within: { end ≤ length run.calls.items + 1 },
 }
 
-/// Prints the states of the crashes after `first` calls and more, before `end`. Returns their counts.
-///
-/// The only error is `Memory`, also if a call was refused it or the counts don't fit.
-fn print_crashes(
-    alloc: Global,
-    run: &Recorded,
-    first: usize,
-    end: usize,
-    limit: u64,
-    printed: &mut String,
-) -> Result<Total, Error>
-    requires some { first < end }
-    requires within { end ≤ length run.now.calls.items + 1 }
-    requires empty { string_bytes printed.old ≡ [] }
-    ensures { IfOk result (PrintsCrashes run.now limit first (end - first) (string_bytes printed.new)) }
-{
-    let mut lab = replayed(alloc, run, first)?;
-    let total = print_along(alloc, run, &mut lab, first, end, limit, printed);
-    lab.end();
-    total
-}
+impl StatesText {
+    ghost use Rattle.blob_states.specs.Streams.{GoesOn, IsPrinting, crashes_left};
 
-/// The same with a laboratory in which the first calls were made. It makes the others.
-fn print_along(
-    alloc: Global,
-    run: &Recorded,
-    lab: &mut Lab,
-    first: usize,
-    end: usize,
-    limit: u64,
-    printed: &mut String,
-) -> Result<Total, Error>
-    requires stands { LabStandsFor lab.old (state_after run.now first) }
-    requires some { first < end }
-    requires within { end ≤ length run.now.calls.items + 1 }
-    requires empty { string_bytes printed.old ≡ [] }
-    ensures { IfOk result (PrintsCrashes run.now limit first (end - first) (string_bytes printed.new)) }
-{
-    let mut names = names_until(alloc, run, first)?;
-    let mut total = Total::new();
-    'points: for calls in first..end {
-        let found = crash_states(alloc, lab, &names, limit)?;
-        print_states(calls, &found, printed)?;
-        let Some(more) = total.with(&found) else {
+    /// Reads a script, and makes its calls before the first crash. At most `limit` outcomes of each crash will be tried. The errors are
+    /// those of the script, `FewCalls` if it has fewer than `at` calls, and `NoMemory`.
+    pub fn new(
+        alloc: Global,
+        text: &[u8],
+        at: Option<u64>,
+        limit: u64,
+    ) -> Result<StatesText, RefusedScript>
+        ensures begun { IfOk result (λ states. IsPrinting text.now at limit states []) }
+        ensures refused { IfErr result (HasNoStates text.now at) }
+    {
+        let run = read_script(alloc, text)?;
+        let (first, end) = crash_range(&run, at)?;
+        match begin(alloc, &run, first) {
+            Ok((lab, names)) => Ok(StatesText {
+                run,
+                lab,
+                names,
+                first,
+                calls: first,
+                end,
+                limit,
+                total: Total::new(),
+            }),
+            Err(_) => Err(RefusedScript::NoMemory),
+        }
+    }
+
+    /// Appends the states that the next crash leaves or, after the last crash, the line with the counts. Returns whether that line is
+    /// still to come.
+    ///
+    /// The only error is `Memory`, also if a call was refused it or the counts don't fit. Part of what is printed may be lost then.
+    pub fn print_next(&mut self, alloc: Global, printed: &mut String) -> Result<bool, Error>
+        ensures goes_on { IfOk result (λ more. GoesOn self.old self.new more printed.old printed.new) }
+        ensures fewer { IfOk result (λ more. more ≡ true → crashes_left self.new < crashes_left self.old) }
+    {
+        if self.calls >= self.end {
+            print_total(self.total, printed)?;
+            return Ok(false);
+        }
+        let found = crash_states(alloc, &self.lab, &self.names, self.limit)?;
+        print_states(self.calls, &found, printed)?;
+        let Some(total) = self.total.with(&found) else {
             return Err(Error::Memory(AllocError));
         };
-        total = more;
-        go_on(run, calls, end, lab, &mut names)?;
+        go_on(
+            &self.run,
+            self.calls,
+            self.end,
+            &mut self.lab,
+            &mut self.names,
+        )?;
+        self.total = total;
+        self.calls += 1;
+        Ok(true)
     }
-    Ok(total)
+
+    /// Ends the laboratory.
+    pub fn end(self) {
+        let StatesText {
+            run: _,
+            lab,
+            names: _,
+            first: _,
+            calls: _,
+            end: _,
+            limit: _,
+            total: _,
+        } = self;
+        lab.end();
+    }
+}
+
+/// Returns a laboratory in which the first calls were made, and the names that may have a file in it. The only error is `Memory`, also
+/// if a call was refused it.
+fn begin(
+    alloc: Global,
+    run: &Recorded,
+    count: usize,
+) -> Result<(Lab, Vec<(String, Vec<u8>)>), Error>
+    requires { count ≤ length run.now.calls.items }
+    ensures stands { IfOk result (λ begun. LabStandsFor begun.0 (state_after run.now count)) }
+    ensures names { IfOk result (λ begun. HaveNames (names_of begun.1.items) run.now count) }
+{
+    let names = names_until(alloc, run, count)?;
+    let lab = replayed(alloc, run, count)?;
+    Ok((lab, names))
 }
 
 /// Returns the first number of calls after which there is a crash, and the number after the last.
@@ -115,7 +153,7 @@ fn crash_range(run: &Recorded, at: Option<u64>) -> Result<(usize, usize), Refuse
 
 /// The counts of the crashes so far, and whether all their outcomes were tried.
 #[derive(Clone, Copy)]
-struct Total {
+pub(crate) struct Total {
     crashes: u64,
     outcomes: u64,
     states: u64,

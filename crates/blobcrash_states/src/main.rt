@@ -3,7 +3,7 @@
 
 use blob_lab::script::token::number;
 use blob_lab::{Ending, streams};
-use blob_states::{RefusedScript, states_text};
+use blob_states::{RefusedScript, StatesText};
 use std::env;
 use std::io::{BufReader, ErrorKind};
 use std::process::ExitCode;
@@ -124,9 +124,27 @@ fn states_of_input<T: AllocGlobal + Input + Print>(rt: &T, at: Option<u64>, limi
         Ok(text) => text,
         Err(ending) => return Exit::Run(ending),
     };
-    match states_text(rt.alloc(), text.as_slice(), at, limit) {
-        Ok(printed) => Exit::Run(print_text(rt, printed.as_str())),
-        Err(refused) => Exit::Refused(refused),
+    let mut states = match StatesText::new(rt.alloc(), text.as_slice(), at, limit) {
+        Ok(states) => states,
+        Err(refused) => return Exit::Refused(refused),
+    };
+    let exit = print_states(rt, &mut states);
+    states.end();
+    exit
+}
+
+/// Prints the states of each crash as soon as they are found, so that memory doesn't grow with the text.
+fn print_states<T: AllocGlobal + Print>(rt: &T, states: &mut StatesText) -> Exit {
+    let mut printed = String::new(rt.alloc());
+    'crashes: loop {
+        printed.clear();
+        let Ok(more) = states.print_next(rt.alloc(), &mut printed) else {
+            return Exit::Refused(RefusedScript::NoMemory);
+        };
+        match print_text(rt, printed.as_str()) {
+            Ending::Done if more => {}
+            ending => return Exit::Run(ending),
+        }
     }
 }
 

@@ -1,0 +1,5 @@
+use Rattle.blob_states.specs.Streams.{crashes_left}
+use Rattle.blobcrash_states.proofs.print_states.Given as goal
+
+abbrev pub decreases-crashes : goal.decreases-crashes
+decreases-crashes l = crashes_left l.states
