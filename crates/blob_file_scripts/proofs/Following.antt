@@ -2,7 +2,7 @@
 use Rattle.std.proofs.Common.{◌≡◌, ℕ, suc, Bool, true, false, List, [], ◌∷◌, ◌++◌, map, refl, sym, ap, ◌∙◌, subst, append_assoc, append-nil}
 use Rattle.std.proofs.lemmas.List.{map-append}
 use Rattle.blob_tree.specs.Trees.{Choice, DecisionTree, Leaf, leaves}
-use Rattle.blob_file_scripts.specs.DrawSequences.{BeginsWith, BeginsWithNone, BeginsWithOne}
+use Rattle.blob_file_scripts.specs.DrawSequences.{BeginsWithNone, BeginsWithOne}
 
 abbrev rest_of : (ℕ → Bool) → ℕ → Bool
 rest_of draws i = draws (suc i)
