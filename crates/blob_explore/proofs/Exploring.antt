@@ -91,7 +91,7 @@ some_left : (t : DecisionTree) (path : Option (List Bool)) → path ≢ None →
 some_left t None is = absurd (is refl)
 some_left t (Some path) is = some_from t path
 
--- exactly if no leaf is left, so many are all of them
+-- the visited leaves are all of them exactly if no leaf is left
 none_left : (is_complete : Bool) (visited rest all : ℕ) → visited + rest ≡ all → (is_complete ≡ true → rest ≡ 0) → (is_complete ≡ false → 0 < rest) → is_complete ≡ true ↔ visited ≡ all
 none_left true visited rest all sum none some = (λ _. omega (arith, sum, none refl), λ _. refl)
 none_left false visited rest all sum none some = (λ e. cc, λ same. absurd (omega (arith, sum, same, some refl)))

@@ -179,7 +179,7 @@ goes_on first (leaf ∷ visited) next order all =
           right (goes_on (next_path leaf.path) visited next order.1 all.1),
     )
 
--- a tree of at most so many draws along each path, with a leaf at the end of each of these paths
+-- a tree of at most this number of draws along each path, with a leaf at the end of each of these paths
 abbrev grown : ℕ → (List Bool → Bool) → DecisionTree
 grown zero ends = Leaf
 grown (suc n) ends = if ends [] then Leaf else Choice (grown n (λ path. ends (true ∷ path))) (grown n (λ path. ends (false ∷ path)))

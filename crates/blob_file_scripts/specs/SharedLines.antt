@@ -32,7 +32,7 @@ front_of shared last = if last then [] else string_bytes shared.text
 abbrev pub text_before : Shared → Bool → List ℕ
 text_before shared last = if last then string_bytes shared.text else []
 
--- A fork whose generator gives these words took the other lines. It has this text then, and so many words are left.
+-- A fork with a generator of these words took the other lines. That gave this text, and left this number of words.
 pub record Ran (shared : Shared) (last : Bool) (words : List ℕ) (text : List ℕ) (left : ℕ) : Type 0 where
   pub fork : KeptFiles
   pub end : KeptFiles
