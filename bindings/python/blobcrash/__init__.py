@@ -43,9 +43,10 @@ from .files import BlobFile
 from .follow import ExploredFiles, ExploredStore, NotDeterministic
 from .foreign import TOP, is_proved, library
 from .judging import acknowledgement, judge
-from .layers import Library, Program, program
+from .layers import Library
 from .open_file import OpenFile
 from .patching import patched
+from .pipe import Program, program
 from .power import PowerLoss
 from .progress import counted
 from .results import Explored, Seeded

@@ -9,7 +9,8 @@ from .errors import BadLine
 from .file_calls import FileCall, Found, Kept, refusal_of
 from .foreign import BAD_LINE, W_FILE_KINDS
 from .foreign_files import Refusal
-from .layers import InProcess, Library, Program
+from .layers import InProcess, Library
+from .pipe import Program
 
 # A read of more bytes asks for the size first, so that no more are allocated than the file has.
 _MOST_BLIND = 65536

@@ -98,7 +98,6 @@ _OF_SESSIONS = {
     "call": (Ran, *_bytes, _room, _size),
     "reply": (Ran, _room, _size),
     "apply": (TypedReply, _asked, *_bytes, *_bytes),
-    "name": (Ran, _size, _room, _size),
     "durable_blob": (Ran, *_bytes, *_bytes, ctypes.c_bool, _room, _size),
     "write": (_status, _size, _number, *_bytes, ctypes.c_bool),
     "read": (_status, _size, _number, _room, _size),

@@ -19,7 +19,8 @@ from .checking import check
 from .errors import BadLine
 from .foreign import is_loaded, library
 from .grammar import LAST_VERSION, MAX, hex_of, unhex
-from .layers import Library, Program
+from .layers import Library
+from .pipe import Program
 from .shapes import value_of
 
 Name = Tuple[str, str]

@@ -22,7 +22,8 @@ from .crash_outcomes import CrashOutcomes, Forward, shown_words
 from .file_system import Files
 from .generator import words_of
 from .grammar import MAX, hex_of, unhex
-from .layers import Library, program
+from .layers import Library
+from .pipe import program
 from .recorded import split_script
 from .replayed import Content, NotMadeAgain, ReplayedFiles, ReplayedStore
 from .store import Store

@@ -9,7 +9,7 @@ from typing import Callable, Optional
 
 from .errors import BadLine, LibraryMissing
 from .foreign import BAD_LINE, NO_ROOM, TOP, check, function
-from .layers import bad_at
+from .bad_lines import bad_at
 
 
 def explain(script: str) -> Optional[str]:
