@@ -103,6 +103,8 @@ class CrashOutcomes:
     def __init__(self, run: Forward, limit: Optional[int]) -> None:
         self._run, self._limit = run, limit
         self._taken = run.taken
+        # The lines of the calls and of the crash, as a script has them.
+        self._calls: Optional[str] = None
         self._room = _ROOM
         # The draws of each outcome that was made, by those up to the last one that lost. A draw that decides nothing keeps.
         self._known: Dict[Words, Words] = {}
@@ -156,8 +158,10 @@ class CrashOutcomes:
     def script(self, words: Sequence[int]) -> str:
         """The script of the calls, and of a crash by these words."""
         all_words = [*self._taken, *words]
-        given = [f"words {shown_words(all_words)}"] if all_words else []
-        return "".join(f"{line}\n" for line in [*self._run.images, *given, *self._run.lines[: self._run.line], "crash"])
+        given = f"words {shown_words(all_words)}\n" if all_words else ""
+        if self._calls is None:
+            self._calls = "".join(f"{line}\n" for line in [*self._run.lines[: self._run.line], "crash"])
+        return "".join(f"{line}\n" for line in self._run.images) + given + self._calls
 
     def _learn(self, kept: Words) -> None:
         """Finds out which draws of files decide nothing, if there are some and each is of a whole write."""

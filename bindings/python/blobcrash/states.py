@@ -15,8 +15,9 @@ from __future__ import annotations
 import os
 import subprocess
 import time
+from bisect import bisect_left
 from itertools import chain, islice
-from typing import Any, Dict, Iterator, List, NamedTuple, Optional, Set, Tuple
+from typing import Any, Dict, Iterator, List, NamedTuple, Optional, Tuple
 
 from .crash_outcomes import CrashOutcomes, Forward, shown_words
 from .file_system import Files
@@ -25,6 +26,7 @@ from .grammar import MAX, hex_of, unhex
 from .layers import Library, program
 from .recorded import split_script
 from .replayed import Content, NotMadeAgain, ReplayedFiles, ReplayedStore
+from .seen_contents import SeenContents
 from .store import Store
 
 # How many words a script and a crash are given at first.
@@ -132,7 +134,9 @@ class CrashStates:
         self.crashes = self.outcomes = self.states = 0
         self.complete, self._began = True, time.monotonic()
         words = self._recorded_words()
-        seen: Set[Any] = set()
+        seen = SeenContents()
+        noted = [(number, text[len(_ACKNOWLEDGED) :]) for number, text in enumerate(self._lines, 1) if text.startswith(_ACKNOWLEDGED)]
+        acknowledged: Tuple[str, ...] = ()
         places = self._places()
         self.places = len(places)
         run = self._forward(words)
@@ -143,14 +147,16 @@ class CrashStates:
                     return
                 self.crashes += 1
                 run.go_to(line)
-                acknowledged = tuple(text[len(_ACKNOWLEDGED) :] for text in self._lines[:line] if text.startswith(_ACKNOWLEDGED))
+                count = bisect_left(noted, (line + 1, ""))
+                if count > len(acknowledged):
+                    acknowledged = tuple(text for _, text in noted[:count])
                 crash, before = CrashOutcomes(run, self._limit), self.outcomes
                 for script, content in self._printed(crash, line) if self._is_proved else iter(crash):
                     if self._is_at_limit():
                         break
                     self.outcomes += 1
-                    if (content, acknowledged) not in seen:
-                        seen.add((content, acknowledged))
+                    # Acknowledgements are the same if they are as many.
+                    if seen.add(content, count):
                         self.states += 1
                         yield CrashState(line, script, acknowledged, content, self._is_files)
                 if not self._is_proved:
