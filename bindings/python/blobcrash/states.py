@@ -151,14 +151,14 @@ class CrashStates:
                 if count > len(acknowledged):
                     acknowledged = tuple(text for _, text in noted[:count])
                 crash, before = CrashOutcomes(run, self._limit), self.outcomes
-                for script, content in self._printed(crash, line) if self._is_proved else iter(crash):
+                for taken, content in self._printed(line) if self._is_proved else crash.by_words():
                     if self._is_at_limit():
                         break
                     self.outcomes += 1
                     # Acknowledgements are the same if they are as many.
                     if seen.add(content, count):
                         self.states += 1
-                        yield CrashState(line, script, acknowledged, content, self._is_files)
+                        yield CrashState(line, crash.script(taken), acknowledged, content, self._is_files)
                 if not self._is_proved:
                     self.outcomes = before + crash.leaves
                     self.complete = self.complete and crash.is_complete
@@ -194,8 +194,8 @@ class CrashStates:
             raise ValueError(f"there is no crash after line {self._at}: there are crashes after the lines {shown}")
         return [self._at]
 
-    def _printed(self, crash: CrashOutcomes, line: int) -> Iterator[Tuple[str, Content]]:
-        """The script and the content of each state that the program prints. It counts the other outcomes."""
+    def _printed(self, line: int) -> Iterator[Tuple[Words, Content]]:
+        """The words and the content of each state that the program prints. It counts the other outcomes."""
         parts = self._parts
         given = [f"words {shown_words(parts.words)}"] if parts.words else []
         seed = [] if parts.seed is None else [f"seed {parts.seed}"]
@@ -218,7 +218,7 @@ class CrashStates:
         if not counts.endswith(" states, all of them") and not counts.endswith(" state, all of them"):
             self.complete = False
         for taken, blobs in states:
-            yield crash.script(taken), tuple(sorted(blobs))
+            yield tuple(taken), tuple(sorted(blobs))
         self.outcomes += int(counts.split()[3]) - len(states)
 
     def _recorded_words(self) -> List[int]:
