@@ -103,6 +103,8 @@ class CrashOutcomes:
     def __init__(self, run: Forward, limit: Optional[int]) -> None:
         self._run, self._limit = run, limit
         self._taken = run.taken
+        # The lines of the calls and of the crash, as a script has them.
+        self._calls: Optional[str] = None
         self._room = _ROOM
         # The draws of each outcome that was made, by those up to the last one that lost. A draw that decides nothing keeps.
         self._known: Dict[Words, Words] = {}
@@ -122,6 +124,10 @@ class CrashOutcomes:
 
     def __iter__(self) -> Iterator[Tuple[str, Content]]:
         """Yields the script and what is left: first those that lose least and most, then depth first."""
+        return ((self.script(words), content) for words, content in self.by_words())
+
+    def by_words(self) -> Iterator[Tuple[Words, Content]]:
+        """The same with the words of the crash in place of the script, which is long if the run is."""
         kept = yield from self._new((), 0)
         self._run.learned.see_rows(self._rows)
         self._learn(kept)
@@ -132,7 +138,7 @@ class CrashOutcomes:
             kept = yield from self._new((), 0)
             yield from self._others(kept)
 
-    def _others(self, kept: Words) -> Iterator[Tuple[str, Content]]:
+    def _others(self, kept: Words) -> Iterator[Tuple[Words, Content]]:
         """Yields what the outcomes leave that don't keep all."""
         yield from self._extremes(kept)
         along: Optional[Words] = None if self._is_refuted else self._next(self._known[()])
@@ -147,7 +153,7 @@ class CrashOutcomes:
 
     def all_lost(self) -> Iterator[Tuple[str, Content]]:
         """Yields the outcome that loses all."""
-        yield from self._new((), MAX)
+        return ((self.script(words), content) for words, content in self._new((), MAX))
 
     def close(self) -> None:
         """Ends the run."""
@@ -156,8 +162,10 @@ class CrashOutcomes:
     def script(self, words: Sequence[int]) -> str:
         """The script of the calls, and of a crash by these words."""
         all_words = [*self._taken, *words]
-        given = [f"words {shown_words(all_words)}"] if all_words else []
-        return "".join(f"{line}\n" for line in [*self._run.images, *given, *self._run.lines[: self._run.line], "crash"])
+        given = f"words {shown_words(all_words)}\n" if all_words else ""
+        if self._calls is None:
+            self._calls = "\n".join([*self._run.lines[: self._run.line], "crash", ""])
+        return "".join(f"{line}\n" for line in self._run.images) + given + self._calls
 
     def _learn(self, kept: Words) -> None:
         """Finds out which draws of files decide nothing, if there are some and each is of a whole write."""
@@ -167,7 +175,7 @@ class CrashOutcomes:
         if found is not None:
             self._draws, self._spans, self._made = found
 
-    def _extremes(self, kept: Words) -> Iterator[Tuple[str, Content]]:
+    def _extremes(self, kept: Words) -> Iterator[Tuple[Words, Content]]:
         """Each single loss, all lost, and each single draw kept."""
         losses: Optional[List[Left]] = None if self._draws else []
         for at in range(len(kept)):
@@ -198,7 +206,7 @@ class CrashOutcomes:
         taken = left.taken if self._is_refuted else self._first(left.taken)
         if _stem(taken) not in self._known:
             self._known[_stem(taken)] = taken
-            yield self.script(left.taken), left.content
+            yield left.taken, left.content
         return taken
 
     def _crash(self, path: Words, rest: int) -> Left:

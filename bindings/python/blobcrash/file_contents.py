@@ -124,7 +124,7 @@ class Draws:
     def agrees(self, taken: Sequence[int], rows: Sequence[Row], parts: Mapping[int, Optional[Part]]) -> bool:
         """Whether a crash that took these words kept and left what is expected."""
         lost = tuple(int(word > 0) for word in taken)
-        is_as_drawn = len(lost) == len(rows) and not any(row.kept.strip("10"[bit]) for row, bit in zip(rows, lost))
+        is_as_drawn = len(lost) == len(rows) and all(row.kept == "10"[bit] * len(row.kept) for row, bit in zip(rows, lost))
         return is_as_drawn and all(parts.get(inode) == contents.part(self._of(inode, lost)) for inode, contents in self._contents.items())
 
     def _of(self, inode: int, lost: Lost) -> Lost:

@@ -15,8 +15,9 @@ from __future__ import annotations
 import os
 import subprocess
 import time
+from bisect import bisect_left
 from itertools import chain, islice
-from typing import Any, Dict, Iterator, List, NamedTuple, Optional, Set, Tuple
+from typing import Any, Dict, Iterator, List, NamedTuple, Optional, Tuple
 
 from .crash_outcomes import CrashOutcomes, Forward, shown_words
 from .file_system import Files
@@ -26,6 +27,7 @@ from .layers import Library
 from .pipe import program
 from .recorded import split_script
 from .replayed import Content, NotMadeAgain, ReplayedFiles, ReplayedStore
+from .seen_contents import SeenContents
 from .store import Store
 
 # How many words a script and a crash are given at first.
@@ -133,7 +135,9 @@ class CrashStates:
         self.crashes = self.outcomes = self.states = 0
         self.complete, self._began = True, time.monotonic()
         words = self._recorded_words()
-        seen: Set[Any] = set()
+        seen = SeenContents()
+        noted = [(number, text[len(_ACKNOWLEDGED) :]) for number, text in enumerate(self._lines, 1) if text.startswith(_ACKNOWLEDGED)]
+        acknowledged: Tuple[str, ...] = ()
         places = self._places()
         self.places = len(places)
         run = self._forward(words)
@@ -144,16 +148,18 @@ class CrashStates:
                     return
                 self.crashes += 1
                 run.go_to(line)
-                acknowledged = tuple(text[len(_ACKNOWLEDGED) :] for text in self._lines[:line] if text.startswith(_ACKNOWLEDGED))
+                count = bisect_left(noted, (line + 1, ""))
+                if count > len(acknowledged):
+                    acknowledged = tuple(text for _, text in noted[:count])
                 crash, before = CrashOutcomes(run, self._limit), self.outcomes
-                for script, content in self._printed(crash, line) if self._is_proved else iter(crash):
+                for taken, content in self._printed(line) if self._is_proved else crash.by_words():
                     if self._is_at_limit():
                         break
                     self.outcomes += 1
-                    if (content, acknowledged) not in seen:
-                        seen.add((content, acknowledged))
+                    # Acknowledgements are the same if they are as many.
+                    if seen.add(content, count):
                         self.states += 1
-                        yield CrashState(line, script, acknowledged, content, self._is_files)
+                        yield CrashState(line, crash.script(taken), acknowledged, content, self._is_files)
                 if not self._is_proved:
                     self.outcomes = before + crash.leaves
                     self.complete = self.complete and crash.is_complete
@@ -189,8 +195,8 @@ class CrashStates:
             raise ValueError(f"there is no crash after line {self._at}: there are crashes after the lines {shown}")
         return [self._at]
 
-    def _printed(self, crash: CrashOutcomes, line: int) -> Iterator[Tuple[str, Content]]:
-        """The script and the content of each state that the program prints. It counts the other outcomes."""
+    def _printed(self, line: int) -> Iterator[Tuple[Words, Content]]:
+        """The words and the content of each state that the program prints. It counts the other outcomes."""
         parts = self._parts
         given = [f"words {shown_words(parts.words)}"] if parts.words else []
         seed = [] if parts.seed is None else [f"seed {parts.seed}"]
@@ -213,7 +219,7 @@ class CrashStates:
         if not counts.endswith(" states, all of them") and not counts.endswith(" state, all of them"):
             self.complete = False
         for taken, blobs in states:
-            yield crash.script(taken), tuple(sorted(blobs))
+            yield tuple(taken), tuple(sorted(blobs))
         self.outcomes += int(counts.split()[3]) - len(states)
 
     def _recorded_words(self) -> List[int]:
