@@ -4,7 +4,7 @@ from __future__ import annotations
 
 from typing import Any, Dict, Set, Tuple
 
-# Bytes of a blob or a file are compared by pieces of so many.
+# Bytes of a blob or a file are compared in pieces of this length.
 _PIECE = 1 << 14
 
 

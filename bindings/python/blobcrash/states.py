@@ -156,7 +156,7 @@ class CrashStates:
                     if self._is_at_limit():
                         break
                     self.outcomes += 1
-                    # Acknowledgements are the same if they are as many.
+                    # The acknowledgements are the same if their number is.
                     if seen.add(content, count):
                         self.states += 1
                         yield CrashState(line, crash.script(taken), acknowledged, content, self._is_files)
